@@ -33,6 +33,21 @@ pub fn is_folder<R: Files>(rt: &R, path: &str) -> Result<bool, Damage> {
     }
 }
 
+/// Whether there is a file of this name, where a symbolic link is followed.
+///
+/// # Errors
+///
+/// `Memory`.
+pub fn is_file<R: Files>(rt: &R, path: &str) -> Result<bool, Damage> {
+    match fs::metadata(rt, path) {
+        Ok(about) => Ok(about.is_file()),
+        Err(error) => match error.kind() {
+            ErrorKind::OutOfMemory => Err(Damage::Memory),
+            _ => Ok(false),
+        },
+    }
+}
+
 /// What there is of a name.
 #[derive(Clone, Copy, PartialEq, Eq, Debug)]
 pub enum Entry {

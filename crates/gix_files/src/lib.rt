@@ -8,7 +8,7 @@ mod folders;
 
 pub use damage::Damage;
 use damage::absent;
-pub use folders::{Entry, entry_of, is_folder, is_there, link_text, names, real_folder};
+pub use folders::{Entry, entry_of, is_file, is_folder, is_there, link_text, names, real_folder};
 use std::fs::{self, Files};
 use std::io::ErrorKind;
 use std::os::unix::fs::FileExt;

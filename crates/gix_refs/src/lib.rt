@@ -18,3 +18,6 @@ pub use formats::{Settings, settings_of};
 pub use names::{is_name_of_any_level, is_ref_name};
 pub use packed::{PackedRef, PackedRefs, packed_refs};
 pub use single::{Ref, common_dir, git_file, is_head, read_ref};
+
+#[cfg(test)]
+mod tests;

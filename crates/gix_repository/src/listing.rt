@@ -3,7 +3,7 @@ use crate::Repository;
 use crate::fault::{Damage, Fault, fault_of};
 use crate::finding::{MOST_NAME, MOST_READS, Packed, Target, is_of_worktree};
 use crate::folders::joined;
-use gix_files::{Entry, entry_of, is_folder, names, real_folder};
+use gix_files::{Entry, entry_of, is_file, is_folder, names, real_folder};
 use gix_hash::ObjectId;
 use gix_refs::{is_name_of_any_level, packed_refs};
 use std::alloc::Global;
@@ -290,14 +290,19 @@ where
         }
     }
 
-    /// Whether a path is a folder, and None where it is neither a folder nor a file. A symbolic link that leads to no folder is a file.
+    /// Whether a path is a folder, and None where it is neither a folder nor a file. A symbolic link is what it leads to, as in git: one that
+    /// leads to nothing isn't listed, even if it can be read as a symbolic ref.
     fn is_folder_of_refs(&self, loose: &mut Loose, path: &str) -> Result<Option<bool>, Damage> {
         match entry_of(&self.rt, path)? {
             Some(Entry::Folder) => Ok(Some(true)),
             Some(Entry::File) => Ok(Some(false)),
             Some(Entry::Link) => {
                 if !is_folder(&self.rt, path)? {
-                    return Ok(Some(false));
+                    return Ok(if is_file(&self.rt, path)? {
+                        Some(false)
+                    } else {
+                        None
+                    });
                 }
                 if loose.links >= MOST_LINKS {
                     return Err(Damage::TooMany);

@@ -1,0 +1,201 @@
+use super::*;
+use gix_hash::{Kind, ObjectId};
+use std::alloc::Global;
+use std::test::Fail;
+
+/// Names, what `git check-ref-format` says of them, and what it says with `--allow-onelevel`.
+const NAMES: &[(&str, bool, bool)] = &[
+    ("refs/heads/main", true, true),
+    ("HEAD", false, true),
+    ("refs/heads/@", true, true),
+    ("@", false, false),
+    ("@/a", true, true),
+    ("refs/heads/a@{b", false, false),
+    ("refs/heads/{a", true, true),
+    ("refs/heads/a.lock/b", false, false),
+    ("refs/heads/a.lockb", true, true),
+    ("refs/heads/.a", false, false),
+    ("refs/a./b", true, true),
+    ("refs/a.", false, false),
+    ("refs/a..b", false, false),
+    ("refs//a", false, false),
+    ("/refs/a", false, false),
+    ("refs/a/", false, false),
+    ("", false, false),
+    ("refs/a b", false, false),
+    ("refs/a*", false, false),
+    ("refs/a\x7f", false, false),
+    ("refs/-a", true, true),
+    ("refs/ü", true, true),
+];
+
+/// Texts of the files of refs, and what git takes them for.
+const REFS: &[(&str, &str)] = &[
+    (
+        "1111111111111111111111111111111111111111\n",
+        "1111111111111111111111111111111111111111",
+    ),
+    (
+        "1111111111111111111111111111111111111111",
+        "1111111111111111111111111111111111111111",
+    ),
+    (
+        "aBcDeF1111111111111111111111111111111111\r\n",
+        "abcdef1111111111111111111111111111111111",
+    ),
+    (
+        "1111111111111111111111111111111111111111 x",
+        "1111111111111111111111111111111111111111",
+    ),
+    ("1111111111111111111111111111111111111111x", ""),
+    (" 1111111111111111111111111111111111111111", ""),
+    ("111111111111111111111111111111111111111", ""),
+    ("ref:refs/heads/main", "refs/heads/main"),
+    ("ref: \t refs/heads/main \n\n", "refs/heads/main"),
+    ("ref: HEAD\n", "HEAD"),
+    ("ref: refs/heads/..\n", ""),
+    ("ref: ../../secret\n", ""),
+    ("ref: /etc/passwd\n", ""),
+    ("REF: refs/heads/main\n", ""),
+    ("ref:", ""),
+    ("", ""),
+];
+
+/// Configs, and what git takes for the kind of the ids.
+const CONFIGS: &[(&str, &str)] = &[
+    ("", "sha1"),
+    (
+        "[core]\n\trepositoryformatversion = 0\n\tbare = false\n",
+        "sha1",
+    ),
+    (
+        "[CORE] RepositoryFormatVersion=1\r\n[Extensions] ObjectFormat=sha256 ; x\n",
+        "sha256",
+    ),
+    (
+        "[core]\nrepositoryformatversion = \"1\" # x\n[extensions]\nobjectformat = sha2\\\n56\n",
+        "sha256",
+    ),
+    ("[extensions]\nobjectformat=sha256\nnew=1\n", "sha1"),
+    (
+        "[core]\nrepositoryformatversion=0\n[extensions]\nnew=1\n",
+        "sha1",
+    ),
+    (
+        "[core]\nrepositoryformatversion=0\n[extensions]\nobjectformat=sha1\n",
+        "",
+    ),
+    (
+        "[core]\nrepositoryformatversion=1\n[extensions]\nnew=1\n",
+        "",
+    ),
+    (
+        "[core]\nrepositoryformatversion=1\n[extensions]\nobjectformat=SHA1\n",
+        "",
+    ),
+    ("[core]\nrepositoryformatversion=2\n", ""),
+    ("[core \"x\"]\nrepositoryformatversion=2\n", "sha1"),
+    ("[a \"b\\\"c\"]\nd=e\n[core]\nx = \"a ; b\" c\ny\n", "sha1"),
+    ("[a \"b\nc\"]\n", ""),
+    ("[core]\nx = \"a\n", ""),
+    ("[core]\nx = a\\q\n", ""),
+    ("[core\n", ""),
+    ("[core]\n1x = 3\n", ""),
+];
+
+/// Packed refs with lines of each kind.
+const PACKED: &str = "\
+# pack-refs with: peeled fully-peeled sorted \n\
+1111111111111111111111111111111111111111 refs/heads/main\n\
+2222222222222222222222222222222222222222 refs/tags/v1\n\
+^1111111111111111111111111111111111111111\n\
+1111111111111111111111111111111111111111 refs/heads/a..b\n\
+2222222222222222222222222222222222222222 HEAD\n\
+no line\n\
+2222222222222222222222222222222222222222 refs/heads/cut";
+
+#[test]
+fn names_are_those_of_git() -> Result<(), Fail> {
+    for (name, is_whole, is_any) in NAMES {
+        let bytes = name.as_bytes();
+        if is_ref_name(bytes) != *is_whole || is_name_of_any_level(bytes) != *is_any {
+            return Err(Fail::new(format_args!("{name:?}")));
+        }
+    }
+    Ok(())
+}
+
+/// Whether a text is read as git reads it.
+fn is_read_as(text: &str, expected: &str) -> bool {
+    match read_ref(Kind::Sha1, text.as_bytes()) {
+        Ok(Ref::Id(id)) => ObjectId::from_hex(expected.as_bytes()) == Ok(id),
+        Ok(Ref::Symbolic(name)) => name == expected,
+        Err(_) => expected.is_empty(),
+    }
+}
+
+#[test]
+fn refs_are_read_as_git_reads_them() -> Result<(), Fail> {
+    for (text, expected) in REFS {
+        if !is_read_as(text, expected) {
+            return Err(Fail::new(format_args!("{text:?}")));
+        }
+    }
+    Ok(())
+}
+
+/// What a config says of the kind of the ids.
+fn kind_in(alloc: Global, config: &str) -> Option<Kind> {
+    match settings_of(alloc, config.as_bytes()) {
+        Ok(settings) => Some(settings.kind),
+        Err(_) => None,
+    }
+}
+
+#[test]
+fn configs_are_read_as_git_reads_them(rt: HostRuntime) -> Result<(), Fail> {
+    for (config, expected) in CONFIGS {
+        let expected = match *expected {
+            "sha1" => Some(Kind::Sha1),
+            "sha256" => Some(Kind::Sha256),
+            _ => None,
+        };
+        if kind_in(rt.alloc(), config) != expected {
+            return Err(Fail::new(format_args!("{config:?}")));
+        }
+    }
+    Ok(())
+}
+
+/// Writes what packed refs say, a word for each.
+fn tell_packed(alloc: Global, text: &str) -> Result<String, Fail> {
+    let mut told = String::new(alloc);
+    for line in packed_refs(Kind::Sha1, text.as_bytes()) {
+        match line {
+            Ok(packed) => told.push_str(packed.name)?,
+            Err(RefFault::Line(_)) => told.push_str("line")?,
+            Err(_) => told.push_str("name")?,
+        }
+        told.push(' ')?;
+    }
+    Ok(told)
+}
+
+#[test]
+fn packed_refs_come_line_by_line(rt: HostRuntime) -> Result<(), Fail> {
+    let told = tell_packed(rt.alloc(), PACKED)?;
+    if told.as_str() == "refs/heads/main refs/tags/v1 name HEAD line line " {
+        return Ok(());
+    }
+    Err(Fail::new(format_args!("{told}")))
+}
+
+#[test]
+fn paths_end_before_the_end_of_the_line(rt: HostRuntime) -> Result<(), Fail> {
+    assert!(rt; git_file(b"gitdir: ../a/.git\r\n") == Ok("../a/.git"));
+    assert!(rt; git_file(b"gitdir: \n") == Err(RefFault::NoRepository));
+    assert!(rt; git_file(b"gitdir:/a\n") == Err(RefFault::NoRepository));
+    assert!(rt; common_dir(b"../..\n") == Ok("../.."));
+    assert!(rt; common_dir(b"\n") == Err(RefFault::NoFolder));
+    Ok(())
+}

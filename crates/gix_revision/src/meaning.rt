@@ -1,0 +1,366 @@
+//! What words mean in a repository.
+ghost use Rattle.std.specs.Prelude.{◌≡◌, ◌+◌, ◌≤◌, ◌<◌, ◌++◌, [], ◌∷◌, length, IfOk, OnOk};
+ghost use Rattle.gix_revision.specs.declared.parse.Target.TheVariants as target;
+ghost use Rattle.gix_revision.specs.Resolves.{target_of, IsBase, Resolves, IsPushed, IsChosen, Adds, AddsOne, AddsCommits};
+
+use crate::fault::{Fault, ambiguous, fault_of_steps, fault_of_word, unknown};
+use crate::parse::{Base, Form, ParseFault, Rev, Revision, Step, Target, parse};
+use crate::steps::{StepFault, follow, peel};
+use gix_hash::ObjectId;
+use gix_object::Kind;
+use gix_odb::{Front, Odb};
+use gix_repository::Repository;
+use std::alloc::Global;
+use std::fs::Files;
+use std::os::unix::fs::FileExt;
+
+/// The fewest digits of a short id, as in git.
+const FEWEST_DIGITS: usize = 4;
+/// How many ids a short id is compared with at the most.
+const MOST_IDS: usize = 4096;
+
+/// What a part of a word means.
+#[derive(Clone, Copy, PartialEq, Eq, Debug)]
+pub enum Chosen {
+    /// An object.
+    One {
+        /// Its id.
+        id: ObjectId,
+        /// Whether what it reaches is left out.
+        is_hidden: bool,
+    },
+    /// What one of two commits reaches, but not both. Their best common ancestors aren't looked for here.
+    Symmetric {
+        /// The id of the first.
+        one: ObjectId,
+        /// The id of the second.
+        other: ObjectId,
+    },
+}
+
+/// A part of a word, and what it means.
+#[derive(Drop, Debug)]
+pub struct Resolved {
+    /// The revision as it was written, without `^`. Of `A...B` it is A.
+    pub word: String,
+    /// What it means.
+    pub chosen: Chosen,
+}
+
+/// Some refs of a repository.
+#[derive(Clone, Copy, PartialEq, Eq, Debug)]
+pub enum Set {
+    /// All refs, and the HEADs of all worktrees.
+    All,
+    /// Those below `refs/heads/`.
+    Branches,
+    /// Those below `refs/tags/`.
+    Tags,
+}
+
+/// Adds what a word means: `A`, `^A`, `A..B` or `A...B`, and where a tree is wanted also `A:path`. Objects of the kind `wanted` are meant:
+/// tags are followed to one, and a commit to its tree.
+///
+/// An id that is written whole is this id, whatever refs there are. Else a ref of the name is meant, and else the object whose id begins
+/// with these digits, four at the least. Each object on the way is compared with its id before its text is used.
+///
+/// # Errors
+///
+/// The first [`Fault`] from the left. `found` may have some parts of the word then. The repository can be used further.
+pub fn resolve<R>(
+    alloc: Global,
+    repository: &mut Repository<R>,
+    word: &str,
+    wanted: Kind,
+    found: &mut Vec<Resolved>,
+) -> Result<(), Fault>
+where
+    R: Files + AllocGlobal + Clone + Drop,
+    R::File: FileExt,
+    ensures { OnOk result (Adds (target_of wanted) found.old.items found.new.items) }
+{
+    match parse(alloc, repository.kind(), word) {
+        Ok(revision) => { resolve_parsed(alloc, repository, &revision, target_of(wanted), found) }
+        Err(fault) => Err(fault_of_word(alloc, word, fault)),
+    }
+}
+
+/// Adds what a parsed word means.
+///
+/// # Errors
+///
+/// Those of [`resolve`].
+pub fn resolve_parsed<R>(
+    alloc: Global,
+    repository: &mut Repository<R>,
+    revision: &Revision<'_>,
+    wanted: Target,
+    found: &mut Vec<Resolved>,
+) -> Result<(), Fault>
+where
+    R: Files + AllocGlobal + Clone + Drop,
+    R::File: FileExt,
+    ensures { OnOk result (IsChosen wanted revision.now found.old.items found.new.items) }
+{
+    match revision {
+        Revision::One { rev, is_hidden } => {
+            let id = id_of(alloc, repository, rev, wanted)?;
+            let is_hidden = *is_hidden;
+            push(alloc, found, rev.text, Chosen::One { id, is_hidden })
+        }
+        Revision::Range { hidden, tip } => {
+            let one = id_of(alloc, repository, hidden, wanted)?;
+            let other = id_of(alloc, repository, tip, wanted)?;
+            let is_hidden = true;
+            push(
+                alloc,
+                found,
+                hidden.text,
+                Chosen::One { id: one, is_hidden },
+            )?;
+            let is_hidden = false;
+            push(
+                alloc,
+                found,
+                tip.text,
+                Chosen::One {
+                    id: other,
+                    is_hidden,
+                },
+            )
+        }
+        Revision::Symmetric { one, other } => {
+            let word = one.text;
+            let one = id_of(alloc, repository, one, wanted)?;
+            let other = id_of(alloc, repository, other, wanted)?;
+            push(alloc, found, word, Chosen::Symmetric { one, other })
+        }
+    }
+}
+
+/// Adds the refs of a set that lead to commits, by rising names, and the HEADs behind them. A ref that leads to another object, or whose
+/// object isn't there, is left out.
+///
+/// # Errors
+///
+/// The first [`Fault`] that is met. `found` may have some of them then. The repository can be used further.
+pub fn resolve_all<R>(
+    alloc: Global,
+    repository: &mut Repository<R>,
+    set: Set,
+    found: &mut Vec<Resolved>,
+) -> Result<(), Fault>
+where
+    R: Files + AllocGlobal + Clone + Drop,
+    R::File: FileExt,
+    ensures { OnOk result (AddsCommits found.old.items found.new.items) }
+{
+    let prefix = match set {
+        Set::All => "refs/",
+        Set::Branches => "refs/heads/",
+        Set::Tags => "refs/tags/",
+    };
+    let refs = repository.refs_below(prefix)?;
+    for named in refs.iter() {
+        add_commit(alloc, repository, named.name.as_str(), &named.id, found)?;
+    }
+    if set == Set::All {
+        let heads = repository.heads()?;
+        for head in heads.iter() {
+            add_commit(alloc, repository, head.name.as_str(), &head.id, found)?;
+        }
+    }
+    Ok(())
+}
+
+/// Adds the commit that a ref leads to, if it leads to one.
+fn add_commit<R>(
+    alloc: Global,
+    repository: &mut Repository<R>,
+    name: &str,
+    id: &ObjectId,
+    found: &mut Vec<Resolved>,
+) -> Result<(), Fault>
+where
+    R: Files + AllocGlobal + Clone + Drop,
+    R::File: FileExt,
+    ensures { OnOk result (AddsOne found.old.items found.new.items) }
+{
+    match peel(alloc, &mut repository.odb, id, Target::Commit) {
+        Ok(id) => {
+            let is_hidden = false;
+            push(alloc, found, name, Chosen::One { id, is_hidden })
+        }
+        Err(StepFault::Kind(..) | StepFault::Missing(_)) => Ok(()),
+        Err(fault) => Err(fault_of_steps(alloc, name, fault)),
+    }
+}
+
+/// Adds what a part of a word means.
+fn push(alloc: Global, found: &mut Vec<Resolved>, text: &str, chosen: Chosen) -> Result<(), Fault>
+    ensures { OnOk result (IsPushed chosen found.old.items found.new.items) }
+{
+    let word = String::from_str(alloc, text)?;
+    found.push(Resolved { word, chosen })?;
+    Ok(())
+}
+
+/// What steps are to lead to where an object of this kind is wanted.
+fn target_of(wanted: Kind) -> Target
+    ensures { result ≡ target_of wanted }
+{
+    match wanted {
+        Kind::Commit => Target::Commit,
+        Kind::Tree => Target::Tree,
+        Kind::Blob => Target::Blob,
+        Kind::Tag => Target::Tag,
+    }
+}
+
+/// The id of the object that a revision means.
+fn id_of<R>(
+    alloc: Global,
+    repository: &mut Repository<R>,
+    rev: &Rev<'_>,
+    wanted: Target,
+) -> Result<ObjectId, Fault>
+where
+    R: Files + AllocGlobal + Clone + Drop,
+    R::File: FileExt,
+    ensures { IfOk result (λ found. Resolves rev.now.base rev.now.steps.items wanted found) }
+{
+    if rev.has_path && wanted != Target::Tree {
+        let fault = ParseFault::NotTaken(Form::Path);
+        return Err(fault_of_word(alloc, rev.text, fault));
+    }
+    let steps = rev.steps.as_slice();
+    let base = base_of(alloc, repository, rev.base, first_target(steps, wanted))?;
+    let led = match follow(alloc, &mut repository.odb, &base, steps) {
+        Ok(led) => led,
+        Err(fault) => return Err(fault_of_steps(alloc, rev.text, fault)),
+    };
+    match peel(alloc, &mut repository.odb, &led, wanted) {
+        Ok(id) => Ok(id),
+        Err(fault) => Err(fault_of_steps(alloc, rev.text, fault)),
+    }
+}
+
+/// What the base of a revision is to lead to, by which a short id is told from others.
+fn first_target(steps: &[Step<'_>], wanted: Target) -> Target {
+    match steps {
+        [Step::Parent(_) | Step::Ancestor(_), ..] => Target::Commit,
+        [Step::Peel(Target::Commit), ..] => Target::Commit,
+        [Step::Peel(Target::Tree), ..] => Target::Tree,
+        _ => wanted,
+    }
+}
+
+/// What the steps of a revision begin at.
+fn base_of<R>(
+    alloc: Global,
+    repository: &mut Repository<R>,
+    base: Base<'_>,
+    wanted: Target,
+) -> Result<ObjectId, Fault>
+where
+    R: Files + AllocGlobal + Clone + Drop,
+    R::File: FileExt,
+    ensures { IfOk result (λ found. IsBase base.entry found) }
+{
+    match base {
+        Base::Id(id) => Ok(id),
+        Base::Name(name) => named(alloc, repository, name, wanted),
+    }
+}
+
+/// The id of the ref of a name, or the one that begins with these digits.
+fn named<R>(
+    alloc: Global,
+    repository: &mut Repository<R>,
+    name: &str,
+    wanted: Target,
+) -> Result<ObjectId, Fault>
+where
+    R: Files + AllocGlobal + Clone + Drop,
+    R::File: FileExt,
+{
+    if let Some(short) = repository.find_short(name)? {
+        return Ok(short.id);
+    }
+    if is_described(name) {
+        let fault = ParseFault::NotTaken(Form::Described);
+        return Err(fault_of_word(alloc, name, fault));
+    }
+    let digits = name.as_bytes();
+    if digits.len() < FEWEST_DIGITS || digits.len() > repository.kind().len_in_hex() {
+        return Err(unknown(alloc, name));
+    }
+    match Front::new(digits) {
+        Some(front) => short_id(alloc, &mut repository.odb, name, &front, wanted),
+        None => Err(unknown(alloc, name)),
+    }
+}
+
+/// Whether a name is as `git describe` writes it: it ends with `-g` and hex digits.
+fn is_described(name: &str) -> bool {
+    match name.rsplit_once("-g") {
+        Some((_, digits)) => digits.len() >= FEWEST_DIGITS
+            && Front::new(digits.as_bytes()).is_some(),
+        None => false,
+    }
+}
+
+/// The one id that begins with some digits, or, of several, the one whose object leads to what is wanted.
+fn short_id<R>(
+    alloc: Global,
+    odb: &mut Odb<R>,
+    name: &str,
+    front: &Front,
+    wanted: Target,
+) -> Result<ObjectId, Fault>
+where
+    R: Files + AllocGlobal + Clone + Drop,
+    R::File: FileExt,
+{
+    let ids = odb.ids_from(front, MOST_IDS)?;
+    match ids.as_slice() {
+        [] => return Err(unknown(alloc, name)),
+        [id] => return Ok(*id),
+        _ => {}
+    }
+    if ids.len() >= MOST_IDS {
+        return Err(ambiguous(alloc, name, ids.as_slice()));
+    }
+    let mut fitting = Vec::new(alloc);
+    for id in ids.iter() {
+        if leads_to(alloc, odb, name, id, wanted)? {
+            fitting.push(*id)?;
+        }
+    }
+    match fitting.as_slice() {
+        [] => Err(ambiguous(alloc, name, ids.as_slice())),
+        [id] => Ok(*id),
+        several => Err(ambiguous(alloc, name, several)),
+    }
+}
+
+/// Whether an object leads to what is wanted.
+fn leads_to<R>(
+    alloc: Global,
+    odb: &mut Odb<R>,
+    name: &str,
+    id: &ObjectId,
+    wanted: Target,
+) -> Result<bool, Fault>
+where
+    R: Files + AllocGlobal + Clone + Drop,
+    R::File: FileExt,
+{
+    match peel(alloc, odb, id, wanted) {
+        Ok(_) => Ok(true),
+        Err(fault) => match fault {
+            StepFault::Read(_) | StepFault::Memory => Err(fault_of_steps(alloc, name, fault)),
+            _ => Ok(false),
+        },
+    }
+}

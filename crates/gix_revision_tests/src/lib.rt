@@ -1,0 +1,5 @@
+//! Tests of the words that name revisions.
+#![tactic(auto)]
+
+#[cfg(test)]
+mod words;

@@ -1,0 +1,197 @@
+//! What words ask for. `git rev-parse` gives one id for the words of a pair, and refuses those that are refused here as no revision.
+use gix_hash::Kind;
+use gix_revision::parse::{Base, Rev, Revision, Step, parse};
+use std::alloc::{AllocError, Global};
+use std::process::Abort;
+use std::test::Fail;
+
+/// A word as text: its steps one by one, or why it is refused.
+fn show(alloc: Global, word: &str) -> Result<String, AllocError> {
+    let mut text = String::new(alloc);
+    match parse(alloc, Kind::Sha1, word) {
+        Ok(Revision::One { rev, is_hidden }) => {
+            text.push_str(if is_hidden { "not " } else { "" })?;
+            show_rev(alloc, &mut text, &rev)?;
+        }
+        Ok(Revision::Range { hidden, tip }) => {
+            show_rev(alloc, &mut text, &tip)?;
+            text.push_str(" not ")?;
+            show_rev(alloc, &mut text, &hidden)?;
+        }
+        Ok(Revision::Symmetric { one, other }) => {
+            show_rev(alloc, &mut text, &one)?;
+            text.push_str(" or ")?;
+            show_rev(alloc, &mut text, &other)?;
+        }
+        Err(fault) => text.push_str(format!(in alloc; "{fault}")?.as_str())?,
+    }
+    Ok(text)
+}
+
+/// Adds a revision.
+fn show_rev(alloc: Global, text: &mut String, rev: &Rev<'_>) -> Result<(), AllocError> {
+    match rev.base {
+        Base::Id(id) => text.push_str(format!(in alloc; "id {id}")?.as_str())?,
+        Base::Name(name) => text.push_str(name)?,
+    }
+    for step in rev.steps.iter() {
+        text.push_str(" ")?;
+        match step {
+            Step::Parent(number) => text.push_str(format!(in alloc; "^{number}")?.as_str())?,
+            Step::Ancestor(count) => text.push_str(format!(in alloc; "~{count}")?.as_str())?,
+            Step::Peel(target) => text.push_str(format!(in alloc; "{target:?}")?.as_str())?,
+            Step::Entry(name) => text.push_str(format!(in alloc; "/{name}")?.as_str())?,
+        }
+    }
+    Ok(())
+}
+
+/// Compares each word of a table with its text.
+fn check(rt: &(impl Abort + AllocGlobal), table: &[(&str, &str)]) -> Result<(), AllocError> {
+    for (word, expected) in table {
+        let shown = show(rt.alloc(), word)?;
+        assert_eq!(rt; shown.as_str(), *expected, "{word}");
+    }
+    Ok(())
+}
+
+#[test]
+fn steps_of_words(rt: HostRuntime) -> Result<(), Fail> {
+    check(
+        &rt,
+        &[
+            ("main", "main"),
+            ("@", "HEAD"),
+            ("HEAD~", "HEAD ~1"),
+            ("HEAD~1", "HEAD ~1"),
+            ("@~~", "HEAD ~1 ~1"),
+            ("HEAD^", "HEAD ^1"),
+            ("HEAD^02", "HEAD ^2"),
+            ("HEAD^0", "HEAD ^0"),
+            ("HEAD~3^2~", "HEAD ~3 ^2 ~1"),
+            ("v1.0^{}", "v1.0 Untagged"),
+            ("v1.0^{commit}^", "v1.0 Commit ^1"),
+            ("v1.0^{tree}", "v1.0 Tree"),
+            ("v1.0^{tag}", "v1.0 Tag"),
+            ("v1.0^{blob}", "v1.0 Blob"),
+            ("v1.0^{object}", "v1.0 Object"),
+            ("refs/heads/a-b", "refs/heads/a-b"),
+            ("abcd", "abcd"),
+            ("HEAD~2147483647", "HEAD ~2147483647"),
+        ],
+    )?;
+    Ok(())
+}
+
+#[test]
+fn ids_and_paths_of_words(rt: HostRuntime) -> Result<(), Fail> {
+    check(
+        &rt,
+        &[
+            (
+                "4b825dc642cb6eb9a060e54bf8d69288fbee4904",
+                "id 4b825dc642cb6eb9a060e54bf8d69288fbee4904",
+            ),
+            (
+                "4B825DC642CB6EB9A060E54BF8D69288FBEE4904^{tree}",
+                "id 4b825dc642cb6eb9a060e54bf8d69288fbee4904 Tree",
+            ),
+            ("HEAD:", "HEAD Tree"),
+            ("HEAD:d", "HEAD Tree /d"),
+            ("HEAD:d/", "HEAD Tree /d"),
+            ("HEAD~1:d/e..f", "HEAD ~1 Tree /d /e..f"),
+            ("v1^{tree}:a b", "v1 Tree Tree /a b"),
+        ],
+    )?;
+    Ok(())
+}
+
+#[test]
+fn ranges_of_words(rt: HostRuntime) -> Result<(), Fail> {
+    check(
+        &rt,
+        &[
+            ("^main", "not main"),
+            ("^main~2", "not main ~2"),
+            ("main..topic", "topic not main"),
+            ("main~1..", "HEAD not main ~1"),
+            ("..topic", "topic not HEAD"),
+            ("main...topic^", "main or topic ^1"),
+            ("main...", "main or HEAD"),
+            ("...topic", "HEAD or topic"),
+        ],
+    )?;
+    Ok(())
+}
+
+#[test]
+fn words_that_are_refused(rt: HostRuntime) -> Result<(), Fail> {
+    check(
+        &rt,
+        &[
+            ("..", "`..` is the name of a folder"),
+            ("^main..topic", "`^` is in front of a range"),
+            ("^main...topic", "`^` is in front of a range"),
+            ("", "it names nothing"),
+            ("^", "it names nothing"),
+            ("^^HEAD", "it names nothing"),
+            ("~1", "it names nothing"),
+            (":", "it names nothing"),
+            ("HEAD~1x", "it has a step that isn't known"),
+            ("HEAD^1x", "it has a step that isn't known"),
+            ("HEAD^{commit", "it has a step that isn't known"),
+            ("HEAD^{}x", "it has a step that isn't known"),
+            ("HEAD^{foo}", "it has a kind of object that isn't known"),
+            ("HEAD~2147483648", "it has a number above 2147483647"),
+            ("HEAD~99999999999", "it has a number above 2147483647"),
+        ],
+    )?;
+    Ok(())
+}
+
+#[test]
+fn forms_that_are_not_taken(rt: HostRuntime) -> Result<(), Fail> {
+    check(
+        &rt,
+        &[
+            ("main@{1}", "the log of a ref (`@{..}`) isn't taken"),
+            ("@{yesterday}", "the log of a ref (`@{..}`) isn't taken"),
+            (
+                "@{-1}",
+                "the branch that was checked out before (`@{-n}`) isn't taken",
+            ),
+            (
+                "main@{upstream}",
+                "the upstream of a branch (`@{upstream}`) isn't taken",
+            ),
+            (
+                "@{u}~2",
+                "the upstream of a branch (`@{upstream}`) isn't taken",
+            ),
+            (":/text", "a search for a message (`:/text`) isn't taken"),
+            (
+                "HEAD^{/a..b}",
+                "a search for a message (`:/text`) isn't taken",
+            ),
+            (":README", "a path in the index (`:path`) isn't taken"),
+            (":0:README", "a path in the index (`:path`) isn't taken"),
+            (
+                "HEAD:./a",
+                "a path from the current folder (`:./path`) isn't taken",
+            ),
+            (
+                "HEAD:../a",
+                "a path from the current folder (`:./path`) isn't taken",
+            ),
+            ("HEAD^@", "all parents of a commit (`^@`) isn't taken"),
+            ("HEAD^!", "a commit without its parents (`^!`) isn't taken"),
+            (
+                "HEAD^-2",
+                "a commit without one of its parents (`^-`) isn't taken",
+            ),
+            ("ma*n", "a pattern isn't taken"),
+            ("ma[i]n~1", "a pattern isn't taken"),
+        ],
+    )?;
+    Ok(())
+}
