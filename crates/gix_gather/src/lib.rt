@@ -116,7 +116,13 @@ where
 }
 
 /// Puts the bytes of the object of an id into `object`, from the first copy that is the object of this id. None where there is no copy.
-fn read_named<R>(
+/// 64 copies are read at the most.
+///
+/// # Errors
+///
+/// `Name` where no copy that could be read is the object of the id, `Files` where none could be read, `Memory`. `object` may hold anything
+/// then, and after None.
+pub fn read_named<R>(
     odb: &mut Odb<R>,
     id: &ObjectId,
     object: &mut Vec<u8>,
