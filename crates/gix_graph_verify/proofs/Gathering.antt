@@ -1,5 +1,5 @@
 -- The objects that rows were compared with, gathered into one map.
-use Rattle.std.proofs.Common.{◌≡◌, ◌⊎◌, ℕ, List, [], ◌∷◌, Option, Some, None, Bool, true, false, cond, Contains, refl, sym, subst, ap, ◌∙◌, inl, inr}
+use Rattle.std.proofs.Common.{◌≡◌, ◌⊎◌, ℕ, List, [], ◌∷◌, Option, Some, None, IfSome, Bool, true, false, cond, Contains, refl, sym, subst, ap, ◌∙◌, inl, inr}
 use Rattle.std.specs.Cmp.{Equal-is}
 use Rattle.std.specs.FinMap.{get, insert, empty, get-empty, get-insert}
 use Rattle.std.proofs.lemmas.List.{get_or_default}
@@ -9,14 +9,25 @@ use Rattle.gix_hash.proofs.Ids.Membership.{id_total, same_is, same_from, Contain
 use Rattle.gix_object.specs.declared.Kind.TheVariants as kind
 use Rattle.gix_object.specs.Object.{Object, Objects}
 use Rattle.gix_names.specs.Named.{IsNamed}
+use Rattle.gix_records.specs.NamedRecords.{AreNamed}
 use Rattle.gix_commitgraph.specs.Rows.{GraphRow, no_row, row_at, row_of}
 use Rattle.gix_commitgraph.specs.Packed.{AreGraphRows}
 use Rattle.gix_commitgraph.proofs.Packed.RowSearch.{row_of-found}
 use Rattle.gix_revwalk.specs.Commits.{commit_at, commit_of_object}
 use Rattle.gix_revwalk.specs.Agreeing.{RowAgrees}
 use Rattle.gix_graph_check.proofs.WholeCommits.{row-agrees}
-use Rattle.gix_graph_verify.specs.Named.{AreNamed}
 use Rattle.gix_graph_verify.specs.Differences.{IsBacked}
+
+-- objects of which each is named
+named-all : (objects : Objects) → ((i : ObjectId) (o : Object) → get objects i ≡ Some o → IsNamed i o.kind o.bytes) → AreNamed objects
+named-all objects h i = cases (get objects i) refl
+  where
+    cases : (found : Option Object) → get objects i ≡ found → IfSome found (λ o. IsNamed i o.kind o.bytes)
+    cases None e = tt
+    cases (Some o) e = h i o e
+
+named-here : (objects : Objects) → AreNamed objects → (i : ObjectId) (o : Object) → get objects i ≡ Some o → IsNamed i o.kind o.bytes
+named-here objects named i o e = subst (λ (found : Option Object). IfSome found (λ o. IsNamed i o.kind o.bytes)) e (named i)
 
 -- the row of a place
 at-place : (rows : List GraphRow) (row : GraphRow) (m : Contains rows row) → row_at rows m.0 ≡ row
@@ -57,7 +68,7 @@ module _ (rows : List GraphRow) (are : AreGraphRows rows) (lower : List GraphRow
         let one : Some object ≡ Some o = sym h ∙ f in
         let same : object ≡ o = cc in
         subst (λ (x : Object). IsNamed i x.kind x.bytes) same (subst (λ (j : ObjectId). IsNamed j kind.Commit backed.named.bytes) (sym (same_is i row.id e)) backed.named.named)
-    named-by i o false e h f = g.named i o (sym h ∙ f)
+    named-by i o false e h f = named-here g.objects g.named i o (sym h ∙ f)
 
     commit-of-own : commit_at more row.id ≡ Some backed.commit
     unfolding object
@@ -86,7 +97,7 @@ module _ (rows : List GraphRow) (are : AreGraphRows rows) (lower : List GraphRow
     pub gather-one : Contains rows row → ((r : GraphRow) → Contains part r → Contains rows r) → Gathered (row ∷ part)
     gather-one m within = record {
       objects = more;
-      named = λ i o f. named-by i o (is_same i row.id) refl (got i) f;
+      named = named-all more (λ i o f. named-by i o (is_same i row.id) refl (got i) f);
       agree = λ other c none. cases other c none (Contains-cons_cases other row part c);
     }
       where
@@ -109,7 +120,7 @@ module _ (rows : List GraphRow) (are : AreGraphRows rows) (lower : List GraphRow
   nothing : Gathered []
   nothing = record {
     objects = empty;
-    named = λ i o e. (let bad : None ≡ Some o = sym (get-empty id_cmp i) ∙ e in cc);
+    named = named-all empty (λ i o e. (let bad : None ≡ Some o = sym (get-empty id_cmp i) ∙ e in cc));
     agree = λ row m none. absurd (no_member row m);
   }
 

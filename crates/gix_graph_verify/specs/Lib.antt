@@ -1,6 +1,6 @@
 -- What it means that files are verified.
 pub mod Verified
--- Objects that are what their ids say.
+-- What a store finds at an id.
 pub mod Named
 -- What differs between a row and its commit.
 pub mod Differences

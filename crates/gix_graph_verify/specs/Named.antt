@@ -1,15 +1,9 @@
--- Objects that are what their ids say.
-use Rattle.std.specs.Prelude.{◌≡◌, ℕ, List, Some}
-use Rattle.std.specs.FinMap.{get}
+-- What a store finds at an id.
+use Rattle.std.specs.Prelude.{ℕ, List}
 use Rattle.gix_hash.specs.declared.ObjectId.{ObjectId}
-use Rattle.gix_object.specs.Object.{Object, Objects}
 use Rattle.gix_names.specs.Named.{IsNamed}
 use Rattle.gix_graph_verify.specs.declared.objects.Found.{Found}
 use Rattle.gix_graph_verify.specs.declared.objects.Found.TheVariants as found
-
--- each object is the one of its id
-abbrev pub AreNamed : Objects → Type 0
-AreNamed objects = (i : ObjectId) (object : Object) → get objects i ≡ Some object → IsNamed i object.kind object.bytes
 
 -- what a store finds at an id, and puts into the buffer, is the object of the id
 abbrev pub IsFound : ObjectId → Found → List ℕ → Type 0

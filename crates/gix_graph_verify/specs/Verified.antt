@@ -1,12 +1,12 @@
 -- What it means that files are verified.
 use Rattle.std.specs.Prelude.{◌≡◌, ℕ, IsTrue, List, take, All, Contains, None}
 use Rattle.gix_object.specs.Object.{Objects}
+use Rattle.gix_records.specs.NamedRecords.{AreNamed}
 use Rattle.gix_commitgraph.specs.Rows.{GraphRow, row_of}
 use Rattle.gix_revwalk.specs.Agreeing.{RowAgrees, IsAgreeing}
 use Rattle.gix_graph_file.specs.Chain.{HasChain}
 use Rattle.gix_graph_file.specs.Trailer.{has_its_hash}
 use Rattle.gix_graph_check.specs.Sound.{AreSound}
-use Rattle.gix_graph_verify.specs.Named.{AreNamed}
 
 -- the files are a chain whose rows agree with objects that are what their ids say, except for those that the lowest files, so many, have
 pub record IsVerified (files : List (List ℕ)) (passed : ℕ) : Type 0 where

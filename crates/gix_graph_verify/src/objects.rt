@@ -2,8 +2,12 @@
 ghost use Rattle.std.specs.Prelude.{IfOk};
 ghost use Rattle.gix_graph_verify.specs.Named.{IsFound};
 
+use gix_gather::read_named;
 use gix_hash::ObjectId;
 use gix_object::Kind;
+use gix_odb::Odb;
+use std::fs::Files;
+use std::os::unix::fs::FileExt;
 
 /// What is stored at an id.
 #[derive(Clone, Copy, PartialEq, Eq, Debug)]
@@ -30,4 +34,22 @@ pub trait Objects {
     fn read(&mut self, id: &ObjectId, buf: &mut Vec<u8>) -> Result<Found, Self::Fault>
         // What is found is the object that the id says.
         ensures { IfOk result (λ found. IsFound id.now found buf.new.items) };
+}
+
+/// A folder of objects, of which each copy of an object is compared with its id, up to the first that is the object of the id.
+impl<R> Objects for Odb<R>
+where
+    R: Files + AllocGlobal + Clone + Drop,
+    R::File: FileExt,
+{
+    type Fault = gix_gather::Fault;
+
+    fn read(&mut self, id: &ObjectId, buf: &mut Vec<u8>) -> Result<Found, gix_gather::Fault> {
+        match read_named(self, id, buf) {
+            Ok(Some(kind)) => Ok(Found::Named(kind)),
+            Ok(None) => Ok(Found::Missing),
+            Err(gix_gather::Fault::Name(_)) => Ok(Found::Misnamed),
+            Err(fault) => Err(fault),
+        }
+    }
 }

@@ -135,10 +135,10 @@ fn table_of(alloc: Global, missing: &str, other: &str) -> Result<Table, Fail> {
 
 /// Adds the bytes that hex digits say.
 fn push_digits(bytes: &mut Vec<u8>, digits: &str) -> Result<(), AllocError> {
-    let mut left = digits.as_bytes();
-    while let [high, low, rest @ ..] = left {
-        bytes.push(value_of(*high).wrapping_mul(16) | value_of(*low))?;
-        left = rest;
+    for pair in digits.as_bytes().chunks(2) {
+        if let [high, low] = pair {
+            bytes.push(value_of(*high).wrapping_mul(16) | value_of(*low))?;
+        }
     }
     Ok(())
 }
