@@ -4,9 +4,7 @@ use gix_commands::Fault;
 use gix_gather::read_named;
 use gix_graph_check::read_whole;
 use gix_graph_file::{ChainError, graph_of_chain};
-use gix_graph_verify::{
-    Found, KeepFault, Layer, Objects, count_passed, has_passed, keep, read_layers, verify,
-};
+use gix_graph_verify::{Layer, count_passed, has_passed, keep, read_layers, verify};
 use gix_hash::ObjectId;
 use gix_object::Kind;
 use gix_object::commit::CommitRefIter;
@@ -192,25 +190,6 @@ fn border_row(
     }))
 }
 
-/// The commits of a repository, each compared with its id.
-#[derive(Drop)]
-struct Commits<'a> {
-    odb: &'a mut Odb<HostRuntime>,
-}
-
-impl Objects for Commits<'_> {
-    type Fault = gix_gather::Fault;
-
-    fn read(&mut self, id: &ObjectId, buf: &mut Vec<u8>) -> Result<Found, gix_gather::Fault> {
-        match read_named(self.odb, id, buf) {
-            Ok(Some(kind)) => Ok(Found::Named(kind)),
-            Ok(None) => Ok(Found::Missing),
-            Err(gix_gather::Fault::Name(_)) => Ok(Found::Misnamed),
-            Err(fault) => Err(fault),
-        }
-    }
-}
-
 /// Compares git's commit-graph with the commits, and keeps for each file that it is right. Writes what it found.
 pub(crate) fn check<W: Write>(
     rt: &HostRuntime,
@@ -225,10 +204,7 @@ pub(crate) fn check<W: Write>(
     let layers = read_layers(rt, folder_of(cache.as_ref()), paths.as_slice())?;
     let files = lend(rt, layers.as_slice())?;
     let passed = count_passed(layers.as_slice());
-    let mut commits = Commits {
-        odb: &mut repository.odb,
-    };
-    let report = verify(rt.alloc(), files.as_slice(), passed, &mut commits)?;
+    let report = verify(rt.alloc(), files.as_slice(), passed, &mut repository.odb)?;
     for difference in report.differences.iter() {
         let _ = eprintln!(rt; "gix_walk: {difference}");
     }
