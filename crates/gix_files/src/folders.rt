@@ -127,12 +127,11 @@ pub fn real_folder<R: Files + AllocGlobal>(rt: &R, path: &str) -> Result<Option<
     }
 }
 
-/// The names of a folder's entries, in the order in which the system says them. None where there is no folder. Names that are no text are
-/// left out.
+/// The names of a folder's entries, in the order in which the system says them. None where there is no folder.
 ///
 /// # Errors
 ///
-/// `TooManyEntries` where there are more than `most`. `Unreadable`, `Memory`.
+/// `NotText` where a name isn't UTF-8. `TooManyEntries` where there are more than `most`. `Unreadable`, `Memory`.
 pub fn names<R: Files + AllocGlobal + Clone + Drop>(
     rt: &R,
     path: &str,
@@ -152,7 +151,7 @@ pub fn names<R: Files + AllocGlobal + Clone + Drop>(
                 names.push(String::from_str(rt.alloc(), entry.file_name())?)?;
             }
             Err(error) => match error.kind() {
-                ErrorKind::InvalidFilename => {}
+                ErrorKind::InvalidFilename => return Err(Damage::NotText),
                 ErrorKind::OutOfMemory => return Err(Damage::Memory),
                 _ => return Err(Damage::Unreadable),
             },

@@ -136,7 +136,7 @@ where
                 }
             }
         }
-        Ok(count.saturating_add(listed.broken))
+        Ok(count.saturating_add(listed.broken.len()))
     }
 }
 

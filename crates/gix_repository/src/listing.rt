@@ -5,7 +5,7 @@ use crate::finding::{MOST_NAME, MOST_READS, Packed, Target, is_of_worktree};
 use crate::folders::joined;
 use gix_files::{Entry, entry_of, is_file, is_folder, names, real_folder};
 use gix_hash::ObjectId;
-use gix_refs::{is_name_of_any_level, packed_refs};
+use gix_refs::{RefFault, is_name_of_any_level, packed_refs};
 use std::alloc::Global;
 use std::collections::BTreeMap;
 use std::fs::{self, Files};
@@ -36,8 +36,8 @@ pub struct NamedRef {
 pub struct Listed {
     /// The refs, by rising names.
     pub refs: Vec<NamedRef>,
-    /// How many were passed over, since they are damaged.
-    pub broken: usize,
+    /// The names of those that were passed over, since they are damaged.
+    pub broken: Vec<String>,
 }
 
 /// What is known of the files of refs.
@@ -60,13 +60,14 @@ where
     ///
     /// # Errors
     ///
-    /// `Damaged` where a folder can't be listed, has too many entries, or is too deep, or where the packed refs are damaged. `Memory`.
+    /// `Damaged` where a folder can't be listed, has too many entries, a name that isn't UTF-8, or is too deep, or where the packed refs are
+    /// damaged. `Memory`.
     pub fn refs_below(&self, prefix: &str) -> Result<Vec<NamedRef>, Fault> {
         let Listed { refs, .. } = self.list_below(prefix)?;
         Ok(refs)
     }
 
-    /// As [`refs_below`](Repository::refs_below), and how many refs were passed over.
+    /// As [`refs_below`](Repository::refs_below), and which refs were passed over.
     ///
     /// # Errors
     ///
@@ -75,7 +76,7 @@ where
         let alloc = self.rt.alloc();
         let mut listed = Listed {
             refs: Vec::new(alloc),
-            broken: 0,
+            broken: Vec::new(alloc),
         };
         match prefix.strip_suffix("/") {
             Some(folder) if is_name_of_any_level(folder.as_bytes()) => {}
@@ -189,14 +190,18 @@ where
             }
             Target::Nothing => Ok(None),
             Target::Broken => {
-                listed.broken = listed.broken.saturating_add(1);
+                listed
+                    .broken
+                    .push(String::from_str(self.rt.alloc(), name)?)?;
                 Ok(None)
             }
         };
         match found {
             Ok(Some(id)) => {
                 if is_null(&id) {
-                    listed.broken = listed.broken.saturating_add(1);
+                    listed
+                        .broken
+                        .push(String::from_str(self.rt.alloc(), name)?)?;
                 } else {
                     let name = String::from_str(self.rt.alloc(), name)?;
                     listed.refs.push(NamedRef { name, id })?;
@@ -207,7 +212,9 @@ where
                 if !fault.is_broken_ref() {
                     return Err(fault);
                 }
-                listed.broken = listed.broken.saturating_add(1);
+                listed
+                    .broken
+                    .push(String::from_str(self.rt.alloc(), name)?)?;
             }
         }
         Ok(())
@@ -223,7 +230,11 @@ where
                 Ok(packed) => {
                     all.insert(String::from_str(alloc, packed.name)?, packed.id)?;
                 }
-                Err(fault) => self.pass_over(fault)?,
+                // A name that no path can be is no ref for git either; one that isn't UTF-8 is.
+                Err(RefFault::Name) => {}
+                Err(fault) => {
+                    return Err(fault_of(self.path_of("packed-refs")?, Damage::Ref(fault)));
+                }
             }
         }
         Ok(all)
