@@ -38,7 +38,6 @@ use gix_parts::records::{self, LentStore};
 use gix_traverse::commit::simple::Sorting;
 pub use gix_words::Fault;
 use gix_words::{Command, Order, read_command};
-pub use graph::write_heads;
 use output::write_commits;
 pub use over::run_over;
 use std::alloc::Global;

@@ -1,6 +1,6 @@
 //! Commands over records on standard input, or over a folder of objects.
 use crate::failure::Failure;
-use gix_commands::{Fault, run, run_in, run_over, run_stored, write_heads};
+use gix_commands::{Fault, run, run_in, run_over, run_stored};
 use gix_gather::{commits, trees};
 use gix_hash::ObjectId;
 use gix_odb::Odb;
@@ -135,8 +135,5 @@ fn run_records<R: Read, W: Write>(
     if layers.is_empty() {
         return run(rt.alloc(), words, reader, writer);
     }
-    match words {
-        [name] if name.as_str() == "heads" => write_heads(rt.alloc(), layers, writer),
-        _ => run_over(rt.alloc(), words, layers, reader, writer),
-    }
+    run_over(rt.alloc(), words, layers, reader, writer)
 }

@@ -1,6 +1,6 @@
 //! Runs over the layers of a commit-graph.
 use super::*;
-use gix_commands::{run_over, write_heads};
+use gix_commands::run_over;
 
 /// A row: the byte of its id, and its four words behind the tree: the parents, four times the generation, and the seconds.
 type Line = (u8, [u32; 4]);
@@ -124,16 +124,6 @@ fn check_told_over(
         push_fault(alloc, &mut told, fault)?;
     }
     compare(words, &told, &text_of(alloc, &[want])?)
-}
-
-// Tries what is written of the heads of these layers.
-fn check_heads(alloc: Global, layers: &[(&[u32], &[Line])], want: &str) -> Result<(), Fail> {
-    let layers = layers_of(alloc, layers)?;
-    let mut told = Vec::new(alloc);
-    if let Err(fault) = write_heads(alloc, &layers, &mut told) {
-        push_fault(alloc, &mut told, fault)?;
-    }
-    compare(&[], &told, &text_of(alloc, &[want])?)
 }
 
 /// What each command writes of the sample.
@@ -268,23 +258,4 @@ fn records_are_compared_with_rows(rt: HostRuntime) -> Result<(), Fail> {
         check_second(alloc, record, "! commit-graph disagrees with #2")?;
     }
     Ok(())
-}
-
-#[test]
-fn heads_are_rows_that_no_row_names(rt: HostRuntime) -> Result<(), Fail> {
-    let alloc = rt.alloc();
-    check_heads(alloc, &[], "")?;
-    check_heads(alloc, &[(EIGHT, &LINES)], "#8\n")?;
-    check_heads(alloc, &[(SEVEN, &LINES[..7])], "#6\n#7\n")?;
-    check_heads(alloc, &[(SEVEN, &LINES[..7]), (UPPER, &LINES[7..])], "#8\n")?;
-    check_heads(
-        alloc,
-        &[(TWO, &BACKWARD)],
-        "! bad row #2 in the commit-graph",
-    )?;
-    check_heads(
-        alloc,
-        &[(UPPER, &LINES[7..])],
-        "! bad commit-graph: layer 0: the file has another number of lower layers",
-    )
 }
