@@ -5,7 +5,7 @@ use Rattle.gix_hash.specs.declared.ObjectId.{ObjectId}
 use Rattle.gix_object.specs.declared.Kind.TheVariants as kind
 use Rattle.gix_revision.specs.declared.parse.Target.TheVariants as target
 use Rattle.gix_revision.specs.declared.parse.Step.TheVariants as step
-use Rattle.gix_revision.specs.Leads.{IsOf, HasLinks, IsTagOf, Untags, itself, by_tag, none, one_more, Leads}
+use Rattle.gix_revision.specs.Leads.{IsOf, HasLinks, IsTagOf, itself, by_tag, none, one_more, Leads}
 use Rattle.gix_names.specs.Named.{IsNamed}
 use Rattle.gix_hash.specs.Id.{kind_of, id_of_hex}
 

@@ -106,34 +106,30 @@ where
         Revision::One { rev, is_hidden } => {
             let id = id_of(alloc, repository, rev, wanted)?;
             let is_hidden = *is_hidden;
-            push(alloc, found, rev.text, Chosen::One { id, is_hidden })
+            push(alloc, found, rev.text, Chosen::One { id, is_hidden })?;
+            Ok(())
         }
         Revision::Range { hidden, tip } => {
             let one = id_of(alloc, repository, hidden, wanted)?;
             let other = id_of(alloc, repository, tip, wanted)?;
-            let is_hidden = true;
-            push(
-                alloc,
-                found,
-                hidden.text,
-                Chosen::One { id: one, is_hidden },
-            )?;
-            let is_hidden = false;
-            push(
-                alloc,
-                found,
-                tip.text,
-                Chosen::One {
-                    id: other,
-                    is_hidden,
-                },
-            )
+            let first = Chosen::One {
+                id: one,
+                is_hidden: true,
+            };
+            push(alloc, found, hidden.text, first)?;
+            let second = Chosen::One {
+                id: other,
+                is_hidden: false,
+            };
+            push(alloc, found, tip.text, second)?;
+            Ok(())
         }
         Revision::Symmetric { one, other } => {
             let word = one.text;
             let one = id_of(alloc, repository, one, wanted)?;
             let other = id_of(alloc, repository, other, wanted)?;
-            push(alloc, found, word, Chosen::Symmetric { one, other })
+            push(alloc, found, word, Chosen::Symmetric { one, other })?;
+            Ok(())
         }
     }
 }
