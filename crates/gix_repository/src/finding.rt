@@ -4,7 +4,7 @@ use crate::fault::{Damage, Fault, broken_ref, fault_of};
 use crate::folders::{MOST_SMALL, joined};
 use gix_files::{Entry, entry_of, link_text, read_front};
 use gix_hash::ObjectId;
-use gix_refs::{Ref, RefFault, is_name_of_any_level, is_ref_name, packed_refs, read_ref};
+use gix_refs::{Ref, is_name_of_any_level, is_ref_name, read_ref};
 use std::alloc::AllocError;
 use std::collections::BTreeMap;
 use std::fs::Files;
@@ -38,6 +38,15 @@ pub struct ShortRef {
     pub is_ambiguous: bool,
 }
 
+/// A short name that several refs have.
+#[derive(Drop, Debug)]
+pub struct Ambiguous {
+    /// The short name.
+    pub word: String,
+    /// The whole name of the ref that is taken for it.
+    pub name: String,
+}
+
 /// What the file of a ref, or its line among the packed refs, says.
 #[derive(Drop)]
 pub(crate) enum Target {
@@ -65,7 +74,7 @@ where
     ///
     /// `BrokenRef` and `RefLoop` where this ref, or one on the way, is damaged. `Damaged` where it would be among the packed refs, and their
     /// file is damaged. `Memory`.
-    pub fn find_ref(&self, name: &str) -> Result<Option<ObjectId>, Fault> {
+    pub fn find_ref(&mut self, name: &str) -> Result<Option<ObjectId>, Fault> {
         if !is_name_of_any_level(name.as_bytes()) || name.len() > MOST_NAME {
             return Ok(None);
         }
@@ -79,7 +88,7 @@ where
     /// # Errors
     ///
     /// Those of [`find_ref`](Repository::find_ref). `BrokenRef` and `RefLoop` come where no other ref is meant, for the first that is damaged.
-    pub fn find_short(&self, name: &str) -> Result<Option<ShortRef>, Fault> {
+    pub fn find_short(&mut self, name: &str) -> Result<Option<ShortRef>, Fault> {
         let mut found: Option<ShortRef> = None;
         let mut first = None;
         for (before, behind) in PLACES {
@@ -105,14 +114,23 @@ where
             }
         }
         match (found, first) {
+            (Some(found), _) => {
+                if found.is_ambiguous {
+                    self.ambiguous.push(Ambiguous {
+                        word: String::from_str(self.rt.alloc(), name)?,
+                        name: found.name.clone()?,
+                    })?;
+                }
+                Ok(Some(found))
+            }
             (None, Some(fault)) => Err(fault),
-            (found, _) => Ok(found),
+            (None, None) => Ok(None),
         }
     }
 
     /// The id that a target leads to, where so many files may still be read.
     pub(crate) fn follow(
-        &self,
+        &mut self,
         target: Target,
         reads: u32,
         packed: Option<&Packed>,
@@ -135,7 +153,7 @@ where
     }
 
     /// What the ref of a name says: its file, or else its line among the packed refs, which are read where they aren't given.
-    fn target_of(&self, name: &str, packed: Option<&Packed>) -> Result<Target, Fault> {
+    fn target_of(&mut self, name: &str, packed: Option<&Packed>) -> Result<Target, Fault> {
         if let Some(target) = self.read_loose(name)? {
             return Ok(target);
         }
@@ -202,20 +220,16 @@ where
         joined(self.rt.alloc(), folder, name)
     }
 
-    /// The id that the packed refs give to a name.
-    fn find_packed(&self, name: &str) -> Result<Option<ObjectId>, Fault> {
-        let text = self.read_packed()?;
-        for line in packed_refs(self.settings.kind, text.as_slice()) {
-            match line {
-                Ok(packed) => {
-                    if packed.name == name {
-                        return Ok(Some(packed.id));
-                    }
-                }
-                Err(fault) => self.pass_over(fault)?,
-            }
+    /// The id that the packed refs give to a name. Their file is read once, when a name that has no file of its own is asked for first.
+    fn find_packed(&mut self, name: &str) -> Result<Option<ObjectId>, Fault> {
+        if self.packed.is_none() {
+            let packed = self.all_packed(true)?;
+            self.packed = Some(packed);
         }
-        Ok(None)
+        Ok(match &self.packed {
+            Some(packed) => packed.get(name).copied(),
+            None => None,
+        })
     }
 
     /// The bytes of the packed refs, which are none where there is no such file.
@@ -225,14 +239,6 @@ where
         match gix_files::read(&self.rt, path.as_str(), MOST_PACKED, &mut text) {
             Ok(_) => Ok(text),
             Err(damage) => Err(fault_of(path, Damage::File(damage))),
-        }
-    }
-
-    /// Passes over a line of the packed refs whose name can't be that of a ref.
-    pub(crate) fn pass_over(&self, fault: RefFault) -> Result<(), Fault> {
-        match fault {
-            RefFault::Name | RefFault::NotText => Ok(()),
-            fault => Err(fault_of(self.path_of("packed-refs")?, Damage::Ref(fault))),
         }
     }
 }

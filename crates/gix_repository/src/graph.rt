@@ -21,7 +21,7 @@ where
     /// # Errors
     ///
     /// Those of [`count_replacements`](Repository::count_replacements).
-    pub fn graph_layers(&self) -> Result<Vec<String>, Fault> {
+    pub fn graph_layers(&mut self) -> Result<Vec<String>, Fault> {
         let alloc = self.rt.alloc();
         let mut layers = Vec::new(alloc);
         if !self.settings.has_commit_graph || self.shallow.is_some() || self.has_grafts {

@@ -11,7 +11,8 @@ mod listing;
 
 use fault::fault_of;
 pub use fault::{Damage, Fault};
-pub use finding::ShortRef;
+use finding::Packed;
+pub use finding::{Ambiguous, ShortRef};
 use folders::{Folders, joined};
 use gix_hash::ObjectId;
 use gix_odb::Odb;
@@ -34,6 +35,10 @@ pub struct Repository<R: Files> {
     /// The ids of the file `shallow`, and None where there is no such file.
     shallow: Option<Vec<ObjectId>>,
     has_grafts: bool,
+    /// The packed refs, once they were read to find one.
+    packed: Option<Packed>,
+    /// The short names that were asked for and that several refs have.
+    ambiguous: Vec<Ambiguous>,
 }
 
 impl<R: Files + AllocGlobal + Clone + Drop> Repository<R>
@@ -79,6 +84,8 @@ where
             settings,
             shallow,
             has_grafts,
+            packed: None,
+            ambiguous: Vec::new(rt.alloc()),
         })
     }
 
@@ -111,6 +118,11 @@ where
         }
     }
 
+    /// The short names that [`find_short`](Repository::find_short) was asked for and that several refs have, in the order in which it was.
+    pub fn ambiguous(&self) -> &[Ambiguous] {
+        self.ambiguous.as_slice()
+    }
+
     /// Whether it is a partial clone: other objects may be missing too.
     pub fn is_partial(&self) -> bool {
         self.settings.is_partial
@@ -126,7 +138,7 @@ where
     /// # Errors
     ///
     /// Those of [`refs_below`](Repository::refs_below).
-    pub fn count_replacements(&self) -> Result<usize, Fault> {
+    pub fn count_replacements(&mut self) -> Result<usize, Fault> {
         let mut count = 0usize;
         let listed = self.list_below("refs/replace/")?;
         for replacement in listed.refs.iter() {

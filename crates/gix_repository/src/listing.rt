@@ -62,7 +62,7 @@ where
     ///
     /// `Damaged` where a folder can't be listed, has too many entries, a name that isn't UTF-8, or is too deep, or where the packed refs are
     /// damaged. `Memory`.
-    pub fn refs_below(&self, prefix: &str) -> Result<Vec<NamedRef>, Fault> {
+    pub fn refs_below(&mut self, prefix: &str) -> Result<Vec<NamedRef>, Fault> {
         let Listed { refs, .. } = self.list_below(prefix)?;
         Ok(refs)
     }
@@ -72,7 +72,7 @@ where
     /// # Errors
     ///
     /// Those of [`refs_below`](Repository::refs_below).
-    pub fn list_below(&self, prefix: &str) -> Result<Listed, Fault> {
+    pub fn list_below(&mut self, prefix: &str) -> Result<Listed, Fault> {
         let alloc = self.rt.alloc();
         let mut listed = Listed {
             refs: Vec::new(alloc),
@@ -83,7 +83,7 @@ where
             _ => return Ok(listed),
         }
         let mut targets = self.read_below(prefix)?;
-        let packed = self.all_packed()?;
+        let packed = self.all_packed(false)?;
         for (name, id) in packed.iter() {
             if name.as_str().starts_with(prefix) && !targets.contains_key(name.as_str()) {
                 targets.insert(name.clone()?, Target::Id(*id))?;
@@ -101,18 +101,16 @@ where
     /// # Errors
     ///
     /// `Damaged` where the folder of the worktrees can't be listed, or where the packed refs are damaged. `Memory`.
-    pub fn heads(&self) -> Result<Vec<NamedRef>, Fault> {
+    pub fn heads(&mut self) -> Result<Vec<NamedRef>, Fault> {
         let alloc = self.rt.alloc();
         let mut heads = Vec::new(alloc);
-        self.add_head(&mut heads, "HEAD", self.folders.git.as_str())?;
-        if self.folders.git.as_str() != self.folders.common.as_str() {
-            self.add_head(
-                &mut heads,
-                "main-worktree/HEAD",
-                self.folders.common.as_str(),
-            )?;
+        let git = self.folders.git.clone()?;
+        let common = self.folders.common.clone()?;
+        self.add_head(&mut heads, "HEAD", git.as_str())?;
+        if git.as_str() != common.as_str() {
+            self.add_head(&mut heads, "main-worktree/HEAD", common.as_str())?;
         }
-        let folder = joined(alloc, self.folders.common.as_str(), "worktrees")?;
+        let folder = joined(alloc, common.as_str(), "worktrees")?;
         let found = match names(&self.rt, folder.as_str(), MOST_ENTRIES) {
             Ok(found) => found.unwrap_or(Vec::new(alloc)),
             Err(damage) => return Err(fault_of(folder, Damage::File(damage))),
@@ -125,7 +123,7 @@ where
 
     /// Adds the HEAD of another worktree, unless its folder is this one's or isn't a worktree's any longer.
     fn add_other_head(
-        &self,
+        &mut self,
         heads: &mut Vec<NamedRef>,
         folder: &str,
         name: &str,
@@ -151,7 +149,12 @@ where
     }
 
     /// Adds the HEAD of a folder under this name.
-    fn add_head(&self, heads: &mut Vec<NamedRef>, name: &str, folder: &str) -> Result<(), Fault> {
+    fn add_head(
+        &mut self,
+        heads: &mut Vec<NamedRef>,
+        name: &str,
+        folder: &str,
+    ) -> Result<(), Fault> {
         let path = joined(self.rt.alloc(), folder, "HEAD")?;
         let target = match self.read_file(path.as_str()) {
             Ok(Some(target)) => target,
@@ -176,7 +179,7 @@ where
 
     /// Adds a ref to a list, unless it is damaged or leads to none.
     fn add_ref(
-        &self,
+        &mut self,
         listed: &mut Listed,
         name: &str,
         target: &Target,
@@ -220,8 +223,9 @@ where
         Ok(())
     }
 
-    /// All packed refs.
-    fn all_packed(&self) -> Result<Packed, Fault> {
+    /// The packed refs. A name that can't be that of a ref is passed over, as by git. One that isn't UTF-8 is a ref for git: it is passed over
+    /// where another one is looked for, and a fault where all are listed.
+    pub(crate) fn all_packed(&self, finds_one: bool) -> Result<Packed, Fault> {
         let alloc = self.rt.alloc();
         let text = self.read_packed()?;
         let mut all = BTreeMap::new(alloc);
@@ -230,10 +234,11 @@ where
                 Ok(packed) => {
                     all.insert(String::from_str(alloc, packed.name)?, packed.id)?;
                 }
-                // A name that no path can be is no ref for git either; one that isn't UTF-8 is.
                 Err(RefFault::Name) => {}
                 Err(fault) => {
-                    return Err(fault_of(self.path_of("packed-refs")?, Damage::Ref(fault)));
+                    if fault != RefFault::NotText || !finds_one {
+                        return Err(fault_of(self.path_of("packed-refs")?, Damage::Ref(fault)));
+                    }
                 }
             }
         }

@@ -22,6 +22,9 @@ pub enum Fault {
     /// No ref has this name, and no object an id that begins so.
     #[error("{0:?}: no ref and no object is called so")]
     Unknown(String),
+    /// All refs are asked for, and this one is damaged.
+    #[error("broken ref: {0:?}")]
+    BrokenRef(String),
     /// The ids of several objects begin so.
     #[error("{word:?}: the ids of several objects begin so: {ids}")]
     Ambiguous {

@@ -134,8 +134,8 @@ where
     }
 }
 
-/// Adds the refs of a set that lead to commits, by rising names, and the HEADs behind them. A ref that leads to another object, or whose
-/// object isn't there, is left out.
+/// Adds the refs of a set that lead to commits, by rising names, and the HEADs behind them. A ref that leads to an object of another
+/// kind is left out.
 ///
 /// # Errors
 ///
@@ -156,8 +156,11 @@ where
         Set::Branches => "refs/heads/",
         Set::Tags => "refs/tags/",
     };
-    let refs = repository.refs_below(prefix)?;
-    for named in refs.iter() {
+    let listed = repository.list_below(prefix)?;
+    if let Some(name) = listed.broken.first() {
+        return Err(Fault::BrokenRef(name.clone()?));
+    }
+    for named in listed.refs.iter() {
         add_commit(alloc, repository, named.name.as_str(), &named.id, found)?;
     }
     if set == Set::All {
@@ -187,7 +190,7 @@ where
             let is_hidden = false;
             push(alloc, found, name, Chosen::One { id, is_hidden })
         }
-        Err(StepFault::Kind(..) | StepFault::Missing(_)) => Ok(()),
+        Err(StepFault::Kind(..)) => Ok(()),
         Err(fault) => Err(fault_of_steps(alloc, name, fault)),
     }
 }

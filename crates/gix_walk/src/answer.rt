@@ -157,6 +157,9 @@ impl Asking<'_> {
         output: &mut W,
     ) -> Result<u8, Failure> {
         let alloc = self.rt.alloc();
+        if self.question.name == Name::Resolve && self.chosen.pairs.is_empty() {
+            return self.write_ids(output);
+        }
         let ids = self.chosen.all(alloc)?;
         let order = match self.question.name {
             Name::Newest => Order::NewestFirst,
@@ -233,6 +236,16 @@ impl Asking<'_> {
         Err(Failure::Command(Fault::Internal))
     }
 
+    /// Writes the id of each revision, those that are excluded with `^` and behind the others.
+    fn write_ids<W: Write>(&self, output: &mut W) -> Result<u8, Failure> {
+        let words = self.chosen.words(self.rt.alloc(), self.question)?;
+        for word in words.iter().skip(1) {
+            write(output, word.as_bytes())?;
+            write(output, b"\n")?;
+        }
+        Ok(0)
+    }
+
     /// Answers a question about commits from the objects that were read, and rows.
     fn finish<W: Write>(
         &mut self,
@@ -253,13 +266,7 @@ impl Asking<'_> {
         }
         let words = self.chosen.words(alloc, self.question)?;
         match name {
-            Name::Resolve => {
-                for word in words.iter().skip(1) {
-                    write(output, word.as_bytes())?;
-                    write(output, b"\n")?;
-                }
-                Ok(0)
-            }
+            Name::Resolve => self.write_ids(output),
             Name::Contains => {
                 let mut lines = Vec::new(alloc);
                 run_stored(alloc, words.as_slice(), store, graph, &mut lines)?;

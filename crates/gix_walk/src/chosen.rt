@@ -53,6 +53,11 @@ pub(crate) fn choose(
             Err(failure) => return Err(failure),
         }
     }
+    for ambiguous in repository.ambiguous().iter() {
+        let word = ambiguous.word.as_str();
+        let name = ambiguous.name.as_str();
+        let _ = eprintln!(rt; "gix_walk: several refs are called {word:?}: {name:?} is taken");
+    }
     if question.options.is_verbose {
         for one in resolved.iter() {
             say(rt, one);
