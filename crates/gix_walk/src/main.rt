@@ -1,11 +1,11 @@
 //! Lists the commits that some commits reach, or the files of a tree, from a stream of a repository's objects or from their folder.
 #![tactic(auto)]
 
-use gix_commands::{Fault, run, run_in, run_over, write_heads};
+use gix_commands::{Fault, run, run_in, run_over, run_stored, write_heads};
 use gix_gather::{commits, trees};
 use gix_hash::ObjectId;
 use gix_odb::Odb;
-use gix_records::{READS, check_names, read_to_end};
+use gix_records::{NamedObjects, READS, check_names, read_to_end};
 use gix_words::{Command, read_command};
 use std::io::Read;
 use std::process::ExitCode;
@@ -82,7 +82,7 @@ fn answer(rt: &HostRuntime) -> Result<(), Failure> {
 
 /// Runs the command over the objects of a folder.
 fn serve_folder(rt: &HostRuntime, folder: &String, words: &[String]) -> Result<(), Failure> {
-    let records = match read_command(rt.alloc(), words)? {
+    let objects = match read_command(rt.alloc(), words)? {
         Command::Commits { tips, hidden, .. } => gather(rt, folder, tips, hidden.as_slice())?,
         Command::Files { tree, .. } => {
             let mut odb = Odb::open(rt, folder.as_str(), tree.kind())?;
@@ -91,7 +91,7 @@ fn serve_folder(rt: &HostRuntime, folder: &String, words: &[String]) -> Result<(
         Command::Ahead { one, other } => gather(rt, folder, ids_of(rt, one)?, &[other])?,
         Command::Contained { tip, ids } => gather(rt, folder, ids, &[tip])?,
     };
-    run_in(rt.alloc(), words, records.as_slice(), &mut rt.stdout())?;
+    run_stored(rt.alloc(), words, &objects.store(), None, &mut rt.stdout())?;
     Ok(())
 }
 
@@ -102,20 +102,20 @@ fn ids_of(rt: &HostRuntime, id: ObjectId) -> Result<Vec<ObjectId>, Fault> {
     Ok(ids)
 }
 
-/// The records of the commits of a folder that these and those ids reach.
+/// The commits of a folder that these and those ids reach.
 fn gather(
     rt: &HostRuntime,
     folder: &String,
     ids: Vec<ObjectId>,
     more: &[ObjectId],
-) -> Result<Vec<u8>, Failure> {
+) -> Result<NamedObjects, Failure> {
     let mut ids = ids;
     ids.extend_from_slice(more).map_err(|_| Fault::Memory)?;
     let Some(first) = ids.as_slice().first() else {
         return Err(Failure::Command(Fault::Usage));
     };
     let mut odb = Odb::open(rt, folder.as_str(), first.kind())?;
-    Ok(commits(rt.alloc(), &mut odb, ids.as_slice())?)
+    Ok(commits(rt.alloc(), &mut odb, ids.as_slice(), None)?)
 }
 
 /// Runs the command over the records of standard input, and the layers of a commit-graph that options name.
