@@ -1,12 +1,12 @@
 -- What a checked walk gives, its walk gives, and the parents of each commit behind which it goes on are there.
-use Rattle.std.proofs.Common.{◌≡◌, ◌≢◌, ◌+◌, ◌-◌, ◌⊎◌, ◌<◌, ℕ, zero, suc, List, [], ◌∷◌, ◌++◌, length, take, Contains, Option, None, Some, Result, Ok, Err, refl, sym, ap, subst, ◌∙◌, ⊎_elim, arith, inl, inr, take_all, take_at}
-use Rattle.std.specs.Iterator.{Yields, YieldsThen}
-use Rattle.gix_commands.proofs.Common.{Contains-cons_cases, Contains-append_cases, no_member, only_member, Objects, GraphRow, Info, Fault, Ends, EndsBy, EndsWithin, finished, cut_short, enough, before}
+use Rattle.std.proofs.Common.{◌≡◌, ◌+◌, ◌-◌, ◌⊎◌, ℕ, zero, suc, List, [], ◌∷◌, ◌++◌, length, take, Contains, Option, None, Some, Result, Ok, Err, refl, sym, ap, subst, ◌∙◌, ⊎_elim, arith, inl, inr, take_all, take_at}
+use Rattle.std.specs.Iterator.{Yields}
+use Rattle.gix_commands.proofs.Common.{Contains-cons_cases, Contains-append_cases, no_member, only_member, Objects, GraphRow, Info, Fault, Ends, EndsBy, finished, cut_short, enough, before}
 use Rattle.std.proofs.lemmas.List.{length-append}
 use Rattle.gix_simple.specs.declared.Error.{Error}
 use Rattle.gix_words.specs.declared.fault.Fault.TheVariants as fault
 use Rattle.gix_words.specs.Faults.{fault_of_walk}
-use Rattle.gix_commands.specs.Checked.{AsksForMore, CheckedWalk, Checks, HasParents, HaveParents, LacksParent, Looks, first_lost, gone_on, ended, failed, gave, lost}
+use Rattle.gix_commands.specs.Checked.{AsksForMore, CheckedWalk, Checks, HasParents, HaveParents, LacksParent, Looks, gone_on, ended, failed, gave, lost}
 use Rattle.gix_commands.specs.Walked.{Walk, Answers, IsWalkFault, given}
 use Rattle.gix_commands.specs.Walked as walked
 

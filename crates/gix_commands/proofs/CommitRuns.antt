@@ -1,6 +1,6 @@
 -- What a run of `breadth`, `newest` or `oldest` writes, by what commits reach.
 use Rattle.std.proofs.Common.{◌≡◌, ◌≢◌, ℕ, ℤ, Contains, List, [], ◌∷◌, ◌++◌, map, filter, not, Option, None, Some, Result, Ok, Err, IsSome, refl, sym, ap, subst, ◌∙◌}
-use Rattle.gix_commands.proofs.Common.{Appends, commit_at, ReadsWhole, IsSimpleList, Contains-append_left, Contains-append_right, ObjectId, filter_within, get, Object, Objects, GraphRow, IsAgreeing, Info, Parents, cutoff, is_older, time_order, step, by_mode}
+use Rattle.gix_commands.proofs.Common.{Appends, commit_at, ReadsWhole, IsSimpleList, Contains-append_left, Contains-append_right, ObjectId, get, Object, Objects, GraphRow, IsAgreeing, Info, Parents, cutoff, is_older, time_order, step, by_mode}
 use Rattle.gix_commands.proofs.Common.{parents_of, time_of, text_next, reach_more, walked_within, Fault, Simple, AreWhole, IsPartOf, IsSimpleBy, ListsBy, SimpleListsRead, SimpleLists, SimpleListsOfPart, EndsWell, followed}
 use Rattle.gix_commands.proofs.Common.{kept_tips, lines_of_ids, stored, Runs, walked, without_memory, no_command, not_read, bad_record, served, Ends, StartsFrom, finished, lines_of, line_of, Request, Commits, request_of, only_reading}
 use Rattle.gix_commands.proofs.Common.{no_bad_record, none_agree, commit_stored, no_start, whole_from}
@@ -8,11 +8,11 @@ use Rattle.gix_object.specs.declared.Kind.TheVariants as object
 use Rattle.gix_revwalk.specs.declared.Parents.TheVariants as mode
 use Rattle.gix_simple.specs.declared.Sorting.{Sorting}
 use Rattle.gix_simple.specs.declared.Sorting.TheVariants as sorting
-use Rattle.gix_hash.specs.Reach.{Reaches, start}
+use Rattle.gix_hash.specs.Reach.{Reaches}
 use Rattle.gix_records.specs.Records.{Record, AreRecords}
 use Rattle.gix_commands.specs.Run.{Serves}
 use Rattle.gix_commands.specs.Walked.{Walk, Answers, IsWalkFault}
-use Rattle.gix_commands.proofs.KeptLists.{cut_all, filter_same, followed_reaches, tips_kept}
+use Rattle.gix_commands.proofs.KeptLists.{filter_same, followed_reaches, tips_kept}
 use Rattle.gix_commands.specs.Checked.{GoesOnWhole}
 use Rattle.gix_commands.proofs.LostParents.{whole_all}
 use Rattle.gix_commands.proofs.SimpleRuns.{all_read, all_stored, given_with, listed_none, listed_text, listed_whole, no_ids, none_listed, tips_read}

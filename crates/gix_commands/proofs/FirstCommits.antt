@@ -1,6 +1,6 @@
 -- What a run writes that has a limit, by what commits reach.
 use Rattle.std.proofs.Common.{◌≡◌, ◌≢◌, ◌<◌, ◌-◌, ℕ, List, [], ◌∷◌, ◌++◌, length, Contains, take, false, Option, None, Some, Ok, refl, sym, ap, subst, ◌∙◌, arith, take_all}
-use Rattle.gix_commands.proofs.Common.{Yields, by_mode, filter_within, followed, time_of, new_ids, whole_from, AreWhole, IsBeginning, ReadsParents, Appends, ObjectId, Objects, GraphRow, stored, Info, Parents, IsAgreeing, text_next, none_agree, time_order, Simple, Topo, IsPartOf, IsSimpleBy, IsSimpleList, ListsRead, SimpleBegins}
+use Rattle.gix_commands.proofs.Common.{Yields, by_mode, filter_within, followed, time_of, new_ids, whole_from, AreWhole, IsBeginning, ReadsParents, Appends, ObjectId, Objects, GraphRow, stored, Info, Parents, IsAgreeing, text_next, none_agree, time_order, Simple, Topo, IsPartOf, IsSimpleList, ListsRead, SimpleBegins}
 use Rattle.gix_commands.proofs.Common.{SimpleBeginsOfPart, SimpleListsRead, TopoBegins, TopoBeginsOfPart, kept_tips, lines_of_ids, walked, walked_down, StartsFrom, EndsWithin, enough, before, lines_of, Commits}
 use Rattle.std.proofs.lemmas.List.{length-map}
 use Rattle.gix_simple.specs.declared.Sorting.{Sorting}

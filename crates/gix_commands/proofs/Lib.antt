@@ -39,6 +39,7 @@ mod AheadRuns
 mod ContainedRuns
 mod TextNumbers
 mod OverGraphs
+mod OverStores
 mod ToldRuns
 mod SameNumbers
 mod SameCommits

@@ -16,7 +16,7 @@ use Rattle.gix_records.specs.Reading.{IsReadFrom, IsReadFault}
 use Rattle.gix_records.specs.Reading as reading
 use Rattle.gix_records.specs.Records.{Record, AreRecords}
 use Rattle.gix_simple.specs.declared.Sorting.TheVariants as sorting
-use Rattle.gix_commands.specs.Checked.{CheckedWalk, Checks, GoesOnWhole, first_lost}
+use Rattle.gix_commands.specs.Checked.{CheckedWalk, Checks, first_lost}
 use Rattle.gix_commands.specs.Run as run
 use Rattle.gix_commands.specs.Run.{Serves, listed, misnamed, not_written}
 use Rattle.gix_commands.specs.TopoWalked as topo

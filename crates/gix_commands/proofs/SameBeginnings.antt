@@ -1,5 +1,5 @@
 -- The beginning of a list goes by what is named behind all of its commits but the last.
-use Rattle.std.proofs.Common.{◌≡◌, ◌≢◌, ◌≤◌, ◌<◌, ◌-◌, ℕ, zero, suc, ℤ, List, [], ◌∷◌, ◌++◌, length, take, slice_get, Option, None, Some, Contains, flat_map, refl, sym, ap, subst, ⊎_elim, ◌∙◌, arith}
+use Rattle.std.proofs.Common.{◌≡◌, ◌≢◌, ◌≤◌, ◌<◌, ◌-◌, ℕ, zero, suc, ℤ, List, [], ◌∷◌, ◌++◌, length, take, Option, None, Some, Contains, flat_map, refl, sym, ap, subst, ⊎_elim, ◌∙◌, arith}
 use Rattle.gix_commands.proofs.Common.{transport, Contains-append_cases, Contains-cons_cases, Contains-here, Contains-there, no_member, ObjectId, CommitTimeOrder, first_new, IsBeginning, IsNoWorse}
 use Rattle.std.proofs.lemmas.Option.{slice_get_within}
 use Rattle.gix_revwalk.specs.TimeOrder.{IsBest, IsPending}

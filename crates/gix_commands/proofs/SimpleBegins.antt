@@ -1,5 +1,5 @@
 -- What a simple walk over records gives up to a limit: the first commits of a list of what is reached.
-use Rattle.std.proofs.Common.{◌≡◌, ◌≢◌, ◌-◌, ℕ, ℤ, List, [], ◌∷◌, ◌++◌, length, map, take, filter, Bool, true, false, not, Option, None, Some, Ok, Contains, refl, sym, ap, subst, ◌∙◌, arith}
+use Rattle.std.proofs.Common.{◌≡◌, ◌≢◌, ◌-◌, ℤ, List, [], ◌∷◌, ◌++◌, length, map, take, filter, Bool, true, false, not, Option, None, Some, Ok, Contains, refl, sym, ap, subst, ◌∙◌, arith}
 use Rattle.gix_commands.proofs.Common.{by_mode, ReadsParents, Yields, transport, false≢true, Contains-append_left, ObjectId, is_among, among_from, among_is, filter_within, Objects, GraphRow, CommitTimeOrder, Info, Parents, IsAgreeing, parents_of, time_of}
 use Rattle.gix_commands.proofs.Common.{ids_of, new_ids, text_next, reach_more, reached_list, text_whole, GivesBeginning, IsBeginning, IsBegunRun, time_order, all_kept, begun_once, begun_whole, no_start, whole_from, named_all}
 use Rattle.gix_commands.proofs.Common.{reached_known, AreWhole, IsSimpleBy, IsSimpleList, ListsBy, followed, kept_tips, StartsFrom, objects_of, never_faulty, accepts_all}

@@ -6,6 +6,7 @@ pub mod Files
 pub mod Lister
 pub mod Ahead
 pub mod Run
+pub mod StoredRuns
 pub mod Histories
 pub mod Listings
 pub mod Output

@@ -2,7 +2,7 @@
 //! to a line for each.
 //!
 //! [`run`] takes the words of a command, a reader of records and a writer; [`run_in`] takes records in memory in place of a reader, and
-//! [`run_over`] also takes the files of a commit-graph. What they write is stated by the laws of [`laws`].
+//! [`run_over`] also takes the files of a commit-graph, and [`run_stored`] takes a store. What they write is stated by the laws of [`laws`].
 #![tactic(auto)]
 
 ghost use Rattle.std.specs.Prelude.{◌≡◌, ◌≢◌, ℕ, List, map, Some, Err, string_bytes};
@@ -24,6 +24,7 @@ mod graph;
 pub mod laws;
 mod output;
 mod over;
+mod stored;
 
 use ahead::write_ahead;
 use checked::Checked;
@@ -42,6 +43,7 @@ use output::write_commits;
 pub use over::run_over;
 use std::alloc::Global;
 use std::io::{Read, Write};
+pub use stored::run_stored;
 
 /// Runs the command that the words are over the records that the reader gives. The words are tested first, then the input is read
 /// whole, then the walk runs.

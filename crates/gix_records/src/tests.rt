@@ -1,4 +1,5 @@
 use super::*;
+use gix_names::is_named;
 use gix_object::Kind;
 use gix_object::find::Find;
 use std::test::Fail;
@@ -68,6 +69,27 @@ fn the_first_object_under_another_id_is_named(rt: HostRuntime) -> Result<(), Fai
     let text = "record 2: 4b825dc642cb6eb9a060e54bf8d69288fbee4904 isn't the hash of its bytes";
     let printed = error.to_string(rt.alloc())?;
     assert_eq!(rt; printed.as_str(), text);
+    Ok(())
+}
+
+#[test]
+fn objects_that_were_compared_are_found(rt: HostRuntime) -> Result<(), Fail> {
+    let alloc = rt.alloc();
+    let Ok(id) = ObjectId::from_hex(b"c57eff55ebc0c54973903af5f72bac72762cf4f4") else {
+        return Err(Fail::new(format_args!("no id")));
+    };
+    let bytes = b"Hello World!".as_slice();
+    let mut objects = NamedObjects::new(alloc);
+    assert!(rt; objects.is_empty());
+    if is_named(&id, Kind::Blob, bytes) {
+        objects.insert(id, Kind::Blob, bytes)?;
+    }
+    assert!(rt; objects.contains(&id));
+    let store = objects.store();
+    let mut buf = Vec::new(alloc);
+    assert_eq!(rt; store.find_into(&id, &mut buf), Ok(Some(Kind::Blob)));
+    assert_eq!(rt; buf.as_slice(), bytes);
+    assert_eq!(rt; store.len(), 1);
     Ok(())
 }
 

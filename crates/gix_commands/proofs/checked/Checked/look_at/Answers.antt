@@ -1,4 +1,4 @@
-use Rattle.std.proofs.Common.{◌≡◌, ◌≢◌, Ok, Err, ap, subst}
+use Rattle.std.proofs.Common.{◌≢◌, Ok, ap, subst}
 use Rattle.gix_commands.proofs.Common.{IsExistingFault, Objects, never_faulty}
 use Rattle.gix_object.specs.declared.Kind.TheVariants as object
 use Rattle.gix_object.specs.declared.find.existing_iter.Error.TheVariants as existing

@@ -1,4 +1,4 @@
-use Rattle.std.proofs.Common.{◌≡◌, Option, None, Some, Result, Ok, Err, List, sym, ap, subst, ◌∙◌}
+use Rattle.std.proofs.Common.{◌≡◌, Option, None, Some, Result, Ok, Err, List, sym, subst, ◌∙◌}
 use Rattle.gix_commands.proofs.Common.{Info, Fault, ObjectId, rows_in}
 use Rattle.gix_simple.specs.declared.Error.{Error}
 use Rattle.gix_commands.specs.Checked.{CheckedWalk, Checks, Looks}

@@ -1,0 +1,59 @@
+-- What a run over a store may answer.
+use Rattle.std.proofs.Common.{◌≡◌, ◌≢◌, ℕ, List, [], Option, Some, Result, Ok, Err, refl, sym, subst, arith, ◌∙◌}
+use Rattle.gix_commands.proofs.Common.{Objects, GraphRow, stored, Fault, fault_of_disagreement, Runs, never_faulty, Request, request_of}
+use Rattle.gix_graph_check.specs.Sound.{AreSound}
+use Rattle.gix_graph_check.specs.declared.Disagreement.{Disagreement}
+use Rattle.gix_graph_check.specs.declared.Disagreement.TheVariants as disagreement
+use Rattle.gix_graph_store.specs.StoredRows.{StoredDisagrees}
+use Rattle.gix_records.specs.Records.{Record, AreRecords}
+use Rattle.gix_words.specs.declared.fault.Fault.TheVariants as fault
+use Rattle.gix_commands.specs.Run as run
+use Rattle.gix_commands.specs.Run.{Serves}
+use Rattle.gix_commands.specs.StoredRuns.{FailsToAgree, RunsStored, unsound, disagrees, no_memory, without_memory, no_command, not_agreed, served}
+use Rattle.gix_commands.proofs.MemoryFaults.{failed_so}
+use Rattle.gix_commands.proofs.RunFacts.{err_same, without_rows}
+
+-- what is stored isn't as the rows say
+pub of_disagreement : (rows : List GraphRow) (objects : Objects) (why : Disagreement) → AreSound rows → StoredDisagrees objects (never_faulty objects) rows why → FailsToAgree rows objects (fault_of_disagreement why)
+of_disagreement rows objects (disagreement.Row i) sound d = disagrees i sound d
+of_disagreement rows objects (disagreement.Store i) sound d = absurd d.disagrees.1
+of_disagreement rows objects disagreement.Memory sound d = no_memory
+
+fails_known : {rows : List GraphRow} {objects : Objects} {e : Fault} → FailsToAgree rows objects e → e ≢ fault.Internal
+fails_known (unsound i u) = λ e. cc
+fails_known (disagrees i s d) = λ e. cc
+fails_known no_memory = λ e. cc
+
+-- without rows only memory can run out
+fails_without_rows : {objects : Objects} {e : Fault} → FailsToAgree [] objects e → e ≡ fault.Memory
+fails_without_rows (unsound i u) = let within = u.within in absurd (omega (arith, within))
+fails_without_rows (disagrees i s d) = let within = d.within in absurd (omega (arith, within))
+fails_without_rows no_memory = refl
+
+module _ (words : List (List ℕ)) (objects : Objects) (rows : List GraphRow) (old : Option (List ℕ)) where
+  -- the words were no command
+  pub stored_words : (result : Result (Unit {0}) Fault) (e : Fault) → result ≡ Err e → (e ≢ fault.Memory → request_of words ≡ Err e) → RunsStored words objects rows old result old
+  stored_words result e same h = failed_so (λ r. RunsStored words objects rows old r old) without_memory result e same (λ other. no_command (h other))
+
+  module _ (request : Request) (t : request_of words ≡ Ok request) where
+    -- the rows can't be used
+    pub stored_unagreed : (result : Result (Unit {0}) Fault) (e : Fault) → result ≡ Err e → FailsToAgree rows objects e → RunsStored words objects rows old result old
+    stored_unagreed result e same h = subst (λ (r : Result (Unit {0}) Fault). RunsStored words objects rows old r old) (sym same) (not_agreed request t h)
+
+pub unagreed_sound : {rows : List GraphRow} {objects : Objects} (result : Result (Unit {0}) Fault) (e : Fault) → result ≡ Err e → FailsToAgree rows objects e → result ≢ Err fault.Internal
+unagreed_sound result e same h = λ internal. fails_known h (err_same (sym same ∙ internal))
+
+-- a run without rows over the objects of records is one over the records
+stored_alone : {words : List (List ℕ)} {objects : Objects} {old new : Option (List ℕ)} {answer : Result (Unit {0}) Fault} → RunsStored words objects [] old answer new
+    → (input : List ℕ) (records : List Record) → AreRecords records input → objects ≡ stored records → Runs words (Some input) old answer new
+stored_alone without_memory input records are same = run.without_memory
+stored_alone (no_command t) input records are same = run.no_command t
+stored_alone {words} {objects} {old} (not_agreed request {e = e} t h) input records are same =
+    subst (λ (f : Fault). Runs words (Some input) old (Err f) old) (sym (fails_without_rows h)) run.without_memory
+stored_alone {words} {objects} {old} {new} {answer} (served request t sound agree s) input records are same =
+    run.served request input records t refl are (subst (λ (o : Objects). Serves o [] old request answer new) (without_rows objects ∙ same) s)
+
+pub stored_runs : {words : List (List ℕ)} {objects : Objects} {rows : List GraphRow} {old new : Option (List ℕ)} {answer : Result (Unit {0}) Fault} → RunsStored words objects rows old answer new
+    → (input : List ℕ) (records : List Record) → AreRecords records input → objects ≡ stored records → rows ≡ [] → Runs words (Some input) old answer new
+stored_runs {words} {objects} {rows} {old} {new} {answer} ran input records are same none =
+    stored_alone (subst (λ (r : List GraphRow). RunsStored words objects r old answer new) none ran) input records are same

@@ -1,0 +1,80 @@
+//! A run over a store and rows that are there.
+
+ghost use Rattle.std.specs.Prelude.{◌≡◌, ◌≢◌, ℕ, List, [], map, Some, Err, string_bytes, OnOk, IfErr};
+ghost use Rattle.gix_graph_check.specs.Sound.{AreSound};
+ghost use Rattle.gix_graph_store.specs.Laws.{StoredAgree};
+ghost use Rattle.gix_graph_store.specs.WithRows.{with_rows};
+ghost use Rattle.gix_records.specs.Records.{Record, AreRecords, stored};
+ghost use Rattle.gix_revwalk.specs.Agreeing.{IsAgreeing, rows_in};
+ghost use Rattle.gix_commands.specs.StoredRuns.{FailsToAgree, RunsStored};
+ghost use Rattle.gix_commands.specs.WholeStatement.{Promises};
+
+use crate::serve;
+use gix_graph_check::first_unsound;
+use gix_graph_store::check_stored;
+use gix_parts::graph::Graph;
+use gix_parts::records::LentStore;
+use gix_words::{Fault, read_command};
+use std::alloc::Global;
+use std::io::Write;
+
+/// Runs the command that the words are, as [`run`](crate::run) does, over a store, and over the rows of a commit-graph where there is one.
+/// Only commits that have no row need to be in the store.
+///
+/// The words are tested first, then the rows, then the store is compared with them, then the walk runs.
+///
+/// # Errors
+/// Those of [`run_over`](crate::run_over), but never `Read`, `Record` and `Graph`.
+pub fn run_stored<W: Write>(
+    alloc: Global,
+    words: &[String],
+    store: &LentStore<'_>,
+    graph: Option<&Graph>,
+    writer: &mut W,
+) -> Result<(), Fault>
+    ensures runs { RunsStored (map string_bytes words.now) store.now (rows_in graph.entry) (W.contents writer.old) result (W.contents writer.new) }
+    ensures sound { result ≢ Err Fault.Internal }
+    // What was written by a run without rows that ended well, from lists of bytes up, where the store is that of some records.
+    ensures whole { (input : List ℕ) (records : List Record) → AreRecords records input → store.now ≡ stored records → rows_in graph.entry ≡ [] → Promises (map string_bytes words.now) (Some input) (W.contents writer.old) result (W.contents writer.new) }
+{
+    let command = read_command(alloc, words)?;
+    check_rows(alloc, store, graph)?;
+    serve(alloc, command, store, graph, writer)
+}
+
+/// Tests that the rows, if there are any, can be used together with the store.
+///
+/// # Errors
+/// Those of `check_graph`.
+fn check_rows(alloc: Global, store: &LentStore<'_>, graph: Option<&Graph>) -> Result<(), Fault>
+    ensures sound { OnOk result (AreSound (rows_in graph.entry)) }
+    ensures stored { OnOk result (StoredAgree (rows_in graph.entry) store.now) }
+    ensures agrees { OnOk result (IsAgreeing (with_rows (rows_in graph.entry) store.now) (rows_in graph.entry)) }
+    ensures fault { IfErr result (FailsToAgree (rows_in graph.entry) store.now) }
+{
+    match graph {
+        Some(graph) => check_graph(alloc, store, graph),
+        None => Ok(()),
+    }
+}
+
+/// Tests that the rows can be used together with the store.
+///
+/// # Errors
+/// `Row` with the id of the first row, in rising order of ids, that isn't sound. `Disagrees` with that of the first row at whose id the
+/// store has something else. `Memory`.
+fn check_graph(alloc: Global, store: &LentStore<'_>, graph: &Graph) -> Result<(), Fault>
+    ensures sound { OnOk result (AreSound graph.now) }
+    ensures stored { OnOk result (StoredAgree graph.now store.now) }
+    ensures agrees { OnOk result (IsAgreeing (with_rows graph.now store.now) graph.now) }
+    ensures fault { IfErr result (FailsToAgree graph.now store.now) }
+{
+    if graph.num_commits() == 0 {
+        return Ok(());
+    }
+    if let Some(id) = first_unsound(graph) {
+        return Err(Fault::Row(id));
+    }
+    check_stored(alloc, graph, store)?;
+    Ok(())
+}
