@@ -1,7 +1,7 @@
 -- Lists by falling turn: one more behind all others, one taken out, and one list of what was put in.
-use Rattle.std.proofs.Common.{◌≡◌, ◌+◌, ◌==◌, ◌<◌, ◌≤◌, ◌<ℤ◌, ◌≤ℤ◌, ℕ, suc, ℤ, nat_lt, List, [], ◌∷◌, ◌++◌, length, map, Bool, true, false, cond, sum_by, All, Contains, IsPermutation, Some, refl, sym, ap, subst, ⊎_elim, ◌∙◌, arith, append-nil, is_lt, int_cmp, nat_cmp}
+use Rattle.std.proofs.Common.{◌≡◌, ◌==◌, ◌<◌, ◌≤◌, ◌<ℤ◌, ◌≤ℤ◌, ℕ, suc, ℤ, nat_lt, List, [], ◌∷◌, ◌++◌, length, map, Bool, true, false, cond, sum_by, All, Contains, IsPermutation, Some, refl, sym, ap, subst, ⊎_elim, ◌∙◌, arith, append-nil, is_lt, int_cmp, nat_cmp}
 use Rattle.std.proofs.lemmas.List.{map-append}
-use Rattle.std.proofs.lemmas.List.Elements.{All-nil, All-cons, All-tail, All-head, All-weaker, All-contains, All-map, All-append}
+use Rattle.std.proofs.lemmas.List.Elements.{All-nil, All-cons, All-tail, All-head, All-weaker, All-contains, All-map}
 use Rattle.std.proofs.lemmas.List.Sorted.{IsPermutation-refl, IsPermutation-sym, IsPermutation-cons, IsPermutation-trans, IsPermutation-middle, IsPermutation-map, All-permutation, Contains-permutation, sum_by-IsPermutation}
 use Rattle.std.proofs.lemmas.List.Sums.{sum_by-cons}
 use Rattle.std.proofs.lemmas.Int.{ints}
