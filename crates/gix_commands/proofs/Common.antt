@@ -51,7 +51,7 @@ pub use Rattle.gix_records.proofs.RecordFacts.{no_bad_record, only_reading}
 pub use Rattle.gix_revwalk.proofs.Reached.{reach_more, reaches_from}
 pub use Rattle.gix_revwalk.proofs.ReadsWhole.{no_fault, row_parents, row_stands, scan_is, walked_within}
 pub use Rattle.gix_revwalk.proofs.Rows.{kept_either, none_agree}
-pub use Rattle.gix_revwalk.proofs.SomeOrder.{best_of, breadth_exists, reached_list}
+pub use Rattle.gix_revwalk.proofs.SomeOrder.{breadth_exists, reached_list}
 pub use Rattle.gix_revwalk.proofs.TextParents.{commit_stored, text_whole}
 pub use Rattle.gix_simple.proofs.Corollaries.{all_kept, begun_once, each_once}
 pub use Rattle.gix_simple.proofs.Difference.{begun_whole, drawn_whole, loosened, no_start, whole_from}

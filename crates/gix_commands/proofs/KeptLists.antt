@@ -4,7 +4,7 @@ use Rattle.gix_commands.proofs.Common.{not-true, not_from_false, false_from_ne_t
 use Rattle.gix_commands.proofs.Common.{Pending, by_mode, time_of, first_new, named_by, ids_of, new_ids, walked_within, IsInOrder, cutoff, is_older, all_kept, each_once, IsInWalk, ListsBy, followed, kept_tips}
 use Rattle.gix_hash.specs.Reach.{Reaches, Tells, start}
 use Rattle.gix_revwalk.specs.declared.Parents.TheVariants as mode
-use Rattle.gix_revwalk.specs.TimeOrder.{IsBest, IsPending}
+use Rattle.gix_revwalk.specs.TimeOrder.{IsNextByTime, IsPending}
 use Rattle.gix_simple.specs.declared.Sorting.{Sorting}
 use Rattle.gix_simple.specs.Building.{recent, timed}
 use Rattle.gix_commands.proofs.SameOrders.{in_new, new_in, filtered, filtered_in}
@@ -89,7 +89,7 @@ none_first next zero = refl
 none_first next (suc k) = refl
 
 none_best : (order : CommitTimeOrder) (time : ObjectId → ℤ) (next : ObjectId → List ObjectId) (k : ℕ)
-    → MatchOption (slice_get [] k) ((i : ObjectId) → IsPending next [] (take k []) i → ⊥) (IsBest order time (IsPending next [] (take k [])))
+    → MatchOption (slice_get [] k) ((i : ObjectId) → IsPending next [] (take k []) i → ⊥) (IsNextByTime order time next [] (take k []))
 none_best order time next zero = λ i p. no_member i p.0
 none_best order time next (suc k) = λ i p. no_member i p.0
 

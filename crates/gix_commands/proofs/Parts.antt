@@ -1,11 +1,11 @@
 -- What holds of a part of a store holds of the whole store, where all that is reached in the part is whole there.
-use Rattle.std.proofs.Common.{◌≡◌, ℕ, zero, suc, ℤ, List, [], ◌∷◌, ◌++◌, filter, take, slice_get, false, not, Option, None, Some, Contains, IsSome, MatchOption, flat_map, refl, sym, ap, subst, ⊎_elim, ◌∙◌}
+use Rattle.std.proofs.Common.{◌≡◌, ℕ, zero, suc, ℤ, List, [], ◌∷◌, ◌++◌, filter, take, slice_get, find, Bool, true, false, not, ◌&&◌, if◌then◌else◌, Option, None, Some, Contains, IsSome, MatchOption, flat_map, refl, sym, ap, subst, ⊎_elim, ◌∙◌}
 use Rattle.gix_commands.proofs.Common.{get, transport, false≢true, Contains-append_left, Contains-append_right, Contains-append_cases, ObjectId, Object, Objects, CommitTimeOrder, Parents, step, IsBreadthOrder, first_new, by_mode}
-use Rattle.gix_commands.proofs.Common.{commit_at, commit_of_object, parents_in, parents_of, time_in, time_of, new_ids, IsTimeOrder, IsNoWorse, IsInOrder, cutoff, is_older, IsNumberOf, among_is, Contains-here, Contains-there}
+use Rattle.gix_commands.proofs.Common.{commit_at, commit_of_object, parents_in, parents_of, time_in, time_of, new_ids, IsTimeOrder, IsNoWorse, IsInOrder, cutoff, is_older, IsNumberOf, is_among, among_is, among_from, Contains-here, Contains-there}
 use Rattle.gix_commands.proofs.Common.{Contains-cons_cases, no_member, filter_within, text_next, reach_more, text_whole, whole_from, IsPartOf, IsShownBy, AreWhole, ListsBy, followed}
 use Rattle.gix_simple.specs.declared.Sorting.{Sorting}
 use Rattle.gix_hash.specs.Reach.{Reaches, start}
-use Rattle.gix_revwalk.specs.TimeOrder.{IsPending, IsBest}
+use Rattle.gix_revwalk.specs.TimeOrder.{is_no_worse, IsPending, IsFirstBest}
 use Rattle.gix_simple.proofs.MadeOfTips.{fresh_among}
 use Rattle.gix_commands.specs.Histories.{IsShown}
 use Rattle.gix_commands.proofs.KeptLists.{followed_reaches}
@@ -15,9 +15,28 @@ take_within zero xs i c = absurd (no_member i c)
 take_within (suc k) [] i c = c
 take_within (suc k) (x ∷ xs) i c = ⊎_elim (λ e. subst (λ y. Contains (x ∷ xs) y) e (Contains-here x xs)) (λ t. Contains-there i x xs (take_within k xs i t)) (Contains-cons_cases i x (take k xs) c)
 
-pub retimed : (order : CommitTimeOrder) (time clock : ObjectId → ℤ) (Ends : Type 0) (P : ObjectId → Type 0) → ((i : ObjectId) → P i → time i ≡ clock i) → (o : Option ObjectId) → MatchOption o Ends (IsBest order time P) → MatchOption o Ends (IsBest order clock P)
-retimed order time clock Ends P same None h = h
-retimed order time clock Ends P same (Some i) h = record { among = h.among; best = λ j p. transport (λ k. IsNoWorse order (same i h.among k) (same j p k)) (h.best j p) }
+-- tests that agree on the names find the same
+pub find_agree : (s t : ObjectId → Bool) (names : List ObjectId) → ((j : ObjectId) → Contains names j → s j ≡ t j) → find s names ≡ find t names
+find_agree s t [] agree = refl
+find_agree s t (x ∷ names) agree = λ k. if agree x (Contains-here x names) k then Some x else find_agree s t names (λ j c. agree j (Contains-there j x names c)) k
+
+test_same : (a x y : Bool) → (a ≡ false → x ≡ y) → (not a && x) ≡ (not a && y)
+test_same true x y h = refl
+test_same false x y h = h refl
+
+pub retimed : (order : CommitTimeOrder) (time clock : ObjectId → ℤ) (Ends : Type 0) (P : ObjectId → Type 0) (names taken : List ObjectId) → ((j : ObjectId) → Contains names j → is_among j taken ≡ false → P j) → ((i : ObjectId) → P i → time i ≡ clock i)
+    → (o : Option ObjectId) → MatchOption o Ends (IsFirstBest order time P names taken) → MatchOption o Ends (IsFirstBest order clock P names taken)
+retimed order time clock Ends P names taken named same None h = h
+retimed order time clock Ends P names taken named same (Some i) h = record {
+  best = record { among = h.best.among; best = λ j p. transport (λ k. IsNoWorse order (same i h.best.among k) (same j p k)) (h.best.best j p) };
+  first = find_agree (λ j. not (is_among j taken) && is_no_worse order (clock j) (clock i)) (λ j. not (is_among j taken) && is_no_worse order (time j) (time i)) names
+      (λ j c. test_same (is_among j taken) _ _ (λ e k. is_no_worse order (sym (same j (named j c e)) k) (sym (same i h.best.among) k)))
+      ∙ h.first;
+}
+
+-- of names and ids that are taken
+pub left_pending : (names taken : List ObjectId) (j : ObjectId) → Contains names j → is_among j taken ≡ false → Contains names j × (Contains taken j → ⊥)
+left_pending names taken j c e = (c, λ t. false≢true (sym e ∙ among_from j taken t))
 
 -- an order goes by what is named next and by times, of the listed commits and of what they name alone
 module _ (In : ObjectId → Type 0) (next other : ObjectId → List ObjectId) (time clock : ObjectId → ℤ) (starts ids : List ObjectId)
@@ -43,8 +62,8 @@ module _ (In : ObjectId → Type 0) (next other : ObjectId → List ObjectId) (t
 
   time_same : (order : CommitTimeOrder) → IsTimeOrder order time next starts ids → IsTimeOrder order clock other starts ids
   time_same order h k b =
-      subst (λ xs. MatchOption (slice_get ids k) ((i : ObjectId) → Among (starts ++ xs) (take k ids) i → ⊥) (IsBest order clock (Among (starts ++ xs) (take k ids)))) (named_same (take k ids) (taken_in k))
-      (retimed order time clock ((i : ObjectId) → IsPending next starts (take k ids) i → ⊥) (IsPending next starts (take k ids)) pending_same (slice_get ids k) (h k b))
+      subst (λ xs. MatchOption (slice_get ids k) ((i : ObjectId) → Among (starts ++ xs) (take k ids) i → ⊥) (IsFirstBest order clock (Among (starts ++ xs) (take k ids)) (starts ++ xs) (take k ids))) (named_same (take k ids) (taken_in k))
+      (retimed order time clock ((i : ObjectId) → IsPending next starts (take k ids) i → ⊥) (IsPending next starts (take k ids)) (starts ++ flat_map next (take k ids)) (take k ids) (left_pending (starts ++ flat_map next (take k ids)) (take k ids)) pending_same (slice_get ids k) (h k b))
     where
       pending_same : (i : ObjectId) → IsPending next starts (take k ids) i → time i ≡ clock i
       pending_same i p = same_time i (⊎_elim (in_starts i) (named_in (take k ids) (taken_in k) i) (Contains-append_cases starts (flat_map next (take k ids)) i p.0))

@@ -2,7 +2,8 @@
 use Rattle.std.proofs.Common.{◌≡◌, ◌≢◌, ◌≤◌, ◌<◌, ◌-◌, ℕ, zero, suc, ℤ, List, [], ◌∷◌, ◌++◌, length, take, Option, None, Some, Contains, flat_map, refl, sym, ap, subst, ⊎_elim, ◌∙◌, arith}
 use Rattle.gix_commands.proofs.Common.{transport, Contains-append_cases, Contains-cons_cases, Contains-here, Contains-there, no_member, ObjectId, CommitTimeOrder, first_new, IsBeginning, IsNoWorse}
 use Rattle.std.proofs.lemmas.Option.{slice_get_within}
-use Rattle.gix_revwalk.specs.TimeOrder.{IsBest, IsPending}
+use Rattle.gix_revwalk.specs.TimeOrder.{IsFirstBest, IsPending}
+use Rattle.gix_commands.proofs.Parts.{retimed, left_pending}
 
 -- the first of a list are among more of the first
 take_less : (k n : ℕ) (xs : List ObjectId) (i : ObjectId) → k ≤ n → Contains (take k xs) i → Contains (take n xs) i
@@ -39,13 +40,8 @@ module _ (next other : ObjectId → List ObjectId) (time clock : ObjectId → �
   begins_alike None of_starts of_named h = λ k less. h k less ∙ ap (λ xs. first_new (starts ++ xs) (take k ids)) (named_so k less)
   begins_alike (Some order) of_starts of_named h = λ k i e.
       let less : k < length ids = slice_get_within ids k i e in
-      let b : IsBest order time (IsPending next starts (take k ids)) i = h k i e in
       let by_time : Some order ≢ None = λ n. cc in
       let same_time : (j : ObjectId) → IsPending next starts (take k ids) j → time j ≡ clock j =
       λ j p. ⊎_elim (of_starts by_time j) (named_at next other (λ x. time x ≡ clock x) (take k ids) (λ c x m. of_named by_time c x (in_front k less c m)) j) (Contains-append_cases starts (flat_map next (take k ids)) j p.0) in
-      let back : (j : ObjectId) → IsPending other starts (take k ids) j → IsPending next starts (take k ids) j =
-      λ j p. (subst (λ xs. Contains (starts ++ xs) j) (sym (named_so k less)) p.0, p.1) in
-      record {
-        among = (subst (λ xs. Contains (starts ++ xs) i) (named_so k less) b.among.0, b.among.1);
-        best = λ j p. transport (λ x. IsNoWorse order (same_time i b.among x) (same_time j (back j p) x)) (b.best j (back j p));
-      }
+      subst (λ xs. IsFirstBest order clock (λ j. Contains (starts ++ xs) j × (Contains (take k ids) j → ⊥)) (starts ++ xs) (take k ids) i) (named_so k less)
+      (retimed order time clock (Unit {0}) (IsPending next starts (take k ids)) (starts ++ flat_map next (take k ids)) (take k ids) (left_pending (starts ++ flat_map next (take k ids)) (take k ids)) same_time (Some i) (h k i e))

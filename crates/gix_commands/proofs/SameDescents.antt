@@ -1,13 +1,13 @@
 -- Date order and topological order are those of the statement.
-use Rattle.std.proofs.Common.{◌≡◌, ℤ, ◌≤ℤ◌, int_le, List, [], ◌∷◌, ◌++◌, filter, reverse, slice_get, Bool, true, false, cond, not, MatchOption, Contains, refl, sym, ap, subst, ◌∙◌, ⊎_elim, arith}
+use Rattle.std.proofs.Common.{◌≡◌, ℤ, ◌≤ℤ◌, int_le, List, [], ◌∷◌, ◌++◌, filter, reverse, slice_get, Bool, true, false, cond, not, ◌&&◌, MatchOption, Contains, refl, sym, ap, subst, ◌∙◌, ⊎_elim, arith}
 use Rattle.gix_commands.proofs.Common.{false≢true, ObjectId, is_among, among_from, among_is, Contains-here, Contains-there, Contains-cons_cases, no_member, NewestFirst, first_new, IsInWalk, IsFirst, AreMadeReady}
 use Rattle.std.proofs.lemmas.Int.{ints}
 use Rattle.gix_revwalk.specs.TimeOrder as times
 use Rattle.gix_topo.specs.DateOrder.{IsDateOrder}
 use Rattle.gix_topo.specs.TopoOrder as topo
 use Rattle.gix_topo.specs.WalkSet as walk
-use Rattle.gix_commands.specs.WholeStatement.{IsBest, Keeps, empty, kept, passed, IsShown, IsReady, by_time}
-use Rattle.gix_commands.proofs.SameOrders.{Throughout, reaches, reaches_back, cut, is_first}
+use Rattle.gix_commands.specs.WholeStatement.{IsBest, IsFirstBest, Keeps, empty, kept, passed, IsShown, IsReady, by_time}
+use Rattle.gix_commands.proofs.SameOrders.{Throughout, reaches, reaches_back, cut, is_first, found_first, not_taken, no_worse_test}
 
 not_false : (b : Bool) → not b ≡ false → b ≡ true
 not_false true e = refl
@@ -156,17 +156,6 @@ module _ (parents : ObjectId → List ObjectId) (time : ObjectId → ℤ) (tips 
   childless_back : (i : ObjectId) → IsReady parents parents time tips hidden [] i → walk.IsChildless parents In i
   childless_back i p = record { member = shown_back i p.0; alone = λ d c. no_member d (p.2 d (shown d c.child) c.named) }
 
-  abbrev FollowsByDate : List ObjectId → List ObjectId → Type 0
-  FollowsByDate taken rest = IsBest (λ i other. time other ≤ℤ time i) (IsReady parents parents time tips hidden taken) rest
-
-  best : (taken rest : List ObjectId) → MatchOption (slice_get rest 0) ((i : ObjectId) → walk.IsReady parents In (Contains taken) i → ⊥) (times.IsBest NewestFirst time (walk.IsReady parents In (Contains taken))) → FollowsByDate taken rest
-  best taken [] h = (λ i p. h i (ready_back taken i p))
-  best taken (i ∷ rest) h = (ready taken i h.among, λ other p. h.best other (ready_back taken other p))
-
-  pub in_date_order : (ids : List ObjectId) → IsDateOrder time parents In ids → Throughout FollowsByDate ids
-  in_date_order ids h taken rest e =
-      best taken rest (cut (λ before o. MatchOption o ((i : ObjectId) → walk.IsReady parents In (Contains before) i → ⊥) (times.IsBest NewestFirst time (walk.IsReady parents In (Contains before)))) ids h taken rest e)
-
   by_time_same : (ids : List ObjectId) → topo.by_time time ids ≡ by_time parents parents time tips hidden ids
   by_time_same [] = refl
   by_time_same (i ∷ ids) = insert_parts time i (topo.by_time time ids) (rises_by_time time ids) ∙ ap (λ xs. filter (λ j. not (int_le (time i) (time j))) xs ++ i ∷ filter (λ j. int_le (time i) (time j)) xs) (by_time_same ids)
@@ -180,6 +169,27 @@ module _ (parents : ObjectId → List ObjectId) (time : ObjectId → ℤ) (tips 
     h.4,
     keeps_last (walk.IsReady parents In (Contains (c ∷ taken))) (IsReady parents parents time tips hidden (c ∷ taken)) (ready (c ∷ taken)) (ready_back (c ∷ taken)) (parents c) [] h.1 h.3,
   )
+
+  -- of the ready ones the first of greatest time
+  abbrev AsLate : ObjectId → ObjectId → Type 0
+  AsLate i other = time other ≤ℤ time i
+
+  abbrev FollowsByDate : List ObjectId → List ObjectId → Type 0
+  FollowsByDate taken rest = (made : List ObjectId) × AreMadeReady parents parents time tips hidden (reverse taken) made × IsFirstBest AsLate (IsReady parents parents time tips hidden taken) made rest
+
+  best : (taken made rest : List ObjectId) → MatchOption (slice_get rest 0) ((i : ObjectId) → walk.IsReady parents In (Contains taken) i → ⊥) (times.IsFirstBest NewestFirst time (walk.IsReady parents In (Contains taken)) made taken)
+      → IsFirstBest AsLate (IsReady parents parents time tips hidden taken) made rest
+  best taken made [] h = (λ i p. h i (ready_back taken i p))
+  best taken made (i ∷ rest) h =
+      found_first (λ j. not (is_among j taken) && times.is_no_worse NewestFirst (time j) (time i)) (IsBest AsLate (IsReady parents parents time tips hidden taken)) made i rest h.first
+      (λ j b. ap (λ x. x && times.is_no_worse NewestFirst (time j) (time i)) (not_taken j taken b.0.1) ∙ no_worse_test NewestFirst (time j) (time i) (b.1 i (ready taken i h.best.among)))
+      (ready taken i h.best.among, λ other p. h.best.best other (ready_back taken other p))
+
+  pub in_date_order : (ids : List ObjectId) → IsDateOrder time parents In tips ids → Throughout FollowsByDate ids
+  in_date_order ids h taken rest e =
+      let at = cut (λ before o. (made : List ObjectId) × topo.IsMadeReady time parents In tips (reverse before) made × MatchOption o ((i : ObjectId) → walk.IsReady parents In (Contains before) i → ⊥) (times.IsFirstBest NewestFirst time (walk.IsReady parents In (Contains before)) made before))
+      ids h taken rest e in
+      (at.0, are_made_ready (reverse taken) at.0 at.1, best taken at.0 rest at.2)
 
   pub in_topo_order : (ids : List ObjectId) → topo.IsTopoOrder time parents In tips ids → Throughout (λ taken rest. (made : List ObjectId) × AreMadeReady parents parents time tips hidden (reverse taken) made × IsFirst (λ i. Contains taken i → ⊥) (reverse made) rest) ids
   in_topo_order ids h taken rest e =

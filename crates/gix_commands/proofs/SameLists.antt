@@ -101,7 +101,7 @@ module _ (objects : Objects) (parents : ObjectId → List ObjectId) where
   is_name_in name option mode.First (sorting.ByCommitTimeCutoff by seconds) named chosen = absurd chosen
 
   in_order_down : (name : List ℕ) (by : TopoSorting) → IsNameOf name (Topo by) → (tips ends ids : List ObjectId) → IsSorted by time parents (IsInWalk parents parents tips ends) tips ids → IsInOrder parents tips ends ids name
-  in_order_down name topo.DateOrder e tips ends ids l = subst (IsInOrder parents tips ends ids) (sym e) (λ taken rest c. page.date (in_date_order parents time tips ends ids l taken rest c))
+  in_order_down name topo.DateOrder e tips ends ids l = subst (IsInOrder parents tips ends ids) (sym e) (λ taken rest c. let t = in_date_order parents time tips ends ids l taken rest c in page.date t.0 t.1 t.2)
   in_order_down name topo.TopoOrder e tips ends ids l = subst (IsInOrder parents tips ends ids) (sym e) (λ taken rest c. let t = in_topo_order parents time tips ends ids l taken rest c in page.topo t.0 t.1 t.2)
 
   pub listed_down : (name : List ℕ) (by : TopoSorting) → IsNameOf name (Topo by) → (tips ends ids : List ObjectId) → ListsDown objects parents by tips ends ids → page.Lists parents parents time tips ends name ids

@@ -9,8 +9,11 @@ use Rattle.gix_hash.specs.Reach as reach
 use Rattle.gix_hash.specs.Reach.{Tells}
 use Rattle.gix_revwalk.specs.Ids.{AreDistinct as AreApart}
 use Rattle.gix_revwalk.specs.TimeOrder as times
-use Rattle.gix_revwalk.proofs.NewIds.{times_among, times-fresh}
-use Rattle.gix_commands.specs.WholeStatement.{Reaches, start, parent, IsBest, IsPending}
+use Rattle.gix_revwalk.specs.TimeOrder.{is_no_worse}
+use Rattle.gix_revwalk.proofs.NewIds.{find-filter, find-new, times_among, times-fresh}
+use Rattle.std.proofs.lemmas.List.Elements.{All-weaker}
+use Rattle.std.proofs.lemmas.Int.{ints}
+use Rattle.gix_commands.specs.WholeStatement.{Reaches, start, parent, IsBest, IsFirstBest, IsPending}
 
 pub reaches : (parents : ObjectId → List ObjectId) (starts : List ObjectId) (i : ObjectId) → reach.Reaches parents starts i → Reaches parents starts i
 reaches parents starts i (reach.start s) = start s
@@ -52,15 +55,11 @@ is_first test P (j ∷ names) passes fails rest e = go rest (is_first test P nam
     go [] more true y e = absurd (none-some j e)
     go (i ∷ those) more true y e = subst (λ x. IsFirst P (j ∷ names) (x ∷ those)) (sym (same_Some i j e)) ([], names, refl, All-nil (λ k. P k → ⊥), passes j (Contains-here j names) y)
 
-module _ (test pass : ObjectId → Bool) where
-  -- a search among what passes is one for what passes both
-  find-filter : (ids : List ObjectId) → find test (filter pass ids) ≡ find (λ i. pass i && test i) ids
-  find-filter [] = refl
-  find-filter (i ∷ ids) = go (find-filter ids) (pass i)
-    where
-      go : find test (filter pass ids) ≡ find (λ j. pass j && test j) ids → (t : Bool) → find test (cond t (i ∷ filter pass ids) (filter pass ids)) ≡ cond (t && test i) (Some i) (find (λ j. pass j && test j) ids)
-      go e true = ap (λ o. cond (test i) (Some i) o) e
-      go e false = e
+-- what is found first is the first that has P, where all that has P passes
+pub found_first : (test : ObjectId → Bool) (P : ObjectId → Type 0) (names : List ObjectId) (i : ObjectId) (rest : List ObjectId) → find test names ≡ Some i → ((j : ObjectId) → P j → test j ≡ true) → P i → IsFirst P names (i ∷ rest)
+found_first test P names i rest e passes p =
+    let f : IsFirst (λ j. test j ≡ true) names (i ∷ rest) = is_first test (λ j. test j ≡ true) names (λ j c t. t) (λ j o t. false≢true (sym o ∙ t)) (i ∷ rest) (sym e) in
+    (f.0, f.1, f.2, All-weaker (λ j. test j ≡ true → ⊥) (λ j. P j → ⊥) (λ j n q. n (passes j q)) f.0 f.3, p)
 
 abbrev or_else : Option ObjectId → Option ObjectId → Option ObjectId
 or_else None o = o
@@ -76,21 +75,6 @@ find-append test (x ∷ xs) ys = go (find-append test xs ys) (test x)
 
 find-both : (a b : ObjectId → Bool) (xs ys zs ws : List ObjectId) → find a xs ≡ find b zs → find a ys ≡ find b ws → find a (xs ++ ys) ≡ find b (zs ++ ws)
 find-both a b xs ys zs ws e f = find-append a xs ys ∙ (λ k. or_else (e k) (f k)) ∙ sym (find-append b zs ws)
-
--- a search among ids, each once, is one among all
-find-new : (test old : ObjectId → Bool) (ids : List ObjectId) → ((i : ObjectId) → old i ≡ true → test i ≡ false) → find test (new_ids old ids) ≡ find test ids
-find-new test old [] passed = refl
-find-new test old (i ∷ ids) passed = go (find-new test old ids passed) (λ failed. find-new test (λ j. is_same j i || old j) ids (more failed)) (old i) refl (test i) refl
-  where
-    more : test i ≡ false → (j : ObjectId) → (is_same j i || old j) ≡ true → test j ≡ false
-    more failed j e = ⊎_elim (λ s. ap test (same_is j i s) ∙ failed) (passed j) (or_cases (is_same j i) (old j) e)
-
-    go : find test (new_ids old ids) ≡ find test ids → (test i ≡ false → find test (new_ids (λ j. is_same j i || old j) ids) ≡ find test ids) → (s : Bool) → old i ≡ s → (t : Bool) → test i ≡ t
-        → find test (cond s (new_ids old ids) (i ∷ new_ids (λ j. is_same j i || old j) ids)) ≡ cond t (Some i) (find test ids)
-    go same others true o true e = absurd (false≢true (sym (passed i o) ∙ e))
-    go same others true o false e = same
-    go same others false o true e = cond-true (test i) _ _ e
-    go same others false o false e = cond-false (test i) _ _ e ∙ others e
 
 pub in_new : (old : ObjectId → Bool) (ids : List ObjectId) (i : ObjectId) → Contains (new_ids old ids) i → Contains ids i
 in_new old [] i c = c
@@ -136,6 +120,19 @@ and_fails : (a b : Bool) → (a && b) ≡ false → (a ≡ false) ⊎ (b ≡ fal
 and_fails true b e = inr e
 and_fails false b e = inl refl
 
+both : {a b : Bool} → a ≡ true → b ≡ true → (a && b) ≡ true
+both {a} {b} e f = ap (λ x. x && b) e ∙ f
+
+pub not_taken : (i : ObjectId) (taken : List ObjectId) → (Contains taken i → ⊥) → not (is_among i taken) ≡ true
+not_taken i taken out = go (is_among i taken) refl
+  where
+    go : (t : Bool) → is_among i taken ≡ t → not t ≡ true
+    go true e = absurd (out (among_is i taken e))
+    go false e = refl
+
+pub no_worse_test : (order : CommitTimeOrder) (a b : ℤ) → IsNoWorse order a b → is_no_worse order a b ≡ true
+no_worse_test order a b h = grind (arith, ints)
+
 module _ (parents followed : ObjectId → List ObjectId) (time : ObjectId → ℤ) (from hidden : List ObjectId) (hides : ObjectId → Bool) (tells : Tells hides (reach.Reaches parents hidden)) where
   hidden_is : (i : ObjectId) → hides i ≡ true → Reaches parents hidden i
   hidden_is i e = reaches parents hidden i ((tells i).0 e)
@@ -159,18 +156,18 @@ module _ (parents followed : ObjectId → List ObjectId) (time : ObjectId → �
   abbrev is_left : List ObjectId → ObjectId → Bool
   is_left taken i = not (hides i) && not (is_among i taken)
 
-  find_next : (taken those : List ObjectId) → find (λ i. not (is_among i taken)) (flat_map next those) ≡ find (is_left taken) (flat_map followed those)
-  find_next taken [] = refl
-  find_next taken (c ∷ those) = find-both _ _ (next c) (flat_map next those) (followed c) (flat_map followed those) (find-filter (λ i. not (is_among i taken)) (λ i. not (hides i)) (followed c)) (find_next taken those)
+  find_next : (test : ObjectId → Bool) (those : List ObjectId) → find test (flat_map next those) ≡ find (λ i. not (hides i) && test i) (flat_map followed those)
+  find_next test [] = refl
+  find_next test (c ∷ those) = find-both _ _ (next c) (flat_map next those) (followed c) (flat_map followed those) (find-filter test (λ i. not (hides i)) (followed c)) (find_next test those)
 
-  find_named : (taken : List ObjectId) → find (λ i. not (is_among i taken)) (named_by next starts taken) ≡ find (is_left taken) (from ++ flat_map followed taken)
-  find_named taken =
+  find_named : (test : ObjectId → Bool) (taken : List ObjectId) → find test (named_by next starts taken) ≡ find (λ i. not (hides i) && test i) (from ++ flat_map followed taken)
+  find_named test taken =
       find-both _ _ starts (flat_map next taken) from (flat_map followed taken)
-      (find-filter (λ i. not (is_among i taken)) (λ i. not (hides i)) (new_ids (λ i. false) from) ∙ find-new (is_left taken) (λ i. false) from (λ i e. absurd (false≢true e))) (find_next taken taken)
+      (find-filter test (λ i. not (hides i)) (new_ids (λ i. false) from) ∙ find-new (λ i. not (hides i) && test i) (λ i. false) from (λ i e. absurd (false≢true e))) (find_next test taken)
 
   pub in_breadth_order : (ids : List ObjectId) → IsBreadthOrder next starts ids → Throughout (λ taken. IsFirst (IsPending parents followed time from hidden taken) (from ++ flat_map followed taken)) ids
   in_breadth_order ids h taken rest e =
-      is_first (is_left taken) (IsPending parents followed time from hidden taken) (from ++ flat_map followed taken) yes no rest (cut (λ before o. o ≡ find (λ i. not (is_among i before)) (named_by next starts before)) ids h taken rest e ∙ find_named taken)
+      is_first (is_left taken) (IsPending parents followed time from hidden taken) (from ++ flat_map followed taken) yes no rest (cut (λ before o. o ≡ find (λ i. not (is_among i before)) (named_by next starts before)) ids h taken rest e ∙ find_named (λ i. not (is_among i taken)) taken)
     where
       yes : (i : ObjectId) → Contains (from ++ flat_map followed taken) i → is_left taken i ≡ true → IsPending parents followed time from hidden taken i
       yes i named o = let both = and_parts (not (hides i)) (not (is_among i taken)) o in (named, λ c. false≢true (sym (not_true (is_among i taken) both.1) ∙ among_from i taken c), not_hidden i both.0)
@@ -204,13 +201,23 @@ module _ (parents followed : ObjectId → List ObjectId) (time : ObjectId → �
         p.1,
       )
 
-  -- of all that are pending one of best time
-  abbrev Follows : CommitTimeOrder → List ObjectId → List ObjectId → Type 0
-  Follows order taken rest = IsBest (λ i other. IsNoWorse order (time i) (time other)) (IsPending parents followed time from hidden taken) rest
+  -- of all that are pending the first of best time
+  abbrev AsGood : CommitTimeOrder → ObjectId → ObjectId → Type 0
+  AsGood order i other = IsNoWorse order (time i) (time other)
 
-  best : (order : CommitTimeOrder) (taken rest : List ObjectId) → MatchOption (slice_get rest 0) ((i : ObjectId) → times.IsPending next starts taken i → ⊥) (times.IsBest order time (times.IsPending next starts taken)) → Follows order taken rest
+  abbrev Follows : CommitTimeOrder → List ObjectId → List ObjectId → Type 0
+  Follows order taken rest = IsFirstBest (AsGood order) (IsPending parents followed time from hidden taken) (from ++ flat_map followed taken) rest
+
+  abbrev as_good : CommitTimeOrder → List ObjectId → ObjectId → ObjectId → Bool
+  as_good order taken i j = not (is_among j taken) && is_no_worse order (time j) (time i)
+
+  best : (order : CommitTimeOrder) (taken rest : List ObjectId) → MatchOption (slice_get rest 0) ((i : ObjectId) → times.IsPending next starts taken i → ⊥) (times.IsNextByTime order time next starts taken) → Follows order taken rest
   best order taken [] h = (λ i p. h i (pending_back taken i p))
-  best order taken (i ∷ rest) h = (pending taken i h.among, λ other p. h.best other (pending_back taken other p))
+  best order taken (i ∷ rest) h =
+      found_first (λ j. not (hides j) && as_good order taken i j) (IsBest (AsGood order) (IsPending parents followed time from hidden taken)) (from ++ flat_map followed taken) i rest
+      (sym (find_named (as_good order taken i) taken) ∙ h.first)
+      (λ j b. both (is_not_hidden j b.0.2) (both (not_taken j taken b.0.1) (no_worse_test order (time j) (time i) (b.1 i (pending taken i h.best.among)))))
+      (pending taken i h.best.among, λ other p. h.best.best other (pending_back taken other p))
 
   pub in_time_order : (order : CommitTimeOrder) (ids : List ObjectId) → IsTimeOrder order time next starts ids → Throughout (Follows order) ids
-  in_time_order order ids h taken rest e = best order taken rest (cut (λ before o. MatchOption o ((i : ObjectId) → times.IsPending next starts before i → ⊥) (times.IsBest order time (times.IsPending next starts before))) ids h taken rest e)
+  in_time_order order ids h taken rest e = best order taken rest (cut (λ before o. MatchOption o ((i : ObjectId) → times.IsPending next starts before i → ⊥) (times.IsNextByTime order time next starts before)) ids h taken rest e)

@@ -1,18 +1,19 @@
 -- A list of `topo` or `date` over a part of a store is one over the whole store, where all that is reached in the part is whole there.
-use Rattle.std.proofs.Common.{◌≡◌, ℤ, int_le, List, [], ◌∷◌, ◌++◌, Bool, true, false, if◌then◌else◌, reverse, take, slice_get, Option, None, Some, Contains, MatchOption, refl, sym, ap, subst, ⊎_elim, ◌∙◌}
-use Rattle.gix_commands.proofs.Common.{transport, ObjectId, Objects, NewestFirst, parents_of, time_of, IsNoWorse, IsInWalk, IsChild, IsChildless, Contains-here, Contains-there, Contains-cons_cases, reach_more, IsPartOf, AreWhole}
+use Rattle.std.proofs.Common.{◌≡◌, ℤ, int_le, List, [], ◌∷◌, ◌++◌, Bool, true, false, not, ◌&&◌, if◌then◌else◌, reverse, take, slice_get, Option, None, Some, Contains, MatchOption, refl, sym, ap, subst, ⊎_elim, ◌∙◌}
+use Rattle.gix_commands.proofs.Common.{transport, ObjectId, is_among, Objects, NewestFirst, parents_of, time_of, IsNoWorse, IsInWalk, IsChild, IsChildless, Contains-here, Contains-there, Contains-cons_cases, reach_more, IsPartOf, AreWhole}
 use Rattle.gix_commands.proofs.Common.{ListsDown}
 use Rattle.gix_topo.specs.declared.Sorting.{Sorting}
 use Rattle.gix_topo.specs.declared.Sorting.TheVariants as order
 use Rattle.gix_hash.specs.Reach.{Reaches}
-use Rattle.gix_revwalk.specs.TimeOrder.{IsBest}
+use Rattle.gix_revwalk.specs.TimeOrder.{is_no_worse, IsFirstBest}
 use Rattle.gix_topo.specs.DateOrder.{IsDateOrder}
 use Rattle.gix_topo.specs.Laws.{IsSorted}
 use Rattle.gix_topo.specs.TopoOrder.{Keeps, by_time, insert_by_time, last_places, IsMadeReady, IsTopoOrder}
 use Rattle.gix_topo.specs.WalkSet.{IsReady}
 use Rattle.gix_topo.proofs.Readiness.IsReady.{keeps_alike, keeps_from}
+use Rattle.gix_topo.proofs.Readiness.Decided.{made_member}
 use Rattle.gix_topo.proofs.Run.ReadyInTurn.{reverse_in}
-use Rattle.gix_commands.proofs.Parts.{parents_more, reached_in_all, same_parents, same_time, shown_in_all, shown_in_part, take_within, tips_whole}
+use Rattle.gix_commands.proofs.Parts.{find_agree, parents_more, reached_in_all, same_parents, same_time, shown_in_all, shown_in_part, take_within, tips_whole}
 
 -- a list sorted by times goes by the times of its ids alone
 module _ (time clock : ObjectId → ℤ) where
@@ -66,17 +67,6 @@ module _ (In Within : ObjectId → Type 0) (walked other : ObjectId → List Obj
     ready_back : (p : ObjectId) → IsReady other Within Taken p → IsReady walked In Taken p
     ready_back p r = record { member = back p r.member; left = r.left; children = λ d c. r.children d (child_fore d p c) }
 
-    best_same : (o : Option ObjectId) → MatchOption o ((i : ObjectId) → IsReady walked In Taken i → ⊥) (IsBest NewestFirst time (IsReady walked In Taken))
-        → MatchOption o ((i : ObjectId) → IsReady other Within Taken i → ⊥) (IsBest NewestFirst clock (IsReady other Within Taken))
-    best_same None h = λ i r. h i (ready_back i r)
-    best_same (Some i) h = record {
-      among = ready_fore i h.among;
-      best = λ j r. transport (λ k. IsNoWorse NewestFirst (same_clock i h.among.member k) (same_clock j (ready_back j r).member k)) (h.best j (ready_back j r));
-    }
-
-  date_same : (ids : List ObjectId) → IsDateOrder time walked In ids → IsDateOrder clock other Within ids
-  date_same ids h k b = best_same (Contains (take k ids)) (slice_get ids k) (h k b)
-
   module _ (tips : List ObjectId) where
     made_same : (taken ready : List ObjectId) → ((c : ObjectId) → Contains taken c → In c) → IsMadeReady time walked In tips taken ready → IsMadeReady clock other Within tips taken ready
     made_same [] ready h m = (
@@ -93,13 +83,35 @@ module _ (In Within : ObjectId → Type 0) (walked other : ObjectId → List Obj
       m.4,
     )
 
+    best_same : (taken made : List ObjectId) → ((j : ObjectId) → Contains made j → In j) → (o : Option ObjectId) → MatchOption o ((i : ObjectId) → IsReady walked In (Contains taken) i → ⊥) (IsFirstBest NewestFirst time (IsReady walked In (Contains taken)) made taken)
+        → MatchOption o ((i : ObjectId) → IsReady other Within (Contains taken) i → ⊥) (IsFirstBest NewestFirst clock (IsReady other Within (Contains taken)) made taken)
+    best_same taken made members None h = λ i r. h i (ready_back (Contains taken) i r)
+    best_same taken made members (Some i) h = record {
+      best = record {
+        among = ready_fore (Contains taken) i h.best.among;
+        best = λ j r. transport (λ k. IsNoWorse NewestFirst (same_clock i h.best.among.member k) (same_clock j (ready_back (Contains taken) j r).member k)) (h.best.best j (ready_back (Contains taken) j r));
+      };
+      first =
+          find_agree (λ j. not (is_among j taken) && is_no_worse NewestFirst (clock j) (clock i)) (λ j. not (is_among j taken) && is_no_worse NewestFirst (time j) (time i)) made
+          (λ j c k. not (is_among j taken) && is_no_worse NewestFirst (sym (same_clock j (members j c)) k) (sym (same_clock i h.best.among.member) k))
+          ∙ h.first;
+    }
+
+    date_same : (ids : List ObjectId) → ((c : ObjectId) → Contains ids c → In c) → IsDateOrder time walked In tips ids → IsDateOrder clock other Within tips ids
+    date_same ids h order k b =
+        let o = order k b in (
+          o.0,
+          made_same (reverse (take k ids)) o.0 (λ c m. h c (take_within k ids c (reverse_in c (take k ids) m))) o.1,
+          best_same (take k ids) o.0 (λ j c. made_member time walked In tips (reverse (take k ids)) o.0 o.1 j c) (slice_get ids k) o.2,
+        )
+
     topo_same : (ids : List ObjectId) → ((c : ObjectId) → Contains ids c → In c) → IsTopoOrder time walked In tips ids → IsTopoOrder clock other Within tips ids
     topo_same ids h order k b =
         let o = order k b in
         (o.0, made_same (reverse (take k ids)) o.0 (λ c m. h c (take_within k ids c (reverse_in c (take k ids) m))) o.1, o.2)
 
     pub order_same : (by : Sorting) (ids : List ObjectId) → ((c : ObjectId) → Contains ids c → In c) → IsSorted by time walked In tips ids → IsSorted by clock other Within tips ids
-    order_same order.DateOrder ids h = date_same ids
+    order_same order.DateOrder ids h = date_same ids h
     order_same order.TopoOrder ids h = topo_same ids h
 
 module _ (some all : Objects) (part : IsPartOf some all) (tips ends : List ObjectId) (whole : AreWhole some (tips ++ ends)) where

@@ -9,7 +9,7 @@ use Rattle.hex.proofs.OnLiterals.{hex_on_literals}
 use Rattle.gix_hash.specs.declared.ObjectId.TheVariants.{Sha1}
 use Rattle.gix_object.specs.declared.Kind.TheVariants as kind
 use Rattle.gix_records.specs.Records as records
-use Rattle.gix_commands.specs.WholeStatement.{AreRecords, IsBest, IsPending, Lists, Reaches, Serves, first, parent, start}
+use Rattle.gix_commands.specs.WholeStatement.{AreRecords, IsBest, IsFirstBest, IsPending, Lists, Reaches, Serves, first, parent, start}
 use Rattle.gix_commands.proofs.SameCommits.{are_records, get_put, is_time, worded}
 use Rattle.gix_commands.proofs.SameHistory.{history}
 use Rattle.gix_commands.proofs.SameWords.{is_number}
@@ -157,18 +157,24 @@ module _ (parents followed : ObjectId → List ObjectId) (time : ObjectId → �
 
   -- the newest first
   abbrev IsNextNewest : List ObjectId → List ObjectId → Type 0
-  IsNextNewest taken rest = IsBest (λ i other. time other ≤ℤ time i) (Pending taken) rest
+  IsNextNewest taken rest = IsFirstBest (λ i other. time other ≤ℤ time i) (Pending taken) (child ∷ flat_map followed taken) rest
 
   first_is : IsNextNewest [] (child ∷ root ∷ [])
-  first_is = (child_pending, λ other p. ⊎_elim (λ e. subst (λ i. time i ≤ℤ time child) e (le_itself (time child))) (λ n. absurd (no_member other n)) (Contains-cons_cases other child [] p.0))
+  first_is = ([], [], refl, All-nil _, (child_pending, λ other p. ⊎_elim (λ e. subst (λ i. time i ≤ℤ time child) e (le_itself (time child))) (λ n. absurd (no_member other n)) (Contains-cons_cases other child [] p.0)))
 
   second_is : IsNextNewest (child ∷ []) (root ∷ [])
   second_is = (
-    root_pending,
-    λ other p. ⊎_elim
-        (λ e. absurd (p.1 (subst (Contains (child ∷ [])) e (Contains-here child []))))
-        (λ n. ⊎_elim (λ e. subst (λ i. time i ≤ℤ time root) e (le_itself (time root))) (λ o. absurd (no_member other o)) (Contains-cons_cases other root [] n))
-        (Contains-cons_cases other child (root ∷ []) (subst (λ xs. Contains xs other) names_of_child p.0)),
+    child ∷ [],
+    [],
+    names_of_child,
+    All-cons (λ i. IsBest (λ i other. time other ≤ℤ time i) (Pending (child ∷ [])) i → ⊥) child [] (λ b. b.0.1 (Contains-here child [])) (All-nil _),
+    (
+      root_pending,
+      λ other p. ⊎_elim
+          (λ e. absurd (p.1 (subst (Contains (child ∷ [])) e (Contains-here child []))))
+          (λ n. ⊎_elim (λ e. subst (λ i. time i ≤ℤ time root) e (le_itself (time root))) (λ o. absurd (no_member other o)) (Contains-cons_cases other root [] n))
+          (Contains-cons_cases other child (root ∷ []) (subst (λ xs. Contains xs other) names_of_child p.0)),
+    ),
   )
 
   none_left : IsNextNewest (child ∷ root ∷ []) []
@@ -181,7 +187,7 @@ module _ (parents followed : ObjectId → List ObjectId) (time : ObjectId → �
 
   -- no other order of them is one
   not_reversed : Throughout IsNextNewest (root ∷ child ∷ []) → ⊥
-  not_reversed h = ⊎_elim (λ e. root_is_other (sym e)) (no_member root) (Contains-cons_cases root child [] (h [] (root ∷ child ∷ []) refl).0.0)
+  not_reversed h = ⊎_elim (λ e. root_is_other (sym e)) (no_member root) (Contains-cons_cases root child [] (h [] (root ∷ child ∷ []) refl).4.0.0)
 
   is_listed : (by : List ℕ) → Throughout (λ taken rest. Comes parents followed time (child ∷ []) [] taken rest by) (child ∷ root ∷ []) → Lists parents followed time (child ∷ []) [] by (child ∷ root ∷ [])
   is_listed by follows = (

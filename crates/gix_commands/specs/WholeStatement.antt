@@ -81,9 +81,13 @@ abbrev pub IsFirst : {I : Type 0} → (I → Type 0) → List I → List I → T
 IsFirst {I} P names [] = All (λ i. P i → ⊥) names
 IsFirst {I} P names (i ∷ rest) = (before after : List I) × (names ≡ before ++ i ∷ after) × All (λ j. P j → ⊥) before × P i
 
-abbrev pub IsBest : {I : Type 0} → (I → I → Type 0) → (I → Type 0) → List I → Type 0  -- the rest begins with a best one of P, and is empty where there is none
-IsBest {I} IsNoWorse P [] = (i : I) → P i → ⊥
-IsBest {I} IsNoWorse P (i ∷ rest) = P i × ((other : I) → P other → IsNoWorse i other)
+abbrev pub IsBest : {I : Type 0} → (I → I → Type 0) → (I → Type 0) → I → Type 0  -- no other one of P is better
+IsBest {I} IsNoWorse P i = P i × ((other : I) → P other → IsNoWorse i other)
+
+-- the rest begins with the first name that is a best one of P, and is empty where nothing has P
+abbrev pub IsFirstBest : {I : Type 0} → (I → I → Type 0) → (I → Type 0) → List I → List I → Type 0
+IsFirstBest {I} IsNoWorse P names [] = (i : I) → P i → ⊥
+IsFirstBest {I} IsNoWorse P names (i ∷ rest) = IsFirst (IsBest IsNoWorse P) names (i ∷ rest)
 
 -- the second list is, of the first behind what is before it, in order, what has P there
 pub data Keeps {I : Type 0} (P : (before : List I) → I → (after : List I) → Type 0) : List I → List I → List I → Type 0 where
@@ -122,9 +126,9 @@ module _ {I : Type 0} (parents followed : I → List I) (time : I → ℤ) (star
 
   pub data Comes (taken rest : List I) : List ℕ → Type 0 where  -- what the rest begins with behind those taken, in the order of each name
     breadth : IsFirst (IsPending taken) (starts ++ flat_map followed taken) rest → Comes taken rest (codes "breadth")
-    newest : IsBest (λ i other. time other ≤ℤ time i) (IsPending taken) rest → Comes taken rest (codes "newest")
-    oldest : IsBest (λ i other. time i ≤ℤ time other) (IsPending taken) rest → Comes taken rest (codes "oldest")
-    date : IsBest (λ i other. time other ≤ℤ time i) (IsReady taken) rest → Comes taken rest (codes "date")
+    newest : IsFirstBest (λ i other. time other ≤ℤ time i) (IsPending taken) (starts ++ flat_map followed taken) rest → Comes taken rest (codes "newest")
+    oldest : IsFirstBest (λ i other. time i ≤ℤ time other) (IsPending taken) (starts ++ flat_map followed taken) rest → Comes taken rest (codes "oldest")
+    date : (ready : List I) → AreMadeReady (reverse taken) ready → IsFirstBest (λ i other. time other ≤ℤ time i) (IsReady taken) ready rest → Comes taken rest (codes "date")
     topo : (ready : List I) → AreMadeReady (reverse taken) ready → IsFirst (λ i. Contains taken i → ⊥) (reverse ready) rest → Comes taken rest (codes "topo")
 
   -- What is shown is listed once and in order. In a topological order all of it is listed where no commit shown is its own ancestor.

@@ -36,7 +36,9 @@ pub const COMMANDS: &[Command] = &[
     Command {
         name: Name::Newest,
         arguments: "A..",
-        what: &["the same commits, newest first among the commits met so far"],
+        what: &[
+            "the same commits, newest first among the commits met so far, as git rev-list of the same tips",
+        ],
         example: "newest HEAD~2 ^HEAD~9",
     },
     Command {
@@ -53,7 +55,7 @@ pub const COMMANDS: &[Command] = &[
         arguments: "A..",
         what: &[
             "the same commits, no commit before its children, one line of history after the other,",
-            "as git rev-list --topo-order except for the order of commits of one second",
+            "as git rev-list --topo-order of the same tips",
         ],
         example: "topo HEAD",
     },
@@ -62,7 +64,7 @@ pub const COMMANDS: &[Command] = &[
         arguments: "A..",
         what: &[
             "the same commits, no commit before its children, otherwise the newest first,",
-            "as git rev-list --date-order except for the order of commits of one second",
+            "as git rev-list --date-order of the same tips",
         ],
         example: "date HEAD~9..HEAD",
     },

@@ -15,5 +15,5 @@ pub use Rattle.gix_revwalk.specs.BreadthOrder.{first_new, IsBreadthBeginning, Is
 pub use Rattle.gix_revwalk.specs.Commits.{by_mode, commit_at, commit_of_kind, commit_of_object, HasTime, parents_in, parents_of, ReadsWhole, time_in, time_of}
 pub use Rattle.gix_revwalk.specs.RowParents.{ids_at, IsUnrowed, kept_rows, rows_if, with_id}
 pub use Rattle.gix_revwalk.specs.Texts.{next_in, scanned, text_next, with_parent}
-pub use Rattle.gix_revwalk.specs.TimeOrder.{IsBest, IsNoWorse, IsPending, IsTimeBeginning, IsTimeOrder}
+pub use Rattle.gix_revwalk.specs.TimeOrder.{is_no_worse, IsBest, IsFirstBest, IsNextByTime, IsNoWorse, IsPending, IsTimeBeginning, IsTimeOrder}
 pub use Rattle.gix_revwalk.specs.declared.CommitTimeOrder.{CommitTimeOrder}

@@ -2,6 +2,8 @@
 mod Common
 -- The pairs that the items of a priority queue's heap are.
 pub mod QueueItems
+-- Lists by falling turn.
+pub mod InTurn
 -- The new ids of a list, each at its first place, and how many times an id is in a list.
 pub mod NewIds
 -- The ids that a row's places name, what a row with a fault is, which rows are in use after a row was read, and what drops them.
@@ -10,7 +12,7 @@ pub mod Rows
 pub mod NearRow
 -- What a list in order has: no id twice, and exactly what is reached; and what a beginning of one has.
 pub mod Orders
--- There is at most one list in breadth order; and one in an order by time, where different commits have different times.
+-- There is at most one list in breadth order, and one in each order by time.
 pub mod OneOrder
 -- Lists that go on by a step that names one new id of finitely many.
 pub mod Greedy

@@ -1,11 +1,13 @@
 -- The ids of a list that are new, each at its first place: what is pending of all that was named.
 use Rattle.std.proofs.Common.{ℕ, suc, ◌≡◌, ◌+◌, List, [], ◌∷◌, ◌++◌, Bool, true, false, not, cond, ◌&&◌, ◌||◌, filter, find, Some, None, IsPermutation, length, Contains, ◌≤◌, refl, sym, ap, subst, ◌∙◌, arith, append_assoc, append-nil}
 use Rattle.std.proofs.Common.{⊎_elim, true≢false, flat_map, sum_by}
-use Rattle.std.proofs.lemmas.Bool.{false≢true, or_right, or_left, or_from, true_from_ne_false}
+use Rattle.std.proofs.lemmas.Bool.{false≢true, or_right, or_left, or_from, or_cases, true_from_ne_false, false_from_ne_true, not_from_false}
 use Rattle.std.proofs.lemmas.List.Concat.{flat_map-append}
+use Rattle.std.proofs.lemmas.List.Elements.{filter-append}
+use Rattle.gix_hash.proofs.Lists.{filter_all}
 use Rattle.std.proofs.lemmas.List.Sums.{sum_by-cons}
 use Rattle.std.proofs.lemmas.List.Sorted.{sum_by-IsPermutation}
-use Rattle.gix_revwalk.proofs.Common.{ObjectId, is_same, is_among, named_by, same_is, same_itself, same_from, same_back, no_member, among-append, Contains-cons_cases, among_from}
+use Rattle.gix_revwalk.proofs.Common.{ObjectId, is_same, is_among, named_by, same_is, same_itself, same_from, same_back, no_member, among-append, Contains-cons_cases, Contains-here, Contains-there, among_from}
 pub use Rattle.gix_revwalk.specs.Ids.{times, new_ids as fresh}
 use Rattle.gix_revwalk.specs.Ids.{AreDistinct}
 
@@ -203,3 +205,83 @@ times_once (x ∷ xs) n = (
   (λ m. let a : cond (is_same x x) 1 0 + times x xs ≤ 1 = n x in let s : ◌≡◌ {A = ℕ} (cond (is_same x x) 1 0) 1 = ap (λ b. cond b 1 0) (same_itself x) in let o : 1 ≤ times x xs = among_times x xs (among_from x xs m) in absurd (omega arith)),
   times_once xs (λ i. let a : cond (is_same i x) 1 0 + times i xs ≤ 1 = n i in omega arith),
 )
+
+module _ (test pass : ObjectId → Bool) where
+  -- a search among what passes is one for what passes both
+  pub find-filter : (ids : List ObjectId) → find test (filter pass ids) ≡ find (λ i. pass i && test i) ids
+  find-filter [] = refl
+  find-filter (i ∷ ids) = go (find-filter ids) (pass i)
+    where
+      go : find test (filter pass ids) ≡ find (λ j. pass j && test j) ids → (t : Bool) → find test (cond t (i ∷ filter pass ids) (filter pass ids)) ≡ cond (t && test i) (Some i) (find (λ j. pass j && test j) ids)
+      go e true = ap (λ o. cond (test i) (Some i) o) e
+      go e false = e
+
+-- a search among the new ids is one among all, where no old one passes
+pub find-new : (test old : ObjectId → Bool) (ids : List ObjectId) → ((i : ObjectId) → old i ≡ true → test i ≡ false) → find test (fresh old ids) ≡ find test ids
+find-new test old [] passed = refl
+find-new test old (i ∷ ids) passed = go (find-new test old ids passed) (λ failed. find-new test (λ j. is_same j i || old j) ids (more failed)) (old i) refl (test i) refl
+  where
+    more : test i ≡ false → (j : ObjectId) → (is_same j i || old j) ≡ true → test j ≡ false
+    more failed j e = ⊎_elim (λ s. ap test (same_is j i s) ∙ failed) (passed j) (or_cases (is_same j i) (old j) e)
+
+    go : find test (fresh old ids) ≡ find test ids → (test i ≡ false → find test (fresh (λ j. is_same j i || old j) ids) ≡ find test ids) → (s : Bool) → old i ≡ s → (t : Bool) → test i ≡ t
+        → find test (cond s (fresh old ids) (i ∷ fresh (λ j. is_same j i || old j) ids)) ≡ cond t (Some i) (find test ids)
+    go same others true o true e = absurd (true≢false (sym e ∙ passed i o))
+    go same others true o false e = same
+    go same others false o true e = ap (λ t. cond t (Some i) (find test (fresh (λ j. is_same j i || old j) ids))) e
+    go same others false o false e = ap (λ t. cond t (Some i) (find test (fresh (λ j. is_same j i || old j) ids))) e ∙ others e
+
+-- one is found behind those that fail
+pub find-behind : (test : ObjectId → Bool) (before behind : List ObjectId) (i : ObjectId) → ((j : ObjectId) → Contains before j → test j ≡ false) → test i ≡ true → find test (before ++ i ∷ behind) ≡ Some i
+find-behind test [] behind i fails e = ap (λ t. cond t (Some i) (find test behind)) e
+find-behind test (x ∷ before) behind i fails e =
+    ap (λ t. cond t (Some x) (find test (before ++ i ∷ behind))) (fails x (Contains-here x before)) ∙ find-behind test before behind i (λ j c. fails j (Contains-there j x before c)) e
+
+-- the new ids but one
+fresh_without : (s : ObjectId → Bool) (xs : List ObjectId) (i : ObjectId) → fresh (λ j. is_same j i || s j) xs ≡ filter (λ j. not (is_same j i)) (fresh s xs)
+fresh_without s [] i = refl
+fresh_without s (x ∷ xs) i = go (fresh_without s xs i) (fresh_without (λ j. is_same j x || s j) xs i) (s x) refl (is_same x i) refl
+  where
+    again : (a b : Bool) → (a || b) ≡ (a || (a || b))
+    again a b = grind arith
+
+    swapped : (a b c : Bool) → (a || (b || c)) ≡ (b || (a || c))
+    swapped a b c = grind arith
+
+    go : fresh (λ j. is_same j i || s j) xs ≡ filter (λ j. not (is_same j i)) (fresh s xs) → fresh (λ j. is_same j i || (is_same j x || s j)) xs ≡ filter (λ j. not (is_same j i)) (fresh (λ j. is_same j x || s j) xs)
+        → (b : Bool) → s x ≡ b → (t : Bool) → is_same x i ≡ t
+        → cond (t || b) (fresh (λ j. is_same j i || s j) xs) (x ∷ fresh (λ j. is_same j x || (is_same j i || s j)) xs) ≡ filter (λ j. not (is_same j i)) (cond b (fresh s xs) (x ∷ fresh (λ j. is_same j x || s j) xs))
+    go old new true o true e = old
+    go old new true o false e = old
+    go old new false o true e =
+        fresh_agree _ _ xs (λ j h. ap (λ y. is_same j y || s j) (sym (same_is x i e)) ∙ again (is_same j x) (s j) ∙ ap (λ y. is_same j y || (is_same j x || s j)) (same_is x i e))
+        ∙ new
+        ∙ ap (λ t. cond (not t) (x ∷ filter (λ j. not (is_same j i)) (fresh (λ j. is_same j x || s j) xs)) (filter (λ j. not (is_same j i)) (fresh (λ j. is_same j x || s j) xs))) (sym e)
+    go old new false o false e =
+        ap (λ those. x ∷ those) (fresh_agree _ _ xs (λ j h. swapped (is_same j x) (is_same j i) (s j)) ∙ new)
+        ∙ ap (λ t. cond (not t) (x ∷ filter (λ j. not (is_same j i)) (fresh (λ j. is_same j x || s j) xs)) (filter (λ j. not (is_same j i)) (fresh (λ j. is_same j x || s j) xs))) (sym e)
+
+-- one of the new ids is taken out
+pub fresh_split : (s : ObjectId → Bool) (xs before behind : List ObjectId) (i : ObjectId) → fresh s xs ≡ before ++ i ∷ behind → fresh (λ j. is_same j i || s j) xs ≡ before ++ behind
+fresh_split s xs before behind i e =
+    fresh_without s xs i
+    ∙ ap (filter (λ j. not (is_same j i))) e
+    ∙ filter-append (λ j. not (is_same j i)) before (i ∷ behind)
+    ∙ (λ k. filter_all (λ j. not (is_same j i)) before (λ j c. not_from_false _ (other j (λ s. once.0 (among_from i before (subst (Contains before) (same_is j i s) c))))) k ++ cond (not (same_itself i k)) (i ∷ rest) rest)
+    ∙ ap (λ those. before ++ those) (filter_all (λ j. not (is_same j i)) behind (λ j c. not_from_false _ (other j (λ s. once.1 (among_from i behind (subst (Contains behind) (same_is j i s) c))))))
+  where
+    rest : List ObjectId
+    rest = filter (λ j. not (is_same j i)) behind
+
+    other : (j : ObjectId) → (is_same j i ≡ true → ⊥) → is_same j i ≡ false
+    other j n = false_from_ne_true _ n
+
+    most : (a b : Bool) → cond (not a && b) 1 0 ≤ 1
+    most a b = grind arith
+
+    once : (is_among i before ≡ true → ⊥) × (is_among i behind ≡ true → ⊥)
+    once =
+        let count : times i before + times i (i ∷ behind) ≡ cond (not (s i) && is_among i xs) 1 0 = sym (times-append i before (i ∷ behind)) ∙ ap (times i) (sym e) ∙ times-fresh i s xs in
+        let here : times i (i ∷ behind) ≡ 1 + times i behind = ap (λ b. cond b 1 0 + times i behind) (same_itself i) in
+        let few : cond (not (s i) && is_among i xs) 1 0 ≤ 1 = most (s i) (is_among i xs) in
+        (λ a. let n : 1 ≤ times i before = among_times i before a in omega arith, λ a. let n : 1 ≤ times i behind = among_times i behind a in omega arith)

@@ -1,10 +1,10 @@
--- Where the commits before it decide each commit, there is at most one list in an order, and a beginning is the first ids of it.
-use Rattle.std.proofs.Common.{◌≡◌, ◌≤◌, ℕ, zero, suc, ℤ, List, [], ◌∷◌, ◌++◌, length, min, take, slice_get, Option, Some, None, Contains, MatchOption, refl, sym, ap, subst, ⊎_elim, ◌∙◌, arith, append_assoc, append-nil, take_all}
+-- The commits before it decide each commit, so there is at most one list in an order, and a beginning is the first ids of it.
+use Rattle.std.proofs.Common.{◌≡◌, ◌≤◌, ℕ, zero, suc, ℤ, List, [], ◌∷◌, ◌++◌, length, min, take, slice_get, find, not, ◌&&◌, Option, Some, None, MatchOption, refl, sym, ap, subst, ◌∙◌, arith, append_assoc, append-nil, take_all}
 use Rattle.std.proofs.Common.{length-take}
 use Rattle.std.proofs.lemmas.Int.{ints}
-use Rattle.gix_revwalk.proofs.Common.{slice_get_within, ObjectId, Reaches, no_member, CommitTimeOrder, first_new, named_by, IsBreadthOrder, IsBreadthBeginning, IsTimeOrder, IsTimeBeginning, IsPending, IsBest, IsNoWorse}
+use Rattle.gix_revwalk.proofs.Common.{slice_get_within, ObjectId, is_among, CommitTimeOrder, first_new, named_by, IsBreadthOrder, IsBreadthBeginning, IsTimeOrder, IsTimeBeginning, IsPending, IsFirstBest, IsNoWorse, is_no_worse}
 use Rattle.gix_revwalk.specs.declared.CommitTimeOrder.TheVariants.{NewestFirst, OldestFirst}
-use Rattle.gix_revwalk.proofs.Orders.{breadth_begins, time_begins, reached_by_named, Contains-push}
+use Rattle.gix_revwalk.proofs.Orders.{breadth_begins, time_begins}
 
 -- two lists of which each is a beginning of the other are one list
 both_ways : {X : Type 0} (xs ys : List X) → xs ≡ take (length xs) ys → ys ≡ take (length ys) xs → xs ≡ ys
@@ -60,35 +60,30 @@ pub one_breadth : (next : ObjectId → List ObjectId) (starts ids those : List O
 one_breadth next starts ids those a b =
     both_ways ids those (one_breadth_beginning next starts ids those (breadth_begins next starts ids a) b) (one_breadth_beginning next starts those ids (breadth_begins next starts those b) a)
 
--- each one is of best time
+-- each one is the first of best time
 as_good : (order : CommitTimeOrder) (a b : ℤ) → IsNoWorse order a b → IsNoWorse order b a → a ≡ b
 as_good NewestFirst a b h k = omega (arith, ints)
 as_good OldestFirst a b h k = omega (arith, ints)
 
--- different ids that are reached have different times
-abbrev pub AreTimed : (ObjectId → ℤ) → (ObjectId → List ObjectId) → List ObjectId → Type 0
-AreTimed time next starts = (i j : ObjectId) → Reaches next starts i → Reaches next starts j → time i ≡ time j → i ≡ j
+-- none has P, or this one is the first of best time
+abbrev pub IsBestNext : CommitTimeOrder → (ObjectId → ℤ) → (ObjectId → Type 0) → List ObjectId → List ObjectId → Option ObjectId → Type 0
+IsBestNext order time P names taken o = MatchOption o ((i : ObjectId) → P i → ⊥) (IsFirstBest order time P names taken)
 
-module _ (order : CommitTimeOrder) (time : ObjectId → ℤ) (next : ObjectId → List ObjectId) (starts : List ObjectId) (timed : AreTimed time next starts) where
-  -- none is pending, or this one is of best time
-  abbrev IsBestNext : List ObjectId → Option ObjectId → Type 0
-  IsBestNext taken o = MatchOption o ((i : ObjectId) → IsPending next starts taken i → ⊥) (IsBest order time (IsPending next starts taken))
+pub best_decided : (order : CommitTimeOrder) (time : ObjectId → ℤ) (P : ObjectId → Type 0) (names taken : List ObjectId) (a b : Option ObjectId) → IsBestNext order time P names taken a → IsBestNext order time P names taken b → a ≡ b
+best_decided order time P names taken None None a b = refl
+best_decided order time P names taken None (Some j) a b = absurd (a j b.best.among)
+best_decided order time P names taken (Some i) None a b = absurd (b i a.best.among)
+best_decided order time P names taken (Some i) (Some j) a b =
+    let same : time i ≡ time j = as_good order (time i) (time j) (a.best.best j b.best.among) (b.best.best i a.best.among) in
+    sym a.first ∙ ap (λ t. find (λ k. not (is_among k taken) && is_no_worse order (time k) t) names) same ∙ b.first
 
-  abbrev AreReached : List ObjectId → Type 0
-  AreReached taken = (c : ObjectId) → Contains taken c → Reaches next starts c
-
-  best_decided : (taken : List ObjectId) (a b : Option ObjectId) → AreReached taken → IsBestNext taken a → IsBestNext taken b → a ≡ b
-  best_decided taken None None reached a b = refl
-  best_decided taken None (Some j) reached a b = absurd (a j b.among)
-  best_decided taken (Some i) None reached a b = absurd (b i a.among)
-  best_decided taken (Some i) (Some j) reached a b =
-      ap Some (timed i j (reached_by_named next starts taken reached i a.among.0) (reached_by_named next starts taken reached j b.among.0) (as_good order (time i) (time j) (a.best j b.among) (b.best i a.among)))
-
-  best_goes_on : (taken : List ObjectId) (i : ObjectId) → AreReached taken → IsBestNext taken (Some i) → AreReached (taken ++ i ∷ [])
-  best_goes_on taken i reached here c m = ⊎_elim (λ n. reached c n) (λ e. subst (Reaches next starts) e (reached_by_named next starts taken reached i here.among.0)) (Contains-push next starts taken i c m)
+module _ (order : CommitTimeOrder) (time : ObjectId → ℤ) (next : ObjectId → List ObjectId) (starts : List ObjectId) where
+  abbrev IsNext : List ObjectId → Option ObjectId → Type 0
+  IsNext taken = IsBestNext order time (IsPending next starts taken) (named_by next starts taken) taken
 
   pub one_time_beginning : (ids whole : List ObjectId) → IsTimeBeginning order time next starts ids → IsTimeOrder order time next starts whole → ids ≡ take (length ids) whole
-  one_time_beginning ids whole begins runs = one_beginning IsBestNext AreReached best_decided best_goes_on [] ids whole (λ c m. absurd (no_member c m)) begins runs
+  one_time_beginning ids whole begins runs =
+      one_beginning IsNext (λ taken. Unit {0}) (λ taken a b fits. best_decided order time (IsPending next starts taken) (named_by next starts taken) taken a b) (λ taken i fits e. tt) [] ids whole tt begins runs
 
   pub one_time : (ids those : List ObjectId) → IsTimeOrder order time next starts ids → IsTimeOrder order time next starts those → ids ≡ those
   one_time ids those a b = both_ways ids those (one_time_beginning ids those (time_begins order time next starts ids a) b) (one_time_beginning those ids (time_begins order time next starts those b) a)

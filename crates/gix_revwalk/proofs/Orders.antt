@@ -2,7 +2,7 @@
 use Rattle.std.proofs.Common.{ℕ, zero, suc, ℤ, ◌≡◌, ◌≤◌, ◌<◌, ◌⊎◌, List, [], ◌∷◌, ◌++◌, Bool, true, false, not, cond, length, take, slice_get, Contains, find, Option, Some, None, MatchOption, refl, sym, subst, inl, inr, ⊎_elim, ◌∙◌}
 use Rattle.std.proofs.Common.{arith, append_assoc, append-nil, take_all, le_refl, true≢false, flat_map}
 use Rattle.std.proofs.lemmas.Bool.{not-true, not-false}
-use Rattle.gix_revwalk.proofs.Common.{slice_get_within, ObjectId, is_among, CommitTimeOrder, first_new, named_by, IsBreadthOrder, IsBreadthBeginning, IsTimeOrder, IsTimeBeginning, IsPending, IsBest, Reaches, start, step, among_from}
+use Rattle.gix_revwalk.proofs.Common.{slice_get_within, ObjectId, is_among, CommitTimeOrder, first_new, named_by, IsBreadthOrder, IsBreadthBeginning, IsTimeOrder, IsTimeBeginning, IsPending, IsNextByTime, Reaches, start, step, among_from}
 use Rattle.gix_revwalk.proofs.Common.{among_is, Contains-here, Contains-there, Contains-cons_cases, no_member}
 use Rattle.std.proofs.lemmas.List.Elements.{Contains-append_left, Contains-append_right, Contains-append_cases}
 use Rattle.gix_hash.proofs.Lists.{past_end, only_member}
@@ -41,12 +41,13 @@ first_is_pending next starts taken (Some i) e =
 pub work_from_breadth : (next : ObjectId → List ObjectId) (starts ids : List ObjectId) → IsBreadthOrder next starts ids → IsWorkOrder next starts ids
 work_from_breadth next starts ids order k b = first_is_pending next starts (take k ids) (slice_get ids k) (order k b)
 
-best_is_pending : (order : CommitTimeOrder) (time : ObjectId → ℤ) (P : ObjectId → Type 0) (o : Option ObjectId) → MatchOption o ((i : ObjectId) → P i → ⊥) (IsBest order time P) → MatchOption o ((i : ObjectId) → P i → ⊥) P
-best_is_pending order time P None h = h
-best_is_pending order time P (Some i) h = h.among
+best_is_pending : (order : CommitTimeOrder) (time : ObjectId → ℤ) (next : ObjectId → List ObjectId) (starts taken : List ObjectId) (o : Option ObjectId) → MatchOption o ((i : ObjectId) → IsPending next starts taken i → ⊥) (IsNextByTime order time next starts taken)
+    → MatchOption o ((i : ObjectId) → IsPending next starts taken i → ⊥) (IsPending next starts taken)
+best_is_pending order time next starts taken None h = h
+best_is_pending order time next starts taken (Some i) h = h.best.among
 
 pub work_from_time : (order : CommitTimeOrder) (time : ObjectId → ℤ) (next : ObjectId → List ObjectId) (starts ids : List ObjectId) → IsTimeOrder order time next starts ids → IsWorkOrder next starts ids
-work_from_time order time next starts ids h k b = best_is_pending order time (IsPending next starts (take k ids)) (slice_get ids k) (h k b)
+work_from_time order time next starts ids h k b = best_is_pending order time next starts (take k ids) (slice_get ids k) (h k b)
 
 -- what holds of each place, at a place within the list
 at_place : {X : Type 0} (ids : List X) (Ends : ℕ → Type 0) (Holds : ℕ → X → Type 0) → ((k : ℕ) → k ≤ length ids → MatchOption (slice_get ids k) (Ends k) (Holds k)) → (k : ℕ) (i : X) → slice_get ids k ≡ Some i → Holds k i
@@ -60,13 +61,13 @@ pub breadth_begins : (next : ObjectId → List ObjectId) (starts ids : List Obje
 breadth_begins next starts ids h k b = h k (omega arith)
 
 pub time_begins : (order : CommitTimeOrder) (time : ObjectId → ℤ) (next : ObjectId → List ObjectId) (starts ids : List ObjectId) → IsTimeOrder order time next starts ids → IsTimeBeginning order time next starts ids
-time_begins order time next starts ids = at_place ids (λ k. (i : ObjectId) → IsPending next starts (take k ids) i → ⊥) (λ k. IsBest order time (IsPending next starts (take k ids)))
+time_begins order time next starts ids = at_place ids (λ k. (i : ObjectId) → IsPending next starts (take k ids) i → ⊥) (λ k. IsNextByTime order time next starts (take k ids))
 
 pub work_from_breadth_beginning : (next : ObjectId → List ObjectId) (starts ids : List ObjectId) → IsBreadthBeginning next starts ids → IsWorkBeginning next starts ids
 work_from_breadth_beginning next starts ids h k i e = first_is_pending next starts (take k ids) (Some i) (sym e ∙ h k (slice_get_within ids k i e))
 
 pub work_from_time_beginning : (order : CommitTimeOrder) (time : ObjectId → ℤ) (next : ObjectId → List ObjectId) (starts ids : List ObjectId) → IsTimeBeginning order time next starts ids → IsWorkBeginning next starts ids
-work_from_time_beginning order time next starts ids h k i e = (h k i e).among
+work_from_time_beginning order time next starts ids h k i e = (h k i e).best.among
 
 -- no id is among those before it
 abbrev pub IsDistinctFrom : List ObjectId → List ObjectId → Type 0

@@ -1,28 +1,23 @@
 -- Where finitely many ids are reached, there is a list in breadth order, one in each order by time, and a list of what is reached.
-use Rattle.std.proofs.Common.{◌≡◌, ◌↔◌, ◌≤◌, ℕ, ℤ, int_le, List, [], ◌∷◌, ◌++◌, length, take, slice_get, Bool, true, false, not, ◌&&◌, cond, filter, Option, Some, None, MatchOption, Contains, refl, sym, subst, ⊎_elim, ◌∙◌, arith}
+use Rattle.std.proofs.Common.{◌≡◌, ◌↔◌, ◌≤◌, ℕ, ℤ, List, [], ◌∷◌, ◌++◌, length, take, slice_get, find, Bool, true, false, not, ◌&&◌, cond, filter, Option, Some, None, MatchOption, Contains, refl, sym, ap, subst, ⊎_elim, ◌∙◌, arith}
 use Rattle.std.proofs.Common.{flat_map, true≢false}
 use Rattle.std.specs.FinMap as map_of
 use Rattle.std.proofs.lemmas.Bool.{not-true, not_from_false, false_from_ne_true, and_parts, and_from}
 use Rattle.std.proofs.lemmas.Int.{ints}
 use Rattle.std.proofs.lemmas.List.Elements.{Contains-append_left, Contains-append_right}
 use Rattle.gix_revwalk.proofs.Common.{ObjectId, is_among, Reaches, start, step, among_from, among_is, Contains-here, Contains-there, Contains-cons_cases, no_member, Object, Objects, CommitTimeOrder, named_by, first_new, IsBreadthOrder}
-use Rattle.gix_revwalk.proofs.Common.{IsTimeOrder, IsPending, IsBest, IsNoWorse, parents_of, parents_in, commit_of_object}
+use Rattle.gix_revwalk.proofs.Common.{IsTimeOrder, IsPending, IsBest, IsFirstBest, IsNoWorse, is_no_worse, parents_of, parents_in, commit_of_object}
 use Rattle.gix_revwalk.specs.declared.CommitTimeOrder.TheVariants.{NewestFirst, OldestFirst}
 use Rattle.gix_revwalk.proofs.Greedy.{GoesOn, steps_exist}
-use Rattle.gix_revwalk.proofs.NewIds.{among_flat, among-filter}
+use Rattle.gix_revwalk.proofs.NewIds.{among_flat, among-filter, find-filter}
 use Rattle.gix_revwalk.proofs.Orders.{found_passes, reached_by_named, reached_is_given, given_is_reached, Contains-push, work_from_breadth, work_begins}
 use Rattle.gix_revwalk.proofs.Rows.{found_entry}
 
--- the time is as good
-abbrev no_worse : CommitTimeOrder → ℤ → ℤ → Bool
-no_worse NewestFirst a b = int_le b a
-no_worse OldestFirst a b = int_le a b
-
-no_worse_is : (order : CommitTimeOrder) (a b : ℤ) → no_worse order a b ≡ true → IsNoWorse order a b
+pub no_worse_is : (order : CommitTimeOrder) (a b : ℤ) → is_no_worse order a b ≡ true → IsNoWorse order a b
 no_worse_is NewestFirst a b e = grind (arith, ints)
 no_worse_is OldestFirst a b e = grind (arith, ints)
 
-worse_is : (order : CommitTimeOrder) (a b : ℤ) → no_worse order a b ≡ false → IsNoWorse order b a
+worse_is : (order : CommitTimeOrder) (a b : ℤ) → is_no_worse order a b ≡ false → IsNoWorse order b a
 worse_is NewestFirst a b e = grind (arith, ints)
 worse_is OldestFirst a b e = grind (arith, ints)
 
@@ -30,14 +25,22 @@ itself_no_worse : (order : CommitTimeOrder) (a : ℤ) → IsNoWorse order a a
 itself_no_worse NewestFirst a = omega (arith, ints)
 itself_no_worse OldestFirst a = omega (arith, ints)
 
+pub itself_is : (order : CommitTimeOrder) (a : ℤ) → is_no_worse order a a ≡ true
+itself_is NewestFirst a = grind (arith, ints)
+itself_is OldestFirst a = grind (arith, ints)
+
 no_worse_through : (order : CommitTimeOrder) (a b c : ℤ) → IsNoWorse order a b → IsNoWorse order b c → IsNoWorse order a c
 no_worse_through NewestFirst a b c h k = omega (arith, ints)
 no_worse_through OldestFirst a b c h k = omega (arith, ints)
 
+-- the names that aren't taken
+abbrev pub untaken : List ObjectId → List ObjectId → List ObjectId
+untaken taken names = filter (λ j. not (is_among j taken)) names
+
 module _ (order : CommitTimeOrder) (time : ObjectId → ℤ) where
   abbrev better : ObjectId → Option ObjectId → Option ObjectId
   better x None = Some x
-  better x (Some y) = Some (cond (no_worse order (time x) (time y)) x y)
+  better x (Some y) = Some (cond (is_no_worse order (time x) (time y)) x y)
 
   -- one of best time of a list
   abbrev pub best : List ObjectId → Option ObjectId
@@ -53,9 +56,9 @@ module _ (order : CommitTimeOrder) (time : ObjectId → ℤ) where
     where
       go : (o : Option ObjectId) → IsBestOf xs o → IsBestOf (x ∷ xs) (better x o)
       go None h = record { among = Contains-here x xs; best = λ other c. ⊎_elim (λ s. subst (λ y. IsNoWorse order (time x) (time y)) s (itself_no_worse order (time x))) (λ t. absurd (h other t)) (Contains-cons_cases other x xs c) }
-      go (Some y) h = pick (no_worse order (time x) (time y)) refl
+      go (Some y) h = pick (is_no_worse order (time x) (time y)) refl
         where
-          pick : (b : Bool) → no_worse order (time x) (time y) ≡ b → IsBest order time (Contains (x ∷ xs)) (cond b x y)
+          pick : (b : Bool) → is_no_worse order (time x) (time y) ≡ b → IsBest order time (Contains (x ∷ xs)) (cond b x y)
           pick true e = record {
             among = Contains-here x xs;
             best = λ other c. ⊎_elim (λ s. subst (λ z. IsNoWorse order (time x) (time z)) s (itself_no_worse order (time x))) (λ t. no_worse_through order (time x) (time y) (time other) (no_worse_is order (time x) (time y) e) (h.best other t)) (Contains-cons_cases other x xs c);
@@ -65,12 +68,34 @@ module _ (order : CommitTimeOrder) (time : ObjectId → ℤ) where
             best = λ other c. ⊎_elim (λ s. subst (λ z. IsNoWorse order (time y) (time z)) s (worse_is order (time x) (time y) e)) (λ t. h.best other t) (Contains-cons_cases other x xs c);
           }
 
-  -- of a list that has exactly the ids of P
-  pub best_of : (P : ObjectId → Type 0) (xs : List ObjectId) → ((i : ObjectId) → Contains xs i ↔ P i) → (o : Option ObjectId) → o ≡ best xs → MatchOption o ((i : ObjectId) → P i → ⊥) (IsBest order time P)
-  best_of P xs same None e = let h : IsBestOf xs None = subst (IsBestOf xs) (sym e) (best_is xs) in λ i p. h i ((same i).1 p)
-  best_of P xs same (Some i) e =
-      let h : IsBestOf xs (Some i) = subst (IsBestOf xs) (sym e) (best_is xs) in
-      record { among = (same i).0 h.among; best = λ other p. h.best other ((same other).1 p) }
+  -- it is the first that is as good
+  first_best : (xs : List ObjectId) (i : ObjectId) → best xs ≡ Some i → find (λ j. is_no_worse order (time j) (time i)) xs ≡ Some i
+  first_best [] i e = cc
+  first_best (x ∷ xs) i e = go (best xs) (first_best xs) e
+    where
+      at_once : x ≡ i → find (λ j. is_no_worse order (time j) (time i)) (x ∷ xs) ≡ Some i
+      at_once s = ap (λ b. cond b (Some x) (find (λ j. is_no_worse order (time j) (time i)) xs)) (subst (λ y. is_no_worse order (time x) (time y) ≡ true) s (itself_is order (time x))) ∙ ap Some s
+
+      go : (o : Option ObjectId) → ((y : ObjectId) → o ≡ Some y → find (λ j. is_no_worse order (time j) (time y)) xs ≡ Some y) → better x o ≡ Some i → find (λ j. is_no_worse order (time j) (time i)) (x ∷ xs) ≡ Some i
+      go None r s = at_once (let same : x ≡ i = cc in same)
+      go (Some y) r s = pick (is_no_worse order (time x) (time y)) refl s
+        where
+          pick : (b : Bool) → is_no_worse order (time x) (time y) ≡ b → Some (cond b x y) ≡ Some i → find (λ j. is_no_worse order (time j) (time i)) (x ∷ xs) ≡ Some i
+          pick true o t = at_once (let same : x ≡ i = cc in same)
+          pick false o t =
+              let same : y ≡ i = cc in
+              ap (λ b. cond b (Some x) (find (λ j. is_no_worse order (time j) (time i)) xs)) (subst (λ z. is_no_worse order (time x) (time z) ≡ false) same o) ∙ subst (λ z. find (λ j. is_no_worse order (time j) (time z)) xs ≡ Some z) same (r y refl)
+
+  -- of names of which those that aren't taken are exactly the ids of P
+  pub best_of : (P : ObjectId → Type 0) (names taken : List ObjectId) → ((i : ObjectId) → Contains (untaken taken names) i ↔ P i) → (o : Option ObjectId) → o ≡ best (untaken taken names)
+      → MatchOption o ((i : ObjectId) → P i → ⊥) (IsFirstBest order time P names taken)
+  best_of P names taken same None e = let h : IsBestOf (untaken taken names) None = subst (IsBestOf (untaken taken names)) (sym e) (best_is (untaken taken names)) in λ i p. h i ((same i).1 p)
+  best_of P names taken same (Some i) e =
+      let h : IsBestOf (untaken taken names) (Some i) = subst (IsBestOf (untaken taken names)) (sym e) (best_is (untaken taken names)) in
+      record {
+        best = record { among = (same i).0 h.among; best = λ other p. h.best other ((same other).1 p) };
+        first = sym (find-filter (λ j. is_no_worse order (time j) (time i)) (λ j. not (is_among j taken)) names) ∙ first_best (untaken taken names) i (sym e);
+      }
 
 -- what starts reach is among finitely many ids
 module _ (next : ObjectId → List ObjectId) (starts all : List ObjectId) (finite : (i : ObjectId) → Reaches next starts i → Contains all i) where
@@ -88,10 +113,12 @@ module _ (next : ObjectId → List ObjectId) (starts all : List ObjectId) (finit
 
   pub breadth_exists : (ids : List ObjectId) × IsBreadthOrder next starts ids
   breadth_exists =
+      let steps : (ids : List ObjectId) × ((k : ℕ) → k ≤ length ids → (slice_get ids k ≡ first_new (named_by next starts (take k ids)) (take k ids)) × AreReached (take k ids)) =
       steps_exist all (λ taken. first_new (named_by next starts taken) taken) AreReached
       (λ taken i reached e.
       let h : Contains (named_by next starts taken) i × (not (is_among i taken) ≡ true) = found_passes (λ j. not (is_among j taken)) (named_by next starts taken) i (sym e) in
-      goes_on taken i reached (h.0, λ c. true≢false (sym (among_from i taken c) ∙ not-true _ h.1))) (λ c m. absurd (no_member c m))
+      goes_on taken i reached (h.0, λ c. true≢false (sym (among_from i taken c) ∙ not-true _ h.1))) (λ c m. absurd (no_member c m)) in
+      (steps.0, λ k b. (steps.1 k b).0)
 
   -- what is reached, in a list
   pub reached_list : (list : List ObjectId) × ((i : ObjectId) → Contains list i ↔ Reaches next starts i)
@@ -101,7 +128,7 @@ module _ (next : ObjectId → List ObjectId) (starts all : List ObjectId) (finit
 
   module _ (order : CommitTimeOrder) (time : ObjectId → ℤ) where
     abbrev pending : List ObjectId → List ObjectId
-    pending taken = filter (λ j. not (is_among j taken)) (named_by next starts taken)
+    pending taken = untaken taken (named_by next starts taken)
 
     pending_is : (taken : List ObjectId) (i : ObjectId) → Contains (pending taken) i ↔ IsPending next starts taken i
     pending_is taken i = (
@@ -113,10 +140,10 @@ module _ (next : ObjectId → List ObjectId) (starts all : List ObjectId) (finit
 
     pub time_exists : (ids : List ObjectId) × IsTimeOrder order time next starts ids
     time_exists =
-        let steps : (ids : List ObjectId) × ((k : ℕ) → k ≤ length ids → slice_get ids k ≡ best order time (pending (take k ids))) =
+        let steps : (ids : List ObjectId) × ((k : ℕ) → k ≤ length ids → (slice_get ids k ≡ best order time (pending (take k ids))) × AreReached (take k ids)) =
         steps_exist all (λ taken. best order time (pending taken)) AreReached
-        (λ taken i reached e. goes_on taken i reached (best_of order time (IsPending next starts taken) (pending taken) (pending_is taken) (Some i) e).among) (λ c m. absurd (no_member c m)) in
-        (steps.0, λ k b. best_of order time (IsPending next starts (take k steps.0)) (pending (take k steps.0)) (pending_is (take k steps.0)) (slice_get steps.0 k) (steps.1 k b))
+        (λ taken i reached e. goes_on taken i reached (best_of order time (IsPending next starts taken) (named_by next starts taken) taken (pending_is taken) (Some i) e).best.among) (λ c m. absurd (no_member c m)) in
+        (steps.0, λ k b. best_of order time (IsPending next starts (take k steps.0)) (named_by next starts (take k steps.0)) (take k steps.0) (pending_is (take k steps.0)) (slice_get steps.0 k) (steps.1 k b).0)
 
 -- all parents that the store names
 abbrev all_parents : Objects → List ObjectId

@@ -5,6 +5,8 @@ pub mod Ids
 -- The parents that the texts of commits name.
 pub mod Texts
 pub mod PriorityQueue
+-- Values in the order in which they were put in, and which of them comes next.
+pub mod Turns
 -- Parents and times of stored commits, and what reading whole means.
 pub mod Commits
 -- When a commit-graph agrees with a store, and when a row is corrupt.

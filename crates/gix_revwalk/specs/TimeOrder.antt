@@ -1,6 +1,7 @@
--- The order of a walk that takes the best time.
-use Rattle.std.specs.Prelude.{◌≡◌, ◌≤◌, ◌≤ℤ◌, ℕ, ℤ, List, Some, MatchOption, length, take, slice_get, Contains}
+-- The order of a walk that takes the best time, and of one time what was named first.
+use Rattle.std.specs.Prelude.{◌≡◌, ◌≤◌, ◌≤ℤ◌, ℕ, ℤ, int_le, Bool, not, ◌&&◌, List, Some, MatchOption, length, take, slice_get, find, Contains}
 use Rattle.gix_hash.specs.declared.ObjectId.{ObjectId}
+use Rattle.gix_hash.specs.Id.{is_among}
 use Rattle.gix_revwalk.specs.declared.CommitTimeOrder.{CommitTimeOrder}
 use Rattle.gix_revwalk.specs.declared.CommitTimeOrder.TheVariants.{NewestFirst, OldestFirst}
 use Rattle.gix_revwalk.specs.BreadthOrder.{named_by}
@@ -9,6 +10,11 @@ use Rattle.gix_revwalk.specs.BreadthOrder.{named_by}
 abbrev pub IsNoWorse : CommitTimeOrder → ℤ → ℤ → Type 0
 IsNoWorse NewestFirst a b = b ≤ℤ a
 IsNoWorse OldestFirst a b = a ≤ℤ b
+
+-- the same, as a test
+abbrev pub is_no_worse : CommitTimeOrder → ℤ → ℤ → Bool
+is_no_worse NewestFirst a b = int_le b a
+is_no_worse OldestFirst a b = int_le a b
 
 -- named by the starts or by a commit taken, and not taken
 abbrev pub IsPending : (ObjectId → List ObjectId) → List ObjectId → List ObjectId → ObjectId → Type 0
@@ -19,13 +25,21 @@ pub record IsBest (order : CommitTimeOrder) (time : ObjectId → ℤ) (P : Objec
   pub among : P i
   pub best : (other : ObjectId) → P other → IsNoWorse order (time i) (time other)
 
--- Each commit is a pending one of best time. The list ends where none is pending.
+-- one of the best times, and the first of the names that is as good and isn't taken
+pub record IsFirstBest (order : CommitTimeOrder) (time : ObjectId → ℤ) (P : ObjectId → Type 0) (names taken : List ObjectId) (i : ObjectId) : Type 0 where
+  pub best : IsBest order time P i
+  pub first : find (λ j. not (is_among j taken) && is_no_worse order (time j) (time i)) names ≡ Some i
+
+-- a pending one of best time, and of these the one that was named first
+abbrev pub IsNextByTime : CommitTimeOrder → (ObjectId → ℤ) → (ObjectId → List ObjectId) → List ObjectId → List ObjectId → ObjectId → Type 0
+IsNextByTime order time next starts taken = IsFirstBest order time (IsPending next starts taken) (named_by next starts taken) taken
+
+-- Each commit is a pending one of best time, and of these the one that was named first. The list ends where none is pending.
 abbrev pub IsTimeOrder : CommitTimeOrder → (ObjectId → ℤ) → (ObjectId → List ObjectId) → List ObjectId → List ObjectId → Type 0
 IsTimeOrder order time next starts ids =
     (k : ℕ) → k ≤ length ids →
-    MatchOption (slice_get ids k) ((i : ObjectId) → IsPending next starts (take k ids) i → ⊥) (IsBest order time (IsPending next starts (take k ids)))
+    MatchOption (slice_get ids k) ((i : ObjectId) → IsPending next starts (take k ids) i → ⊥) (IsNextByTime order time next starts (take k ids))
 
--- The beginning of such a list, up to any place: each commit is a pending one of best time.
+-- The beginning of such a list, up to any place: each commit is the next one by time.
 abbrev pub IsTimeBeginning : CommitTimeOrder → (ObjectId → ℤ) → (ObjectId → List ObjectId) → List ObjectId → List ObjectId → Type 0
-IsTimeBeginning order time next starts ids =
-    (k : ℕ) (i : ObjectId) → slice_get ids k ≡ Some i → IsBest order time (IsPending next starts (take k ids)) i
+IsTimeBeginning order time next starts ids = (k : ℕ) (i : ObjectId) → slice_get ids k ≡ Some i → IsNextByTime order time next starts (take k ids) i

@@ -38,7 +38,7 @@ pub use Rattle.gix_simple.specs.Inside.Steps.{Hides, in_rows, Meets, nothing, Ti
 pub use Rattle.gix_simple.specs.Laws.{accepted_parents, answers_left, BeginsTextOrder, given_ids, GivesBeginning, GivesBreadthFirst, GivesDifference, GivesInOrder, GivesTextOrder, is_kept, IsBeginning, IsBegunRun, IsFaultlessRun, IsFresh}
 pub use Rattle.gix_simple.specs.Laws.{IsGiven, IsGivenBy, IsInOrder, IsNewWalk, IsNoRefusal, IsPlain, IsPlainRun, IsWholeRun, kept_of, kept_parents, MeetsWhole, named_in, next_by_text, next_of, ReadsParents, recent_parents, starts_of}
 pub use Rattle.gix_simple.specs.Walk.{accepted, asked, Asks, bare, best, broken, by_row, by_store, Chooses, Concludes, cutoff, dropped, ended, enqueued, Enqueues, failed, first, FirstStep, from_row, from_store, given, given_time, GoesOn}
-pub use Rattle.gix_simple.specs.Walk.{hidden, Holds, how_ended, initial, is_older, IsMade, IsNew, later, Next, no_memory_after, NoMemory, not_found, painted, ReadsTime, refused, remembers, row_time, SimpleWalk, Steps, stops, store_fails}
+pub use Rattle.gix_simple.specs.Walk.{hidden, how_ended, initial, is_older, IsMade, IsNew, later, Next, no_memory_after, NoMemory, not_found, painted, ReadsTime, refused, remembers, row_time, SimpleWalk, Steps, stops, store_fails, TakesBest}
 pub use Rattle.gix_simple.specs.Walk.{StoreFails, Takes, time_if, time_order, took, Treated, Treats, TreatsAll, unasked, unhidden, unrowed}
 pub use Rattle.gix_simple.specs.declared.Error.{Error}
 pub use Rattle.gix_simple.specs.declared.Sorting.{Sorting}

@@ -8,7 +8,7 @@ use Rattle.gix_simple.proofs.Common.{among_from, among_is, Contains-here, Contai
 use Rattle.std.proofs.lemmas.Option.{slice_get_within, get_or_from_slice_get}
 use Rattle.std.proofs.Math.Seq.{take-suc}
 use Rattle.gix_revwalk.specs.declared.CommitTimeOrder.TheVariants.{NewestFirst}
-use Rattle.gix_revwalk.specs.TimeOrder.{IsTimeOrder, IsPending, IsBest}
+use Rattle.gix_revwalk.specs.TimeOrder.{IsTimeOrder, IsPending, IsNextByTime}
 use Rattle.gix_revwalk.specs.Infos.{IsInfo, IsRowGeneration}
 use Rattle.gix_revwalk.proofs.Orders.{IsWorkOrder, IsWorkBeginning, IsDistinctFrom, work_from_breadth, work_from_time, work_begins, work_from_breadth_beginning, work_from_time_beginning, reached_is_given, given_is_reached, given_once}
 use Rattle.gix_simple.proofs.Treated.{no_cutoff}
@@ -81,14 +81,14 @@ module _ (objects : Objects) (m : Parents) (accepts hides : ObjectId → Bool) (
 -- the times never rise
 pub times_fall : (time : ObjectId → ℤ) (next : ObjectId → List ObjectId) (starts ids : List ObjectId) → IsTimeOrder NewestFirst time next starts ids → ((c i : ObjectId) → Contains (next c) i → time i ≤ℤ time c) → (k : ℕ) (a b : ObjectId) → slice_get ids k ≡ Some a → slice_get ids (suc k) ≡ Some b → time b ≤ℤ time a
 times_fall time next starts ids h older k a b ea eb =
-    let best_a : IsBest NewestFirst time (IsPending next starts (take k ids)) a =
-    subst (λ o. MatchOption o ((i : ObjectId) → IsPending next starts (take k ids) i → ⊥) (IsBest NewestFirst time (IsPending next starts (take k ids)))) ea (h k (let w : suc k ≤ length ids = slice_get_within ids k a ea in omega arith)) in
-    let best_b : IsBest NewestFirst time (IsPending next starts (take (suc k) ids)) b =
-    subst (λ o. MatchOption o ((i : ObjectId) → IsPending next starts (take (suc k) ids) i → ⊥) (IsBest NewestFirst time (IsPending next starts (take (suc k) ids)))) eb (h (suc k) (let w : suc (suc k) ≤ length ids = slice_get_within ids (suc k) b eb in omega arith)) in
+    let best_a : IsNextByTime NewestFirst time next starts (take k ids) a =
+    subst (λ o. MatchOption o ((i : ObjectId) → IsPending next starts (take k ids) i → ⊥) (IsNextByTime NewestFirst time next starts (take k ids))) ea (h k (let w : suc k ≤ length ids = slice_get_within ids k a ea in omega arith)) in
+    let best_b : IsNextByTime NewestFirst time next starts (take (suc k) ids) b =
+    subst (λ o. MatchOption o ((i : ObjectId) → IsPending next starts (take (suc k) ids) i → ⊥) (IsNextByTime NewestFirst time next starts (take (suc k) ids))) eb (h (suc k) (let w : suc (suc k) ≤ length ids = slice_get_within ids (suc k) b eb in omega arith)) in
     let taken : take (suc k) ids ≡ take k ids ++ a ∷ [] = take-suc ids k a (slice_get_within ids k a ea) ∙ ap (λ x. take k ids ++ x ∷ []) (get_or_from_slice_get ids k a a ea) in
     let named : named_by next starts (take (suc k) ids) ≡ named_by next starts (take k ids) ++ next a = ap (named_by next starts) taken ∙ named-push next starts (take k ids) a in
-    ⊎_elim (λ n. best_a.best b (n, λ c. best_b.among.1 (subst (λ xs. Contains xs b) (sym taken) (Contains-append_left (take k ids) (a ∷ []) b c)))) (λ n. older a b n)
-    (Contains-append_cases (named_by next starts (take k ids)) (next a) b (subst (λ xs. Contains xs b) named best_b.among.0))
+    ⊎_elim (λ n. best_a.best.best b (n, λ c. best_b.best.among.1 (subst (λ xs. Contains xs b) (sym taken) (Contains-append_left (take k ids) (a ∷ []) b c)))) (λ n. older a b n)
+    (Contains-append_cases (named_by next starts (take k ids)) (next a) b (subst (λ xs. Contains xs b) named best_b.best.among.0))
 
 -- walks without hidden tips and rows
 pub all_kept : (xs : List ObjectId) → filter (λ i. not false) xs ≡ xs

@@ -18,7 +18,7 @@ module _ {F P : Type 0} (objects : F → Objects) (faulty : F → ObjectId → T
 
   chooses_with : {old : SimpleWalk F P} {p : Pending} {others : List Pending} → Chooses objects faulty answers old p others → Chooses objects faulty answers (with_tips old) p others
   chooses_with (first t e) = first t e
-  chooses_with (best t perm no_worse) = best t perm no_worse
+  chooses_with (best t chosen) = best t chosen
 
   steps_with : {old : SimpleWalk F P} {answer : Option (Result Info Error)} {new : SimpleWalk F P} → Steps objects faulty answers old answer new → Steps objects faulty answers (with_tips old) answer (with_tips new)
   steps_with (ended e) = ended e

@@ -4,7 +4,7 @@ use Rattle.std.proofs.Common.{◌∙◌, arith, length-append, le_refl, le_trans
 use Rattle.std.specs.FinMap as map_of
 use Rattle.std.specs.FinSet as set
 use Rattle.gix_simple.proofs.Common.{or_right, or_left, map-append, length_permutation, ObjectId, is_same, is_among, kind_of, Item, commit_items, Objects, GraphRow, row_of, CommitTimeOrder, Info, Parents, by_mode, ids_of, Pending}
-use Rattle.gix_simple.proofs.Common.{ids_at, scanned, text_parents, Error, named_in, SimpleWalk, Treated, StoreFails, GoesOn, Holds, time_order, unrowed, asked, Asks, IsNew, Treats, hidden, refused, accepted, dropped, enqueued}
+use Rattle.gix_simple.proofs.Common.{ids_at, scanned, text_parents, Error, named_in, SimpleWalk, Treated, StoreFails, GoesOn, time_order, unrowed, asked, Asks, IsNew, Treats, hidden, refused, accepted, dropped, enqueued}
 use Rattle.gix_simple.proofs.Common.{store_fails, no_memory_after, TreatsAll, stops, Concludes, given, broken, Takes, by_row, by_store, not_found, Chooses, first, best, Steps, took, FirstStep, unhidden, Next, initial, later}
 use Rattle.gix_simple.proofs.Common.{among-append, among_from, among_is, Contains-here, Contains-there, times-append, among_times, times_is_among, among_flat, walked_within}
 use Rattle.gix_object.specs.declared.Kind.TheVariants as object
@@ -13,7 +13,7 @@ use Rattle.gix_revwalk.specs.declared.Parents.TheVariants as mode
 use Rattle.gix_revwalk.specs.Ids.{times}
 use Rattle.gix_simple.specs.Walk.{known, no_memory, none, more, paints, faulty_history}
 use Rattle.gix_revwalk.proofs.Rows.{kept_either, ids_in_rows, found_entry}
-use Rattle.gix_simple.proofs.Treated.{times-permutation}
+use Rattle.gix_simple.proofs.Treated.{times-permutation, best_moved}
 
 -- the parents that are scanned are those that are walked, of all that are named
 pub scan_by : (m : Parents) (items : List (Result Item DecodeError)) → (scanned m items).0 ≡ by_mode m (scanned mode.All items).0
@@ -49,17 +49,13 @@ fewer_filter p [] = fewer_same []
 fewer_filter p (x ∷ ps) = let r = fewer_filter p ps in record { shorter = (let s = r.shorter in grind arith); as_often = λ i. let s = r.as_often i in grind arith }
 
 -- what is held is what was pending, and one more
-fewer_held : (o : Option CommitTimeOrder) (old new : List Pending) (p : Pending) → Holds o (old ++ p ∷ []) new → Fewer new (p ∷ old)
-fewer_held o old new p h = fewer_then (go o h) record {
+fewer_held : (old new : List Pending) (p : Pending) → new ≡ old ++ p ∷ [] → Fewer new (p ∷ old)
+fewer_held old new p h = fewer_then (subst (λ ps. Fewer ps (old ++ p ∷ [])) (sym h) (fewer_same _)) record {
   shorter = (let e : length (old ++ p ∷ []) ≡ length old + 1 = length-append old (p ∷ []) in omega arith);
   as_often = λ i.
       let e : times i (ids_of (old ++ p ∷ [])) ≡ times i (ids_of old) + (cond (is_same i p.id) 1 0 + 0) = ap (times i) (map-append (λ q. q.id) old (p ∷ [])) ∙ times-append i (ids_of old) (p.id ∷ []) in
       omega arith;
 }
-  where
-    go : (o : Option CommitTimeOrder) → Holds o (old ++ p ∷ []) new → Fewer new (old ++ p ∷ [])
-    go None e = subst (λ ps. Fewer ps (old ++ p ∷ [])) (sym e) (fewer_same _)
-    go (Some order) k = fewer_moved _ new k
 
 pub fewer_within : {ps qs : List Pending} → Fewer ps qs → (i : ObjectId) → Contains (ids_of ps) i → Contains (ids_of qs) i
 fewer_within {ps} {qs} f i m = among_is i (ids_of qs) (times_is_among i (ids_of qs) (le_trans (among_times i (ids_of ps) (among_from i (ids_of ps) m)) (f.as_often i)))
@@ -86,7 +82,7 @@ module _ {F P : Type 0} (objects : F → Objects) (faulty : F → ObjectId → T
   treated n (known e) k = k (λ s. cc)
   treated {i = i} n (refused is_new a) k = asks {p = record { id = i; time = pos 0 }} n is_new a (fewer_by_one _ _) (k (λ s. cc))
   treated {i = i} n (accepted {time = time} is_new a reads (dropped e)) k = asks {p = record { id = i; time = time }} n is_new a (fewer_by_one _ _) (k (λ s. cc))
-  treated {w = w} n (accepted is_new a reads (enqueued e holds)) k = asks n is_new a (fewer_held (time_order w.parents w.sorting) w.pending _ _ holds) (k (λ s. cc))
+  treated {w = w} n (accepted is_new a reads (enqueued e last)) k = asks n is_new a (fewer_held w.pending _ _ last) (k (λ s. cc))
   treated {i = i} n (store_fails is_new a (store_fails o s failed)) k = asks {p = record { id = i; time = pos 0 }} n is_new a (fewer_by_one _ _) (k (λ s. failed))
   treated n no_memory k = k (λ s. cc)
   treated {i = i} {w = w} n (no_memory_after {pending = ps} is_new a left) k =
@@ -176,7 +172,7 @@ module _ {F P : Type 0} (objects : F → Objects) (faulty : F → ObjectId → T
 
   pub fewer_chosen : (w : SimpleWalk F P) (p : Pending) (others : List Pending) → Chooses objects faulty answers w p others → Fewer (p ∷ others) w.pending
   fewer_chosen w p others (first t e) = subst (Fewer (p ∷ others)) (sym e) (fewer_same _)
-  fewer_chosen w p others (best t perm no_worse) = fewer_moved w.pending (p ∷ others) perm
+  fewer_chosen w p others (best t chosen) = fewer_moved w.pending (p ∷ others) (best_moved chosen)
 
   some_pending : (ps : List Pending) → ps ≢ [] → 1 ≤ length ps
   some_pending [] ne = absurd (ne refl)

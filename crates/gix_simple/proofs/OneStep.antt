@@ -14,7 +14,7 @@ use Rattle.gix_simple.specs.Walk.{no_memory}
 use Rattle.gix_revwalk.specs.Infos.{IsRowGeneration}
 use Rattle.gix_revwalk.proofs.TextParents.{text_whole, commit_stored}
 use Rattle.gix_simple.proofs.Moves.{scan_by, rows_then}
-use Rattle.gix_simple.proofs.Treated.{Joins, Joins-refl, Joins-trans, Setting, order_of, limit_of, keep, Stands, Did, all_treated, rows_agree, stands_with}
+use Rattle.gix_simple.proofs.Treated.{Setting, order_of, limit_of, keep, Stands, Did, all_treated, rows_agree, stands_with}
 use Rattle.gix_revwalk.proofs.Rows.{kept_either}
 
 -- the answer is no fault
@@ -58,7 +58,7 @@ module _ {F P : Type 0} (objects : F → Objects) (faulty : F → ObjectId → T
     pub given_as : IsGivenBy (objects s.store) s.named s.rows s.parents (order_of objects faulty answers s) answer i
     pub rest : Stands objects faulty answers s new
     pub seen : (j : ObjectId) → keep objects faulty answers s j ≡ true → set.contains new.seen j ≡ (is_among j (walked s i) || set.contains old.seen j)
-    pub pending : Joins (order_of objects faulty answers s) (ids_of new.pending) (ids_of old.pending ++ fresh (set.contains old.seen) (next s i))
+    pub pending : ids_of new.pending ≡ ids_of old.pending ++ fresh (set.contains old.seen) (next s i)
 
   -- also where rows and pending commits are gone
   pub stands_left : (s : Setting objects faulty answers) (w : SimpleWalk F P) (rows : List GraphRow) (pending : List Pending) (text : List ℕ) (current : Option ObjectId) → Stands objects faulty answers s w
@@ -74,7 +74,7 @@ module _ {F P : Type 0} (objects : F → Objects) (faulty : F → ObjectId → T
         given_as = record { generation = generation; by_row = row; info_is = record { same_id = is.same_id; same_parents = is.same_parents ∙ same; same_generation = is.same_generation; same_time = is.same_time ∙ when }; read = read f };
         rest = stands_left s walk walk.rows walk.pending text (Some i) d.rest (inl refl) (λ p m. m);
         seen = λ j k. d.seen j k ∙ ap (λ xs. is_among j xs || set.contains w.seen j) same;
-        pending = Joins-trans (order_of objects faulty answers s) _ _ _ d.pending (Joins-refl (order_of objects faulty answers s) _ _ (ap (λ xs. ids_of w.pending ++ fresh (set.contains w.seen) (filter (keep objects faulty answers s) xs)) same));
+        pending = d.pending ∙ ap (λ xs. ids_of w.pending ++ fresh (set.contains w.seen) (filter (keep objects faulty answers s) xs)) same;
       }
   concluded s w i ps generation time text fault walk same read row when did (broken {e = e} f) ok = absurd (ok (error.ObjectDecode e) refl)
   concluded s w i ps generation time text fault walk same read row when did store_fails ok = absurd (ok (error.Find existing.Store) refl)

@@ -98,7 +98,7 @@ module _ {F P : Type 0} (objects : F → Objects) (faulty : F → ObjectId → T
     where
       chosen : (o : Option CommitTimeOrder) → time_order old.parents old.sorting ≡ o → (others : List Pending) → IsChosen o old.pending taken others → Chooses objects faulty answers old taken others
       chosen None e others h = first e h
-      chosen (Some order) e others h = best e h.0 h.1
+      chosen (Some order) e others h = best e h
 
 module _ {F P : Type 0} (objects : F → Objects) (faulty : F → ObjectId → Type 0) (answers : P → ObjectId → Bool → P → Type 0) where
   -- nothing is pending

@@ -36,12 +36,8 @@ fresh_distinct old (x ∷ xs) d h =
     ap (λ ys. x ∷ ys) (fresh_distinct (λ j. is_same j x || old j) xs d.1 (λ i c. Rattle.std.proofs.lemmas.Bool.or_from (is_same i x) (old i) (false_from_ne_true _ (λ e. d.0 (subst (λ y. Contains xs y) (same_is i x e) c))) (h i (Contains-there i x xs c))))
     ∙ ap (λ b. cond b (fresh old xs) (x ∷ fresh (λ j. is_same j x || old j) xs)) (sym (h x (Contains-here x xs)))
 
-queue_starts : (o : Option CommitTimeOrder) (starts : List ObjectId) → AreDistinct starts → IsQueue o (starts ++ []) [] starts
-queue_starts None starts d = fresh_distinct (λ j. false) starts d (λ i c. refl) ∙ ap (fresh (λ j. false)) (sym (append-nil starts))
-queue_starts (Some order) starts d = λ j.
-    let all = ap (times j) (fresh_distinct (λ k. false) starts d (λ i c. refl) ∙ ap (fresh (λ k. false)) (sym (append-nil starts))) in
-    let count = times-fresh j (λ k. false) (starts ++ []) in
-    grind arith
+queue_starts : (starts : List ObjectId) → AreDistinct starts → IsQueue (starts ++ []) [] starts
+queue_starts starts d = fresh_distinct (λ j. false) starts d (λ i c. refl) ∙ ap (fresh (λ j. false)) (sym (append-nil starts))
 
 in_place : {X : Type 0} (xs : List X) (k : ℕ) → k < length xs → (x : X) × (slice_get xs k ≡ Some x)
 in_place [] k b = absurd (omega arith)
@@ -103,7 +99,7 @@ module _ {F P : Type 0} (objects : F → Objects) (faulty : F → ObjectId → T
     runs = record {
       rest = record { store = refl; parents = refl; sorting = refl; marks = refl; begun = refl; tips = refl; rows = left; asked_of = itself; remembered = is_fresh.remembered; timed = λ order e p m. is_fresh.timed order e p (within p m) };
       seen = λ i k. seen_starts i k;
-      queue = subst (IsQueue (time_order w.parents w.sorting) (starts_of w hides ++ []) []) (sym same) (queue_starts (time_order w.parents w.sorting) (starts_of w hides) (distinct-filter _ (ids_of w.pending) is_fresh.distinct));
+      queue = subst (IsQueue (starts_of w hides ++ []) []) (sym same) (queue_starts (starts_of w hides) (distinct-filter _ (ids_of w.pending) is_fresh.distinct));
       reached = λ c m. absurd (no_member c m);
       within = λ c e. absurd (false≢true e);
     };

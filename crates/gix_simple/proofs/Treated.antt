@@ -1,41 +1,21 @@
 -- The parents of a commit, treated in order: what becomes pending and seen.
 use Rattle.std.proofs.Common.{ℕ, ◌≡◌, ◌⊎◌, ◌+◌, ℤ, pos, List, [], ◌∷◌, ◌++◌, filter, Bool, true, false, not, ◌&&◌, ◌||◌, Option, Some, None, Ok, Contains, IsPermutation, refl, sym, ap, subst, ⊎_elim, ◌∙◌, append_assoc, append-nil, arith}
-use Rattle.gix_simple.proofs.Common.{map-append, IsPermutation-map, Contains-permutation, IsPermutation-sym, filter-append, Contains-append_cases, and_left, and_right, and_parts, not_from_true, ObjectId, id_cmp, is_same, is_among}
-use Rattle.gix_simple.proofs.Common.{Objects, GraphRow, row_of, Parents, CommitTimeOrder, Sorting, IsAgreeing, time_of, Pending, SimpleWalk, Treated, GoesOn, Holds, time_order, cutoff, is_older, row_time, Asks, remembers, ReadsTime}
+use Rattle.gix_simple.proofs.Common.{map-append, IsPermutation-map, IsPermutation-middle, filter-append, Contains-append_cases, and_left, and_right, and_parts, not_from_true, ObjectId, id_cmp, is_same, is_among}
+use Rattle.gix_simple.proofs.Common.{Objects, GraphRow, row_of, Parents, CommitTimeOrder, Sorting, IsAgreeing, time_of, Pending, SimpleWalk, Treated, GoesOn, TakesBest, time_order, cutoff, is_older, row_time, Asks, remembers, ReadsTime}
 use Rattle.gix_simple.proofs.Common.{unasked, from_row, from_store, Enqueues, dropped, enqueued, Treats, hidden, refused, accepted, TreatsAll, stops, ids_of, Becomes, further, AnswersBy, is_kept, id_total, same_is, among-one}
 use Rattle.gix_simple.proofs.Common.{Contains-here, Contains-there, no_member, fresh, fresh_agree, fresh-append, times-append, times_moved, among-filter, row_says_time, only_member}
 use Rattle.std.specs.FinSet as set
 use Rattle.gix_simple.specs.Walk.{asks, asked as asked_walk, known, none, more}
 use Rattle.gix_revwalk.proofs.NewIds.{times}
 
--- the lists are one; or they have each id as often, where an order by time is in force
-abbrev pub Joins : Option CommitTimeOrder → List ObjectId → List ObjectId → Type 0
-Joins None xs ys = xs ≡ ys
-Joins (Some order) xs ys = (i : ObjectId) → times i xs ≡ times i ys
-
-pub Joins-refl : (o : Option CommitTimeOrder) (xs ys : List ObjectId) → xs ≡ ys → Joins o xs ys
-Joins-refl None xs ys e = e
-Joins-refl (Some order) xs ys e = λ i. ap (times i) e
-
-pub Joins-trans : (o : Option CommitTimeOrder) (xs ys zs : List ObjectId) → Joins o xs ys → Joins o ys zs → Joins o xs zs
-Joins-trans None xs ys zs p q = p ∙ q
-Joins-trans (Some order) xs ys zs p q = λ i. p i ∙ q i
-
-pub Joins-append : (o : Option CommitTimeOrder) (xs ys zs : List ObjectId) → Joins o xs ys → Joins o (xs ++ zs) (ys ++ zs)
-Joins-append None xs ys zs p = ap (λ ws. ws ++ zs) p
-Joins-append (Some order) xs ys zs p = λ i. times-append i xs zs ∙ ap (λ n. n + times i zs) (p i) ∙ sym (times-append i ys zs)
+-- the one that is taken by time, and the others
+pub best_moved : {order : CommitTimeOrder} {pending : List Pending} {taken : Pending} {others : List Pending} → TakesBest order pending taken others → IsPermutation pending (taken ∷ others)
+best_moved {taken = taken} {others = others} h =
+    subst (λ ps. IsPermutation ps (taken ∷ others)) (sym h.place) (subst (λ ps. IsPermutation (h.before ++ taken ∷ h.behind) (taken ∷ ps)) (sym h.left) (IsPermutation-middle h.before taken h.behind))
 
 -- pending commits in another order
 pub times-permutation : (i : ObjectId) (ps qs : List Pending) → IsPermutation ps qs → times i (ids_of qs) ≡ times i (ids_of ps)
 times-permutation i ps qs h = times_moved i (ids_of ps) (ids_of qs) (IsPermutation-map (λ p. p.id) ps qs h)
-
-Joins-holds : (o : Option CommitTimeOrder) (old new : List Pending) (p : Pending) → Holds o (old ++ p ∷ []) new → Joins o (ids_of new) (ids_of old ++ p.id ∷ [])
-Joins-holds None old new p e = ap ids_of e ∙ map-append (λ q. q.id) old (p ∷ [])
-Joins-holds (Some order) old new p h = λ i. times-permutation i (old ++ p ∷ []) new h ∙ ap (times i) (map-append (λ q. q.id) old (p ∷ []))
-
-pub Contains-holds : (o : Option CommitTimeOrder) (old new : List Pending) → Holds o old new → (p : Pending) → Contains new p → Contains old p
-Contains-holds None old new e p h = subst (λ ps. Contains ps p) e h
-Contains-holds (Some order) old new k p h = Contains-permutation new old p (IsPermutation-sym old new k) h
 
 -- where no order by time is in force, there is no cutoff either
 pub no_cutoff : (m : Parents) (s : Sorting) → time_order m s ≡ None → cutoff m s ≡ None
@@ -86,7 +66,7 @@ module _ {F P : Type 0} (objects : F → Objects) (faulty : F → ObjectId → T
     pub rest : Stands s new
     pub same_rows : new.rows ≡ old.rows
     pub seen : (i : ObjectId) → keep s i ≡ true → set.contains new.seen i ≡ (is_among i ids || set.contains old.seen i)
-    pub pending : Joins (order_of s) (ids_of new.pending) (ids_of old.pending ++ fresh (set.contains old.seen) (filter (keep s) ids))
+    pub pending : ids_of new.pending ≡ ids_of old.pending ++ fresh (set.contains old.seen) (filter (keep s) ids)
 
   -- what is known of an id before it is treated
   pub record IsReady (s : Setting) (old : SimpleWalk F P) (by_row : Bool) (i : ObjectId) : Type 0 where
@@ -98,8 +78,8 @@ module _ {F P : Type 0} (objects : F → Objects) (faulty : F → ObjectId → T
   asked_test s w h i (asks {answer = b} {predicate = q} e a) = (s.by_test w.predicate q i b h.asked_of a, further h.asked_of a)
 
   -- an id that isn't kept adds nothing
-  passed_over : (s : Setting) (i : ObjectId) (xs : List ObjectId) (old : ObjectId → Bool) → keep s i ≡ false → Joins (order_of s) xs (xs ++ fresh old (filter (keep s) (i ∷ [])))
-  passed_over s i xs old e = Joins-refl (order_of s) _ _ (grind (arith, append-nil xs))
+  passed_over : (s : Setting) (i : ObjectId) (xs : List ObjectId) (old : ObjectId → Bool) → keep s i ≡ false → xs ≡ xs ++ fresh old (filter (keep s) (i ∷ []))
+  passed_over s i xs old e = grind (arith, append-nil xs)
 
   -- the rows that are left agree
   pub rows_agree : (s : Setting) (w : SimpleWalk F P) → Stands s w → IsAgreeing (objects s.store) w.rows
@@ -134,16 +114,16 @@ module _ {F P : Type 0} (objects : F → Objects) (faulty : F → ObjectId → T
     timed = timed;
   }
 
-  timed_on : (s : Setting) (w : SimpleWalk F P) → Stands s w → (i : ObjectId) (time : ℤ) (ps : List Pending) → ((order : CommitTimeOrder) → order_of s ≡ Some order → time ≡ time_of (objects s.store) i) → Holds (time_order w.parents w.sorting) (w.pending ++ record { id = i; time = time } ∷ []) ps → (order : CommitTimeOrder) → order_of s ≡ Some order → (p : Pending) → Contains ps p → p.time ≡ time_of (objects s.store) p.id
-  timed_on s w h i time ps t holds order some p n =
+  timed_on : (s : Setting) (w : SimpleWalk F P) → Stands s w → (i : ObjectId) (time : ℤ) (ps : List Pending) → ((order : CommitTimeOrder) → order_of s ≡ Some order → time ≡ time_of (objects s.store) i) → ps ≡ w.pending ++ record { id = i; time = time } ∷ [] → (order : CommitTimeOrder) → order_of s ≡ Some order → (p : Pending) → Contains ps p → p.time ≡ time_of (objects s.store) p.id
+  timed_on s w h i time ps t last order some p n =
       let new : Pending = record { id = i; time = time } in
       ⊎_elim (λ m. h.timed order some p m)
       (λ m. subst (λ x. x.time ≡ time_of (objects s.store) x.id) (only_member new p m) (t order some))
-      (Contains-append_cases w.pending (new ∷ []) p (Contains-holds (time_order w.parents w.sorting) _ ps holds p n))
+      (Contains-append_cases w.pending (new ∷ []) p (subst (λ those. Contains those p) last n))
 
   -- the id was asked about, and is seen now
   asked_did : (s : Setting) (w : SimpleWalk F P) → Stands s w → (i : ObjectId) (q : P) (ps : List Pending) → Becomes answers s.predicate q → ((order : CommitTimeOrder) → order_of s ≡ Some order → (p : Pending) → Contains ps p → p.time ≡ time_of (objects s.store) p.id)
-      → Joins (order_of s) (ids_of ps) (ids_of w.pending ++ fresh (set.contains w.seen) (filter (keep s) (i ∷ []))) → Did s (i ∷ []) w (asked_walk objects faulty answers w i q ps)
+      → ids_of ps ≡ ids_of w.pending ++ fresh (set.contains w.seen) (filter (keep s) (i ∷ [])) → Did s (i ∷ []) w (asked_walk objects faulty answers w i q ps)
   asked_did s w h i q ps becomes timed joins = record {
     rest = stands_with s w h w.rows ps _ _ q w.text w.current h.rows becomes (λ j e. h.remembered j (and_parts (not (is_same j i)) (set.contains w.remembered j) (sym (set.contains-remove id_total w.remembered i j) ∙ e)).1) timed;
     same_rows = refl;
@@ -160,7 +140,7 @@ module _ {F P : Type 0} (objects : F → Objects) (faulty : F → ObjectId → T
     rest = h;
     same_rows = refl;
     seen = λ j k. let same : is_same j i ≡ true → set.contains w.seen j ≡ set.contains w.seen i = λ t. ap (set.contains w.seen) (same_is j i t) in let one = among-one j i in grind arith;
-    pending = Joins-refl (order_of s) _ _ (grind (arith, append-nil (ids_of w.pending)));
+    pending = grind (arith, append-nil (ids_of w.pending));
   }
   one s w h by_row i ready (refused {predicate = q} is_new a) =
       let t : (false ≡ s.accepts i) × Becomes answers s.predicate q = asked_test s w h i a in
@@ -172,12 +152,10 @@ module _ {F P : Type 0} (objects : F → Objects) (faulty : F → ObjectId → T
       let decided : (b : Bool) → is_older time (cutoff w.parents w.sorting) ≡ b → keep s i ≡ not b = λ b e. let yes = t.0 in let older = o.1 in let limit : cutoff w.parents w.sorting ≡ limit_of s = λ k. cutoff (h.parents k) (h.sorting k) in grind arith in
       go t.1 o.0 decided queues
     where
-      go : Becomes answers s.predicate q → ((order : CommitTimeOrder) → order_of s ≡ Some order → time ≡ time_of (objects s.store) i) → ((b : Bool) → is_older time (cutoff w.parents w.sorting) ≡ b → keep s i ≡ not b) → {ps' : List Pending} → Enqueues objects faulty answers (time_order w.parents w.sorting) (cutoff w.parents w.sorting) w.pending i time ps' → Did s (i ∷ []) w (asked_walk objects faulty answers w i q ps')
+      go : Becomes answers s.predicate q → ((order : CommitTimeOrder) → order_of s ≡ Some order → time ≡ time_of (objects s.store) i) → ((b : Bool) → is_older time (cutoff w.parents w.sorting) ≡ b → keep s i ≡ not b) → {ps' : List Pending} → Enqueues objects faulty answers (cutoff w.parents w.sorting) w.pending i time ps' → Did s (i ∷ []) w (asked_walk objects faulty answers w i q ps')
       go becomes t decided (dropped e) = asked_did s w h i q w.pending becomes h.timed (passed_over s i (ids_of w.pending) (set.contains w.seen) (decided true e))
-      go becomes t decided (enqueued {new = new} e holds) =
-          asked_did s w h i q new becomes (timed_on s w h i time new t holds)
-          (Joins-trans (order_of s) _ _ _ (subst (λ ord. Joins ord (ids_of new) (ids_of w.pending ++ i ∷ [])) (λ k. time_order (h.parents k) (h.sorting k)) (Joins-holds (time_order w.parents w.sorting) w.pending new (record { id = i; time = time }) holds))
-          (Joins-refl (order_of s) _ _ (let kept = decided false e in let unseen = is_new.unseen in grind arith)))
+      go becomes t decided (enqueued {new = new} e last) =
+          asked_did s w h i q new becomes (timed_on s w h i time new t last) (ap ids_of last ∙ map-append (λ p. p.id) w.pending (record { id = i; time = time } ∷ []) ∙ (let kept = decided false e in let unseen = is_new.unseen in grind arith))
 
   joined : (s : Setting) (i : ObjectId) (ids : List ObjectId) (w mid : SimpleWalk F P) → Did s (i ∷ []) w mid →
       fresh (set.contains w.seen) (filter (keep s) (i ∷ [])) ++ fresh (set.contains mid.seen) (filter (keep s) ids) ≡ fresh (set.contains w.seen) (filter (keep s) (i ∷ ids))
@@ -197,11 +175,11 @@ module _ {F P : Type 0} (objects : F → Objects) (faulty : F → ObjectId → T
     rest = e.rest;
     same_rows = e.same_rows ∙ d.same_rows;
     seen = λ j k. let after = e.seen j k in let before = d.seen j k in grind arith;
-    pending = Joins-trans (order_of s) _ _ _ e.pending (Joins-trans (order_of s) _ _ _ (Joins-append (order_of s) _ _ (fresh (set.contains mid.seen) (filter (keep s) ids)) d.pending) (Joins-refl (order_of s) _ _ (append_assoc (ids_of w.pending) _ _ ∙ ap (λ xs. ids_of w.pending ++ xs) (joined s i ids w mid d))));
+    pending = e.pending ∙ ap (λ xs. xs ++ fresh (set.contains mid.seen) (filter (keep s) ids)) d.pending ∙ append_assoc (ids_of w.pending) _ _ ∙ ap (λ xs. ids_of w.pending ++ xs) (joined s i ids w mid d);
   }
 
   pub all_treated : (s : Setting) (by_row : Bool) {w v : SimpleWalk F P} {ids : List ObjectId} {how : Treated} → TreatsAll objects faulty answers by_row w ids how v → how ≡ GoesOn → Stands s w → ((i : ObjectId) → Contains ids i → IsReady s w by_row i) → Did s ids w v
-  all_treated s by_row (none {old = w}) e h ready = record { rest = h; same_rows = refl; seen = λ j k. refl; pending = Joins-refl (order_of s) _ _ (sym (append-nil _)) }
+  all_treated s by_row (none {old = w}) e h ready = record { rest = h; same_rows = refl; seen = λ j k. refl; pending = sym (append-nil _) }
   all_treated s by_row (more {old = w} {mid = mid} {new = v} {i = i} {ids = ids} t ts) e h ready =
       let d : Did s (i ∷ []) w mid = one s w h by_row i (ready i (Contains-here i ids)) t in
       both s i ids w mid v d (all_treated s by_row ts e d.rest (λ j n. let r : IsReady s w by_row j = ready j (Contains-there j i ids n) in record { marked = r.marked; rowed = λ b. subst (λ rows. (row : GraphRow) × (row_of rows j ≡ Some row)) (sym d.same_rows) (r.rowed b) }))

@@ -1,7 +1,7 @@
 -- How a walk treats the ids that tips or a parent list name, one after the other.
 use Rattle.std.proofs.Common.{◌≡◌, ℤ, List, [], ◌∷◌, ◌++◌, Bool, true, false, not, ◌||◌, Option, Some, Result, Ok, Err, IfOk, IfErr, refl, sym, ap, subst, inl, inr, ◌∙◌, arith, ⊎_elim, true≢false}
 use Rattle.gix_simple.proofs.Common.{false≢true, ObjectId, id_cmp, is_same, Objects, id_total, id_apart, same_is, CommitTimeOrder, Pending, time_of, Meets, TimeIs, SimpleWalk, bare, asked, Treated, GoesOn, NoMemory, StoreFails, Asks}
-use Rattle.gix_simple.proofs.Common.{remembers, ReadsTime, unasked, from_row, from_store, store_fails, Enqueues, enqueued, Holds, is_older, time_order, cutoff, IsNew, Treats, hidden, refused, accepted, no_memory_after, TreatsAll, stops}
+use Rattle.gix_simple.proofs.Common.{remembers, ReadsTime, unasked, from_row, from_store, store_fails, Enqueues, enqueued, is_older, time_order, cutoff, IsNew, Treats, hidden, refused, accepted, no_memory_after, TreatsAll, stops}
 use Rattle.gix_simple.proofs.Common.{IsMade, how_ended}
 use Rattle.std.specs.FinSet as set
 use Rattle.gix_simple.specs.declared.step.Stop.{Stop}
@@ -36,9 +36,8 @@ module _ {F P : Type 0} (objects : F → Objects) (faulty : F → ObjectId → T
 
 module _ {F P : Type 0} (objects : F → Objects) (faulty : F → ObjectId → Type 0) (answers : P → ObjectId → Bool → P → Type 0) (by_row : Bool) (i : ObjectId) where
   -- a parent that isn't older than the cutoff becomes pending
-  pub enqueued_so : (inside old : SimpleWalk F P) → inside ≡ old → (time : ℤ) (pending : List Pending) {order : Option CommitTimeOrder} → order ≡ time_order old.parents old.sorting → is_older time (cutoff old.parents old.sorting) ≡ false → Holds order (inside.pending ++ record { id = i; time = time } ∷ []) pending → Enqueues objects faulty answers (time_order old.parents old.sorting) (cutoff old.parents old.sorting) old.pending i time pending
-  enqueued_so inside old is time pending {order} o young h =
-      enqueued young (subst (λ w. Holds (time_order old.parents old.sorting) (w.pending ++ record { id = i; time = time } ∷ []) pending) is (subst (λ o. Holds o (inside.pending ++ record { id = i; time = time } ∷ []) pending) o h))
+  pub enqueued_so : (inside old : SimpleWalk F P) → inside ≡ old → (time : ℤ) (pending : List Pending) → is_older time (cutoff old.parents old.sorting) ≡ false → pending ≡ inside.pending ++ record { id = i; time = time } ∷ [] → Enqueues objects faulty answers (cutoff old.parents old.sorting) old.pending i time pending
+  enqueued_so inside old is time pending young h = enqueued young (h ∙ ap (λ w. w.pending ++ record { id = i; time = time } ∷ []) is)
 
   -- the time that the stored text has
   pub stored_time : (old : SimpleWalk F P) (order : CommitTimeOrder) → time_order old.parents old.sorting ≡ Some order → by_row ≡ false → (result : Result ℤ Stop) → IfOk result (λ time. time ≡ time_of (objects old.store) i) → IfErr result (λ why. why ≡ stop.Store → faulty old.store i) → TimeIs objects faulty answers old by_row i result
@@ -83,9 +82,9 @@ module _ {F P : Type 0} (objects : F → Objects) (faulty : F → ObjectId → T
           ends : last ≡ asked objects faulty answers old i predicate pending
           ends = is_last ∙ ap {A = SimpleWalk F P} (λ w. record w { pending = pending }) still
 
-          pub treats_accepted : (time : ℤ) → ReadsTime objects faulty answers then by_row i (Ok time) → Enqueues objects faulty answers (time_order read.parents read.sorting) (cutoff read.parents read.sorting) read.pending i time pending → Treats objects faulty answers old by_row i GoesOn last
+          pub treats_accepted : (time : ℤ) → ReadsTime objects faulty answers then by_row i (Ok time) → Enqueues objects faulty answers (cutoff read.parents read.sorting) read.pending i time pending → Treats objects faulty answers old by_row i GoesOn last
           treats_accepted time t q = subst (Treats objects faulty answers old by_row i GoesOn) (sym ends)
-              (accepted new (asks_before is_met yes) (time_before t) (subst (λ w. Enqueues objects faulty answers (time_order w.parents w.sorting) (cutoff w.parents w.sorting) w.pending i time pending) still q))
+              (accepted new (asks_before is_met yes) (time_before t) (subst (λ w. Enqueues objects faulty answers (cutoff w.parents w.sorting) w.pending i time pending) still q))
 
           pub treats_stopped : pending ≡ [] → Treats objects faulty answers old by_row i NoMemory last
           treats_stopped e = subst (Treats objects faulty answers old by_row i NoMemory) (sym ends) (no_memory_after new (asks_before is_met yes) (inr e))

@@ -2,30 +2,30 @@
 use Rattle.std.proofs.Common.{◌≡◌, ℕ, zero, suc, ℤ, List, [], ◌∷◌, ◌++◌, take, slice_get, Bool, true, ◌&&◌, ◌||◌, Option, Some, None, Result, Err, Contains, All, refl, sym, ap, subst, inl, ⊎_elim, ◌∙◌, append_assoc, append-nil, arith}
 use Rattle.std.proofs.Common.{true≢false}
 use Rattle.gix_simple.proofs.Common.{Yields, AllZip, Contains-permutation, IsPermutation-sym, All-head, All-tail, or_cases, or_left, and_parts, ObjectId, is_among, Objects, Info, CommitTimeOrder, Error, named_by, Reaches, time_of}
-use Rattle.gix_simple.proofs.Common.{Pending, SimpleWalk, time_order, Chooses, first, best, Takes, Steps, ended, took, Next, initial, later, ids_of, IsGivenBy, same_is, among-append, among-one, among_is, Contains-here, Contains-there}
+use Rattle.gix_simple.proofs.Common.{Pending, SimpleWalk, time_order, Chooses, first, best, TakesBest, Takes, Steps, ended, took, Next, initial, later, ids_of, IsGivenBy, same_is, among-append, among-one, among_is, Contains-here, Contains-there}
 use Rattle.gix_simple.proofs.Common.{among-filter, named-push}
 use Rattle.std.specs.FinSet as set
 use Rattle.gix_simple.specs.declared.Error.TheVariants as error
 use Rattle.gix_simple.specs.Walk.{no_memory}
 use Rattle.gix_revwalk.proofs.Orders.{reached_by_named, Contains-push}
-use Rattle.gix_simple.proofs.Treated.{Setting, order_of, keep, Stands}
+use Rattle.gix_simple.proofs.Treated.{Setting, order_of, keep, Stands, best_moved}
 use Rattle.gix_simple.proofs.OneStep.{IsCommit, walked, next, Reads, Took, stands_left, took_well}
 use Rattle.gix_simple.proofs.PendingIs.{IsQueue, IsRest, IsNextOne, grows, ends, heads, bests}
 
 -- the choice of the next one
 chosen : {F P : Type 0} (objects : F → Objects) (faulty : F → ObjectId → Type 0) (answers : P → ObjectId → Bool → P → Type 0) (time : ObjectId → ℤ) (next : ObjectId → List ObjectId) (starts taken : List ObjectId) (w : SimpleWalk F P) (p : Pending) (others : List Pending) (o : Option CommitTimeOrder) →
-    time_order w.parents w.sorting ≡ o → IsQueue o (named_by next starts taken) taken (ids_of w.pending) → ((order : CommitTimeOrder) → o ≡ Some order → (q : Pending) → Contains w.pending q → q.time ≡ time q.id) → Chooses objects faulty answers w p others →
-    IsNextOne o time next starts taken (Some p.id) × IsRest o (named_by next starts taken) taken p.id (ids_of others) × (is_among p.id (named_by next starts taken) ≡ true)
+    time_order w.parents w.sorting ≡ o → IsQueue (named_by next starts taken) taken (ids_of w.pending) → ((order : CommitTimeOrder) → o ≡ Some order → (q : Pending) → Contains w.pending q → q.time ≡ time q.id) → Chooses objects faulty answers w p others →
+    IsNextOne o time next starts taken (Some p.id) × IsRest (named_by next starts taken) taken p.id (ids_of others) × (is_among p.id (named_by next starts taken) ≡ true)
 chosen objects faulty answers time next starts taken w p others None e q timed (first t is) = heads time next starts taken p.id (ids_of others) (sym (ap ids_of is) ∙ q)
-chosen objects faulty answers time next starts taken w p others None e q timed (best t perm no_worse) = cc
+chosen objects faulty answers time next starts taken w p others None e q timed (best t takes) = cc
 chosen objects faulty answers time next starts taken w p others (Some order) e q timed (first t is) = cc
-chosen objects faulty answers time next starts taken w p others (Some order) e q timed (best {order = o} t perm no_worse) =
+chosen objects faulty answers time next starts taken w p others (Some order) e q timed (best {order = o} t takes) =
     let same : o ≡ order = let s : Some o ≡ Some order = sym t ∙ e in cc in
-    bests order time next starts taken w.pending p others q perm (timed order refl) (λ other m. subst (λ x. Rattle.gix_revwalk.specs.TimeOrder.IsNoWorse x p.time other.time) same (no_worse other m))
+    bests order time next starts taken w.pending p others q (subst (λ x. TakesBest x w.pending p others) same takes) (timed order refl)
 
 others_pending : {F P : Type 0} (objects : F → Objects) (faulty : F → ObjectId → Type 0) (answers : P → ObjectId → Bool → P → Type 0) (w : SimpleWalk F P) (p : Pending) (others : List Pending) → Chooses objects faulty answers w p others → (q : Pending) → Contains (p ∷ others) q → Contains w.pending q
 others_pending objects faulty answers w p others (first t is) q m = subst (λ ps. Contains ps q) (sym is) m
-others_pending objects faulty answers w p others (best t perm no_worse) q m = Contains-permutation (p ∷ others) w.pending q (IsPermutation-sym w.pending (p ∷ others) perm) m
+others_pending objects faulty answers w p others (best t takes) q m = Contains-permutation (p ∷ others) w.pending q (IsPermutation-sym w.pending (p ∷ others) (best_moved takes)) m
 
 module _ {F P : Type 0} (objects : F → Objects) (faulty : F → ObjectId → Type 0) (answers : P → ObjectId → Bool → P → Type 0) where
   abbrev pub named : Setting objects faulty answers → List ObjectId → List ObjectId
@@ -43,7 +43,7 @@ module _ {F P : Type 0} (objects : F → Objects) (faulty : F → ObjectId → T
   pub record Runs (s : Setting objects faulty answers) (w : SimpleWalk F P) (taken : List ObjectId) : Type 0 where
     pub rest : Stands objects faulty answers s w
     pub seen : (i : ObjectId) → keep objects faulty answers s i ≡ true → set.contains w.seen i ≡ is_among i (named s taken)
-    pub queue : IsQueue (order_of objects faulty answers s) (named s taken) taken (ids_of w.pending)
+    pub queue : IsQueue (named s taken) taken (ids_of w.pending)
     pub reached : (c : ObjectId) → Contains taken c → Reaches (next objects faulty answers s) s.starts c
     pub within : (c : ObjectId) → is_among c taken ≡ true → is_among c (named s taken) ≡ true
 
@@ -64,7 +64,7 @@ module _ {F P : Type 0} (objects : F → Objects) (faulty : F → ObjectId → T
   stepped s known w done h (took {taken = p} {others = others} {answer = answer} {new = new} chooses takes) ok =
       let stands : Stands objects faulty answers s w = h.rest in
       let same : time_order w.parents w.sorting ≡ order_of objects faulty answers s = (λ k. time_order (stands.parents k) (stands.sorting k)) in
-      let c : is_next s done (Some p.id) × IsRest (order_of objects faulty answers s) (named s done) done p.id (ids_of others) × (is_among p.id (named s done) ≡ true) =
+      let c : is_next s done (Some p.id) × IsRest (named s done) done p.id (ids_of others) × (is_among p.id (named s done) ≡ true) =
       chosen objects faulty answers (time_of (objects s.store)) (next objects faulty answers s) s.starts done w p others (order_of objects faulty answers s) same h.queue stands.timed chooses in
       let r : Reaches (next objects faulty answers s) s.starts p.id = reached_by_named (next objects faulty answers s) s.starts done h.reached p.id (among_is p.id _ c.2) in
       let left : Stands objects faulty answers s (record w { pending = others }) =
@@ -81,8 +81,8 @@ module _ {F P : Type 0} (objects : F → Objects) (faulty : F → ObjectId → T
         runs = record {
           rest = t.rest;
           seen = λ j k. let after = t.seen j k in let before = h.seen j k in let names = among_push j in let keeps = kept j in grind arith;
-          queue = subst (λ xs. IsQueue (order_of objects faulty answers s) xs (done ++ p.id ∷ []) (ids_of new.pending)) (sym push)
-              (grows (order_of objects faulty answers s) (named s done) done p.id (ids_of others) (ids_of new.pending) (next objects faulty answers s p.id) (set.contains w.seen) c.1 t.pending
+          queue = subst (λ xs. IsQueue xs (done ++ p.id ∷ []) (ids_of new.pending)) (sym push)
+              (grows (named s done) done p.id (ids_of others) (ids_of new.pending) (next objects faulty answers s p.id) (set.contains w.seen) c.1 t.pending
               (λ j n. h.seen j (and_parts _ _ (sym (kept j) ∙ n)).0) h.within c.2);
           reached = λ d m. ⊎_elim (λ n. h.reached d n) (λ e. subst (Reaches (next objects faulty answers s) s.starts) e r) (Contains-push (next objects faulty answers s) s.starts done p.id d m);
           within = λ d m. among_push d ∙ or_left _ _ (⊎_elim (λ n. h.within d n) (λ e. subst (λ y. is_among y (named s done) ≡ true) (sym (same_is d p.id (sym (among-one d p.id) ∙ e))) c.2) (or_cases _ _ (sym (among-append d done (p.id ∷ [])) ∙ m)));
@@ -137,4 +137,4 @@ module _ {F P : Type 0} (objects : F → Objects) (faulty : F → ObjectId → T
   -- where the walk ends there is no next one
   pub ended_run : (s : Setting objects faulty answers) (done : List ObjectId) {list : List (Result Info Error)} {last new : SimpleWalk F P} (r : RunsTo s done list last) → Steps objects faulty answers last None new → is_next s (done ++ r.ids) None
   ended_run s done r (ended e) = ends (order_of objects faulty answers s) (time_of (objects s.store)) (next objects faulty answers s) s.starts (done ++ r.ids)
-      (subst (IsQueue (order_of objects faulty answers s) (named s (done ++ r.ids)) (done ++ r.ids)) (ap ids_of e) r.runs.queue)
+      (subst (IsQueue (named s (done ++ r.ids)) (done ++ r.ids)) (ap ids_of e) r.runs.queue)

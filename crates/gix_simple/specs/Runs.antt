@@ -110,14 +110,11 @@ pub data AreBuiltAlike {F P : Type 0} (objects : F → Objects) (faulty : F → 
   reads : {a b : SimpleWalk F P} {rows those : List GraphRow} → AreBuiltAlike objects faulty answers store predicate tips a b
       → AreBuiltAlike objects faulty answers store predicate tips (record a { rows = rows }) (record b { rows = those })
 
--- the answers of two walks are the same commits: in the same order where no order by time is in force, otherwise in any
+-- the answers of two walks are the same commits, in the same order
 pub record GiveTheSame {F P : Type 0} (objects : F → Objects) (walk other : SimpleWalk F P) (list those_given : List (Result Info Error)) : Type 0 where
   pub ids : List ObjectId
-  pub those : List ObjectId
   pub given : AllZip (IsGiven (objects walk.store) walk.rows walk.parents (time_order walk.parents walk.sorting)) list ids
-  pub given_there : AllZip (IsGiven (objects other.store) other.rows other.parents (time_order other.parents other.sorting)) those_given those
-  pub same : (i : ObjectId) → Contains ids i ↔ Contains those i
-  pub in_order : time_order walk.parents walk.sorting ≡ None → ids ≡ those
+  pub given_there : AllZip (IsGiven (objects other.store) other.rows other.parents (time_order other.parents other.sorting)) those_given ids
 
 -- the answers of a walk are exactly the commits of another walk that its hidden tips don't reach
 pub record GivesUnhidden {F P : Type 0} (objects : F → Objects) (walk other : SimpleWalk F P) (list longer : List (Result Info Error)) : Type 0 where

@@ -68,20 +68,18 @@ OneBreadthBeginning =
     → IsBreadthOrder next starts whole
     → ids ≡ take (length ids) whole
 
--- there is at most one list in an order by time, where different ids that are reached have different times
+-- there is at most one list in an order by time
 abbrev pub OneTimeOrder : Type 0
 OneTimeOrder =
     (order : CommitTimeOrder) (time : ObjectId → ℤ) (next : ObjectId → List ObjectId) (starts ids those : List ObjectId)
-    → ((i j : ObjectId) → Reaches next starts i → Reaches next starts j → time i ≡ time j → i ≡ j)
     → IsTimeOrder order time next starts ids
     → IsTimeOrder order time next starts those
     → ids ≡ those
 
--- a beginning in an order by time is then the first ids of the whole list
+-- a beginning in an order by time is the first ids of the whole list
 abbrev pub OneTimeBeginning : Type 0
 OneTimeBeginning =
     (order : CommitTimeOrder) (time : ObjectId → ℤ) (next : ObjectId → List ObjectId) (starts ids whole : List ObjectId)
-    → ((i j : ObjectId) → Reaches next starts i → Reaches next starts j → time i ≡ time j → i ≡ j)
     → IsTimeBeginning order time next starts ids
     → IsTimeOrder order time next starts whole
     → ids ≡ take (length ids) whole

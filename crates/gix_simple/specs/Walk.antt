@@ -1,5 +1,5 @@
 -- What a simple walk holds, and what one step of it may do.
-use Rattle.std.specs.Prelude.{◌≡◌, ◌≢◌, ◌⊎◌, ℕ, ℤ, pos, int_lt, List, [], ◌∷◌, ◌++◌, filter, Bool, true, false, not, Option, Some, None, Result, Ok, Err, Contains, IsPermutation}
+use Rattle.std.specs.Prelude.{◌≡◌, ◌≢◌, ◌⊎◌, ℕ, ℤ, pos, int_lt, List, [], ◌∷◌, ◌++◌, filter, Bool, true, false, not, Option, Some, None, Result, Ok, Err, Contains}
 use Rattle.std.specs.FinMap as map_of
 use Rattle.std.specs.FinSet as set
 use Rattle.gix_hash.specs.declared.Kind.{Kind}
@@ -118,10 +118,14 @@ failed id (error.Find e) walk = record walk { text = []; current = Some id }
 failed id (error.ObjectDecode e) walk = record walk { text = []; current = Some id }
 failed id (error.HiddenGraph e) walk = record walk { text = []; current = Some id }
 
--- the pending commits are these: in this order, or in any where one by time is in force
-abbrev pub Holds : Option CommitTimeOrder → List Pending → List Pending → Type 0
-Holds None these pending = pending ≡ these
-Holds (Some order) these pending = IsPermutation these pending
+-- of the pending commits the first of best time, and the others in their order
+pub record TakesBest (order : CommitTimeOrder) (pending : List Pending) (taken : Pending) (others : List Pending) : Type 0 where
+  pub before : List Pending
+  pub behind : List Pending
+  pub place : pending ≡ before ++ taken ∷ behind
+  pub left : others ≡ before ++ behind
+  pub best : (other : Pending) → Contains pending other → IsNoWorse order taken.time other.time
+  pub first : (other : Pending) → Contains before other → IsNoWorse order other.time taken.time → ⊥
 
 abbrev pub unrowed : {F P : Type 0} → SimpleWalk F P → ObjectId → SimpleWalk F P
 unrowed walk i = record walk { rows = kept_rows walk.rows (row_of walk.rows i) }
@@ -152,10 +156,9 @@ module _ {F P : Type 0} (objects : F → Objects) (faulty : F → ObjectId → T
         → ReadsTime old by_row i (Err StoreFails)
 
   -- an accepted parent becomes pending, unless it is older than the cutoff
-  pub data Enqueues (order : Option CommitTimeOrder) (limit : Option ℤ) (old : List Pending) (i : ObjectId) (time : ℤ) : List Pending → Type 0 where
-    dropped : is_older time limit ≡ true → Enqueues order limit old i time old
-    enqueued : {new : List Pending} → is_older time limit ≡ false → Holds order (old ++ record { id = i; time = time } ∷ []) new
-        → Enqueues order limit old i time new
+  pub data Enqueues (limit : Option ℤ) (old : List Pending) (i : ObjectId) (time : ℤ) : List Pending → Type 0 where
+    dropped : is_older time limit ≡ true → Enqueues limit old i time old
+    enqueued : {new : List Pending} → is_older time limit ≡ false → new ≡ old ++ record { id = i; time = time } ∷ [] → Enqueues limit old i time new
 
   -- what is seen of a walk after a parent was asked about
   abbrev pub asked : SimpleWalk F P → ObjectId → P → List Pending → SimpleWalk F P
@@ -173,7 +176,7 @@ module _ {F P : Type 0} (objects : F → Objects) (faulty : F → ObjectId → T
     known : set.contains old.seen i ≡ true → Treats old by_row i GoesOn old
     refused : {predicate : P} → IsNew old i → Asks old i false predicate → Treats old by_row i GoesOn (asked old i predicate old.pending)
     accepted : {predicate : P} {time : ℤ} {pending : List Pending} → IsNew old i → Asks old i true predicate → ReadsTime old by_row i (Ok time)
-        → Enqueues (time_order old.parents old.sorting) (cutoff old.parents old.sorting) old.pending i time pending
+        → Enqueues (cutoff old.parents old.sorting) old.pending i time pending
         → Treats old by_row i GoesOn (asked old i predicate pending)
     store_fails : {predicate : P} → IsNew old i → Asks old i true predicate → ReadsTime old by_row i (Err StoreFails)
         → Treats old by_row i StoreFails (asked old i predicate old.pending)
@@ -223,8 +226,7 @@ module _ {F P : Type 0} (objects : F → Objects) (faulty : F → ObjectId → T
   -- the pending commit whose turn it is, and the others
   pub data Chooses (old : SimpleWalk F P) (taken : Pending) (others : List Pending) : Type 0 where
     first : time_order old.parents old.sorting ≡ None → old.pending ≡ taken ∷ others → Chooses old taken others
-    best : {order : CommitTimeOrder} → time_order old.parents old.sorting ≡ Some order → IsPermutation old.pending (taken ∷ others)
-        → ((other : Pending) → Contains others other → IsNoWorse order taken.time other.time) → Chooses old taken others
+    best : {order : CommitTimeOrder} → time_order old.parents old.sorting ≡ Some order → TakesBest order old.pending taken others → Chooses old taken others
 
   -- one step of a walk whose hidden tips are painted
   pub data Steps (old : SimpleWalk F P) : Option (Result Info Error) → SimpleWalk F P → Type 0 where

@@ -36,7 +36,8 @@ pub fn breadth_order<F: Find, P: Predicate>()
 
 /// A fresh walk without hidden tips and rows, and in an order by time, that is drawn to its end. Memory and the store don't fail,
 /// what the pending commits reach through accepted parents that no cutoff drops reads whole, and the predicate's answer depends on
-/// the id alone. Each commit that it gives is of best time among the pending ones, and it ends where there is none.
+/// the id alone. Each commit that it gives is of best time among the pending ones, and of one time the one that was named first, and
+/// it ends where there is none.
 pub fn time_order<F: Find, P: Predicate>()
     ensures { PlainRunsAreInTimeOrder F.objects F.faulty P.answers }
 {}
@@ -112,9 +113,8 @@ pub fn hides_no_later<F: Find, P: Predicate>()
     ensures { HidesNoLater F.objects F.faulty P.answers }
 {}
 
-/// Rows that agree, corrupt ones among them, leave the ids as they are: their list where no order by time is in force, otherwise
-/// their set. The two walks are alike, their predicates accept the same ids, their hidden tips reach the same ids, and each walk is
-/// as `in_order` asks.
+/// Rows that agree, corrupt ones among them, leave the list of the ids as it is, in every order. The two walks are alike, their
+/// predicates accept the same ids, their hidden tips reach the same ids, and each walk is as `in_order` asks.
 pub fn rows_agree<F: Find, P: Predicate>()
     ensures { RowsLeaveTheIds F.objects F.faulty P.answers }
 {}
@@ -177,13 +177,12 @@ pub fn one_breadth_beginning()
     ensures { OneBreadthBeginning }
 {}
 
-/// Newest first or oldest first there is at most one list, where different ids that the starts reach have different times.
+/// Newest first or oldest first there is at most one list, whatever the times are.
 pub fn one_time_order()
     ensures { OneTimeOrder }
 {}
 
-/// The beginning of a list newest first or oldest first, up to any place, is the first ids of the whole list, where different ids that
-/// the starts reach have different times.
+/// The beginning of a list newest first or oldest first, up to any place, is the first ids of the whole list.
 pub fn one_time_beginning()
     ensures { OneTimeBeginning }
 {}

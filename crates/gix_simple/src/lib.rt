@@ -74,7 +74,7 @@ use thiserror::Error;
 pub enum Sorting {
     /// Commits come in the order in which they are met.
     BreadthFirst,
-    /// Of the commits met, one of best commit time comes next. A commit without a row is looked up twice: for its time when it
+    /// Of the commits met, the first of best commit time comes next. A commit without a row is looked up twice: for its time when it
     /// is met, and for its parents when it is given.
     ByCommitTime(CommitTimeOrder),
     /// The same without the commits that are older than `seconds`. The walk doesn't go on to their parents.
@@ -172,7 +172,7 @@ impl<T: Drop> From<AllocFailed<T>> for Error {
 
 /// A walk over the commits that some tips reach.
 ///
-/// It is an iterator of commits, each once. The commit that was met first comes first, or, where an order by time is chosen, one of
+/// It is an iterator of commits, each once. The commit that was met first comes first, or, where an order by time is chosen, the first of
 /// best time among those met.
 ///
 /// ```text

@@ -1,22 +1,21 @@
 //! The pending commits of a walk, held so that the next one is at hand.
-ghost use Rattle.std.specs.Prelude.{◌≡◌, ◌≢◌, ◌++◌, ◌∷◌, [], length, ◌==◌, IfOk, OnOk, OnErr, None, Some, IsPermutation};
+ghost use Rattle.std.specs.Prelude.{◌≡◌, ◌≢◌, ◌++◌, ◌∷◌, [], length, ◌==◌, IfOk, OnOk, OnErr, None, Some};
 ghost use Rattle.gix_revwalk.specs.PriorityQueue.{values};
 ghost use Rattle.gix_simple.specs.Inside.PendingQueue.{time_key, AreKeyed, TakesOut};
-ghost use Rattle.gix_simple.specs.Walk.{Holds};
 
 use gix_hash::ObjectId;
-use gix_revwalk::queue::PriorityQueue;
+use gix_revwalk::time_queue::TimeQueue;
 use gix_revwalk::{CommitTimeOrder, Pending};
 use std::alloc::{AllocError, Global};
 use std::collections::VecDeque;
 use std::marker::Model;
 use std::mem;
 
-/// In the order in which they became pending until one is taken by time. Then by time, the best first.
+/// A list until one is taken by time.
 #[derive(Drop)]
 enum Held {
     Listed(VecDeque<Pending>),
-    ByTime(CommitTimeOrder, PriorityQueue<i64, Pending>),
+    ByTime(CommitTimeOrder, TimeQueue<Pending>),
 }
 
 /// The pending commits, and the order by time in which they are held, if there is one.
@@ -61,14 +60,14 @@ impl PendingQueue {
         self.held = Held::Listed(VecDeque::new(self.alloc));
     }
 
-    /// Takes all commits out, in the order in which they became pending where none was taken by time.
+    /// Takes all commits out, in the order in which they became pending.
     pub(super) fn take_list(&mut self) -> Result<VecDeque<Pending>, AllocError>
         ensures list { IfOk result (λ list. list.items ≡ self.old.items) }
         ensures left { self.new.items ≡ [] }
     {
         match mem::replace(&mut self.held, Held::Listed(VecDeque::new(self.alloc))) {
             Held::Listed(list) => Ok(list),
-            Held::ByTime(_, queue) => list_of(self.alloc, &queue),
+            Held::ByTime(_, queue) => Ok(VecDeque::from(queue.into_values(self.alloc)?)),
         }
     }
 
@@ -85,7 +84,7 @@ impl PendingQueue {
         order: Option<CommitTimeOrder>,
         pending: Pending,
     ) -> Result<(), AllocError>
-        ensures ok { OnOk result (Holds order (self.old.items ++ pending ∷ []) self.new.items) }
+        ensures ok { OnOk result (self.new.items ≡ self.old.items ++ pending ∷ []) }
         ensures err { OnErr result (self.new.items ≡ []) }
     {
         self.set_order(order)?;
@@ -115,7 +114,7 @@ impl PendingQueue {
 
     /// The commits are held in this order from now on. When out of memory none is left.
     fn set_order(&mut self, order: Option<CommitTimeOrder>) -> Result<(), AllocError>
-        ensures ok { OnOk result ((self.new.order ≡ order) × Holds order self.old.items self.new.items) }
+        ensures ok { OnOk result ((self.new.order ≡ order) × (self.new.items ≡ self.old.items)) }
         ensures err { OnErr result (self.new.items ≡ []) }
     {
         if self.order() == order {
@@ -128,7 +127,7 @@ impl PendingQueue {
     #[cold]
     #[inline(never)]
     fn rearrange(&mut self, order: Option<CommitTimeOrder>) -> Result<(), AllocError>
-        ensures ok { OnOk result ((self.new.order ≡ order) × Holds order self.old.items self.new.items) }
+        ensures ok { OnOk result ((self.new.order ≡ order) × (self.new.items ≡ self.old.items)) }
         ensures err { OnErr result (self.new.items ≡ []) }
     {
         let list = self.take_list()?;
@@ -149,7 +148,7 @@ impl PendingQueue {
     }
 
     fn put(&mut self, pending: Pending) -> Result<(), AllocError>
-        ensures { OnOk result (Holds self.old.order (self.old.items ++ pending ∷ []) self.new.items) }
+        ensures { OnOk result (self.new.items ≡ self.old.items ++ pending ∷ []) }
     {
         match &mut self.held {
             Held::Listed(list) => list.push_back(pending)?,
@@ -180,18 +179,18 @@ fn key(order: CommitTimeOrder, time: i64) -> i64
 
 fn put(
     order: CommitTimeOrder,
-    queue: &mut PriorityQueue<i64, Pending>,
+    queue: &mut TimeQueue<Pending>,
     pending: Pending,
 ) -> Result<(), AllocError>
     requires { AreKeyed order queue.old }
-    ensures items { OnOk result (IsPermutation (values queue.old ++ pending ∷ []) (values queue.new)) }
+    ensures items { OnOk result (values queue.new ≡ values queue.old ++ pending ∷ []) }
     ensures keyed { AreKeyed order queue.new }
 {
     queue.insert(key(order, pending.time), pending)?;
     Ok(())
 }
 
-fn take_best(order: CommitTimeOrder, queue: &mut PriorityQueue<i64, Pending>) -> Option<Pending>
+fn take_best(order: CommitTimeOrder, queue: &mut TimeQueue<Pending>) -> Option<Pending>
     requires { AreKeyed order queue.old }
     ensures taken { TakesOut (Some order) (values queue.old) result (values queue.new) }
     ensures keyed { AreKeyed order queue.new }
@@ -200,30 +199,15 @@ fn take_best(order: CommitTimeOrder, queue: &mut PriorityQueue<i64, Pending>) ->
     Some(pending)
 }
 
-fn list_of(
-    alloc: Global,
-    queue: &PriorityQueue<i64, Pending>,
-) -> Result<VecDeque<Pending>, AllocError>
-    ensures { IfOk result (λ list. list.items ≡ values queue.now) }
-{
-    let mut list = VecDeque::new(alloc);
-    let mut waiting = queue.iter_unordered();
-    while let Some(pending) = waiting.next() {
-        let Pending { id, time, near } = *pending;
-        list.push_back(Pending { id, time, near })?;
-    }
-    Ok(list)
-}
-
 fn queue_of(
     alloc: Global,
     order: CommitTimeOrder,
     mut list: VecDeque<Pending>,
-) -> Result<PriorityQueue<i64, Pending>, AllocError>
-    ensures items { IfOk result (λ queue. IsPermutation list.items (values queue)) }
+) -> Result<TimeQueue<Pending>, AllocError>
+    ensures items { IfOk result (λ queue. values queue ≡ list.items) }
     ensures keyed { IfOk result (AreKeyed order) }
 {
-    let mut queue = PriorityQueue::new(alloc);
+    let mut queue = TimeQueue::new(alloc);
     while let Some(pending) = list.pop_front() {
         put(order, &mut queue, pending)?;
     }

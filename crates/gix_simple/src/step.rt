@@ -190,7 +190,7 @@ impl<F: Find + Drop, P: Predicate + Drop> Simple<F, P> {
 
     /// An accepted parent becomes pending, unless it is older than the cutoff.
     fn enqueue(&mut self, id: ObjectId, time: i64, near: u32) -> Result<(), AllocError>
-        ensures ok { OnOk result (Enqueues F.objects F.faulty P.answers (time_order self.old.parents self.old.sorting) (cutoff self.old.parents self.old.sorting)
+        ensures ok { OnOk result (Enqueues F.objects F.faulty P.answers (cutoff self.old.parents self.old.sorting)
             self.old.pending id time self.new.pending) }
         ensures err { OnErr result (self.new.pending ≡ []) }
         ensures rest { self.new ≡ record self.old { pending = self.new.pending } }

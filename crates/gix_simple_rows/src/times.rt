@@ -94,6 +94,17 @@ static TABLES: [Table<'static>; 16] = [
         )],
         ..OF_SAMPLE
     },
+    // Of one time what was met first comes first.
+    Table {
+        history: History { scale: 0, ..PLAIN },
+        cases: &[
+            (&[8], [BREADTH, NEWEST], &[], "8 6 7 5 4 3 2 1"),
+            (&[6, 7], [BREADTH, NEWEST], &[], "6 7 5 4 3 2 1"),
+            (&[7, 6], [BREADTH, NEWEST], &[], "7 6 4 5 2 3 1"),
+            (&[7, 6], [BREADTH, OLDEST], &[], "7 6 4 5 2 3 1"),
+        ],
+        ..OF_SAMPLE
+    },
     // A tip that a cutoff took out isn't asked about again.
     Table {
         wish: Wish {

@@ -41,7 +41,7 @@ pub use Rattle.gix_revwalk.proofs.TextParents.{text_whole}
 pub use Rattle.gix_topo.specs.DateOrder.{IsDateBeginning, IsDateOrder}
 pub use Rattle.gix_topo.specs.Depth.{generation_in, infinity, known_generation, least}
 pub use Rattle.gix_topo.specs.Inside.Exploring.{Explores, Follows, is_pending, IsExploringFault, IsRested, IsSamePlan, side_mode, Steps}
-pub use Rattle.gix_topo.specs.Inside.ReadySet.{as_ready, as_ready_by, ReadySet}
+pub use Rattle.gix_topo.specs.Inside.ReadySet.{as_ready, as_ready_by, IsTimed, ReadySet}
 pub use Rattle.gix_topo.specs.Inside.Releasing.{counted_by, exploring, IsFaultAmong, IsPushFault, IsReleaseFault, IsTakingFault, LooksUpParent, lowered, parent, plan_by, plan_of, plan_over, Pushes, Releases, ReleasesAll, releasing, taken_in}
 pub use Rattle.gix_topo.specs.Inside.Releasing.{taken_of, TakesOne, uncounted, unread, walk_of, with_counting, with_frontier}
 pub use Rattle.gix_topo.specs.Inside.Searched.{IsBegun, IsCounted, IsExplored, IsSearched, IsTally, naming, next_by, starts_by}
@@ -51,9 +51,9 @@ pub use Rattle.gix_topo.specs.Laws.{answers_left, AreApart, BeginsInOrder, Begin
 pub use Rattle.gix_topo.specs.Laws.{IsTakenFirst, IsTakenFirstByText, IsTakenInOrder, IsTextGiven, IsTextInfo, IsWholeRun, left_beside}
 pub use Rattle.gix_topo.specs.Reading.{by_row, by_text, HasNoRowInUse, IsReadFault, LookUpFails, ReadFails, Reads, ReadsText, time_of_committer, told_generation}
 pub use Rattle.gix_topo.specs.TopoOrder.{by_time, distinct_after, first_places, insert_by_time, IsMadeReady, IsTopoBeginning, IsTopoOrder, Keeps, last_places, passed}
-pub use Rattle.gix_topo.specs.Walk.{Adds, after, Chooses, Counted, DropsBy, HoldsReady, IsBrokenRow, IsBuildFault, IsCommitRead, IsCounting, IsFault, IsFirstReady, IsFound, IsInDepth, IsKnown, IsLate, IsLeft, IsLookedUp, IsMember}
+pub use Rattle.gix_topo.specs.Walk.{Adds, after, Chooses, Counted, DropsBy, IsBrokenRow, IsBuildFault, IsCommitRead, IsCounting, IsFault, IsFirstReady, IsFound, IsInDepth, IsKnown, IsLate, IsLeft, IsLookedUp, IsMember}
 pub use Rattle.gix_topo.specs.Walk.{IsMetFault, IsNextReady, IsNumberOf, IsOtherParent, IsReached, IsSound, IsStarted, IsStored, IsTaken, IsTextMember, named_ids, Next, Ready, ready_ids, refused, row_generation, StartsWith, Takes}
-pub use Rattle.gix_topo.specs.Walk.{text_walked, TopoPlan, TopoWalk, walked_of}
+pub use Rattle.gix_topo.specs.Walk.{text_walked, TakesLatest, TopoPlan, TopoWalk, walked_of}
 pub use Rattle.gix_topo.specs.WalkSet.{IsAcyclicIn, IsChild, IsChildless, IsInWalk, IsReady}
 pub use Rattle.gix_topo.specs.declared.Error.{Error}
 pub use Rattle.gix_topo.specs.declared.Sorting.{Sorting}

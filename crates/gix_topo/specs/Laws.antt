@@ -24,13 +24,13 @@ use Rattle.gix_topo.specs.Walk.{TopoPlan, TopoWalk, Ready, walked_of, text_walke
 
 -- the order that was asked for
 abbrev pub IsSorted : Sorting → (ObjectId → ℤ) → (ObjectId → List ObjectId) → (ObjectId → Type 0) → List ObjectId → List ObjectId → Type 0
-IsSorted order.DateOrder time walked In tips ids = IsDateOrder time walked In ids
+IsSorted order.DateOrder time walked In tips ids = IsDateOrder time walked In tips ids
 IsSorted order.TopoOrder time walked In tips ids = IsTopoOrder time walked In tips ids
 
 -- a beginning in that order
 abbrev pub IsSortedBeginning :
     Sorting → (ObjectId → ℤ) → (ObjectId → List ObjectId) → (ObjectId → Type 0) → List ObjectId → List ObjectId → Type 0
-IsSortedBeginning order.DateOrder time walked In tips ids = IsDateBeginning time walked In ids
+IsSortedBeginning order.DateOrder time walked In tips ids = IsDateBeginning time walked In tips ids
 IsSortedBeginning order.TopoOrder time walked In tips ids = IsTopoBeginning time walked In tips ids
 
 -- these commits are taken, in order

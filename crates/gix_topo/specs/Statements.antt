@@ -8,7 +8,6 @@ use Rattle.gix_commitgraph.specs.Rows.{GraphRow, row_of}
 use Rattle.gix_revwalk.specs.declared.Info.{Info}
 use Rattle.gix_revwalk.specs.declared.Parents.TheVariants as mode
 use Rattle.gix_topo.specs.declared.Sorting.{Sorting}
-use Rattle.gix_topo.specs.declared.Sorting.TheVariants.{TopoOrder}
 use Rattle.gix_topo.specs.declared.Error.{Error}
 use Rattle.gix_hash.specs.Reach.{Reaches}
 use Rattle.gix_revwalk.specs.Agreeing.{IsAgreeing}
@@ -31,13 +30,13 @@ SomeTopoOrder =
     → ((c i : ObjectId) → Contains (all c) i → Contains (text_next objects c) i)
     → (ids : List ObjectId) × IsTopoOrder time walked (IsInWalk walked all tips ends) tips ids
 
--- and one in date order
+-- and one in date order, where the ends go on to each id that the walk goes on to
 abbrev pub SomeDateOrder : Type 0
 SomeDateOrder =
     (time : ObjectId → ℤ) (objects : Objects) (walked all : ObjectId → List ObjectId) (tips ends : List ObjectId)
-    → ((c i : ObjectId) → Contains (walked c) i → Contains (text_next objects c) i)
+    → ((c i : ObjectId) → Contains (walked c) i → Contains (all c) i)
     → ((c i : ObjectId) → Contains (all c) i → Contains (text_next objects c) i)
-    → (ids : List ObjectId) × IsDateOrder time walked (IsInWalk walked all tips ends) ids
+    → (ids : List ObjectId) × IsDateOrder time walked (IsInWalk walked all tips ends) tips ids
 
 -- there is at most one list of the members of a walk in topological order
 abbrev pub TopoOrderIsOne : Type 0
@@ -47,13 +46,12 @@ TopoOrderIsOne =
     → IsTopoOrder time walked (IsInWalk walked all tips ends) tips others
     → ids ≡ others
 
--- and at most one in date order, where no two of them have the same time
+-- and at most one in date order
 abbrev pub DateOrderIsOne : Type 0
 DateOrderIsOne =
     (time : ObjectId → ℤ) (walked all : ObjectId → List ObjectId) (tips ends ids others : List ObjectId)
-    → ((i j : ObjectId) → IsInWalk walked all tips ends i → IsInWalk walked all tips ends j → time i ≡ time j → i ≡ j)
-    → IsDateOrder time walked (IsInWalk walked all tips ends) ids
-    → IsDateOrder time walked (IsInWalk walked all tips ends) others
+    → IsDateOrder time walked (IsInWalk walked all tips ends) tips ids
+    → IsDateOrder time walked (IsInWalk walked all tips ends) tips others
     → ids ≡ others
 
 -- a beginning in topological order is the first ids of the whole list
@@ -64,13 +62,12 @@ TopoBeginningIsOne =
     → IsTopoOrder time walked (IsInWalk walked all tips ends) tips whole
     → ids ≡ take (length ids) whole
 
--- and so is one in date order, where no two members have the same time
+-- and so is one in date order
 abbrev pub DateBeginningIsOne : Type 0
 DateBeginningIsOne =
     (time : ObjectId → ℤ) (walked all : ObjectId → List ObjectId) (tips ends ids whole : List ObjectId)
-    → ((i j : ObjectId) → IsInWalk walked all tips ends i → IsInWalk walked all tips ends j → time i ≡ time j → i ≡ j)
-    → IsDateBeginning time walked (IsInWalk walked all tips ends) ids
-    → IsDateOrder time walked (IsInWalk walked all tips ends) whole
+    → IsDateBeginning time walked (IsInWalk walked all tips ends) tips ids
+    → IsDateOrder time walked (IsInWalk walked all tips ends) tips whole
     → ids ≡ take (length ids) whole
 
 module _ {F : Type 0} (objects : F → Objects) where
@@ -154,7 +151,6 @@ module _ {F P : Type 0} (objects : F → Objects) (faulty : F → ObjectId → T
   abbrev pub RowsLeaveTheIds : Type 0
   RowsLeaveTheIds =
       (walk other : TopoWalk F P) (rows : List GraphRow) (accepts : ObjectId → Bool) (list longer : List (Result Info Error))
-      → walk.plan.sorting ≡ TopoOrder
       → other.plan ≡ record walk.plan { rows = rows }
       → IsWholeRun objects faulty answers walk accepts list
       → IsWholeRun objects faulty answers other accepts longer

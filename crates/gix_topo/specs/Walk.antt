@@ -1,5 +1,5 @@
 -- What a topological walk holds, as its callers see it, and what one call of it may do.
-use Rattle.std.specs.Prelude.{◌≡◌, ◌≢◌, ◌⊎◌, ◌≤◌, ◌≤ℤ◌, ℕ, ℤ, List, [], ◌∷◌, ◌++◌, map, drop, length, Bool, true, false, ◌||◌, Option, Some, None, Result, Ok, Err, Contains, IsPermutation}
+use Rattle.std.specs.Prelude.{◌≡◌, ◌≢◌, ◌⊎◌, ◌≤◌, ◌<ℤ◌, ◌≤ℤ◌, ℕ, ℤ, List, [], ◌∷◌, ◌++◌, map, drop, length, Bool, true, false, ◌||◌, Option, Some, None, Result, Ok, Err, Contains}
 use Rattle.std.specs.List.{flat_map}
 use Rattle.std.specs.FinMap as map_of
 use Rattle.std.specs.Iterator.{Drains}
@@ -63,7 +63,7 @@ pub record TopoWalk (F P : Type 0) : Type 0 where
   pub plan : TopoPlan F
   pub predicate : P
   pub counted : Counted
-  -- in the order in which they became it, under `DateOrder` in any; none after a fault
+  -- in the order in which they became it; none after a fault
   pub ready : List Ready
   pub taken : set.FinSet id_cmp
 
@@ -87,15 +87,19 @@ IsTaken taken i = set.contains taken i ≡ true
 abbrev pub was_ready : {F P : Type 0} → TopoWalk F P → ObjectId → Bool
 was_ready walk i = set.contains walk.taken i || is_among i (ready_ids walk.ready)
 
--- the ready ones are these
-abbrev pub HoldsReady : Sorting → List Ready → List Ready → Type 0
-HoldsReady order.TopoOrder these ready = ready ≡ these
-HoldsReady order.DateOrder these ready = IsPermutation these ready
+-- of the ready commits the first of greatest time, and the others in their order
+pub record TakesLatest (ready : List Ready) (c : Ready) (others : List Ready) : Type 0 where
+  pub before : List Ready
+  pub behind : List Ready
+  pub place : ready ≡ before ++ c ∷ behind
+  pub left : others ≡ before ++ behind
+  pub best : (other : Ready) → Contains ready other → other.time ≤ℤ c.time
+  pub first : (other : Ready) → Contains before other → other.time <ℤ c.time
 
--- the ready commit whose turn it is, and the others: the last one, or one of greatest time
+-- the ready commit whose turn it is, and the others in their order: the last one, or the first of greatest time
 abbrev pub Chooses : Sorting → List Ready → Ready → List Ready → Type 0
 Chooses order.TopoOrder ready c others = ready ≡ others ++ c ∷ []
-Chooses order.DateOrder ready c others = IsPermutation ready (c ∷ others) × ((other : Ready) → Contains others other → other.time ≤ℤ c.time)
+Chooses order.DateOrder ready c others = TakesLatest ready c others
 
 -- a read commit, with all its parents
 abbrev pub IsOfInfo : Ready → Info → Type 0
@@ -277,7 +281,7 @@ module _ {F P : Type 0} (objects : F → Objects) (faulty : F → ObjectId → T
     pub starts : List Ready
     pub kept : Keeps (IsChildless (text_walked objects plan) (IsTextMember objects plan)) (first_places plan.tips) childless
     pub sorted : ready_ids starts ≡ by_time (time_of (objects plan.store)) childless
-    pub holds : HoldsReady plan.sorting starts ready
+    pub holds : ready ≡ starts
 
   -- a walk that was built, before its first call
   pub record IsStarted (walk : TopoWalk F P) : Type 0 where
@@ -329,7 +333,7 @@ module _ {F P : Type 0} (objects : F → Objects) (faulty : F → ObjectId → T
     pub added : List Ready
     pub chosen : Chooses old.plan.sorting old.ready c others
     pub adds : Adds old c counted added
-    pub holds : HoldsReady old.plan.sorting (others ++ added) ready
+    pub holds : ready ≡ others ++ added
 
   -- the walk after that, and after the predicate was asked about it
   abbrev pub after : TopoWalk F P → Ready → Counted → List Ready → P → TopoWalk F P

@@ -35,7 +35,7 @@ pub fn some_topo_order()
     ensures { SomeTopoOrder }
 {}
 
-/// There is then a list in date order, too.
+/// There is a list in date order, too, where the ends go on to each id that the walk goes on to.
 pub fn some_date_order()
     ensures { SomeDateOrder }
 {}
@@ -45,7 +45,7 @@ pub fn one_topo_order()
     ensures { TopoOrderIsOne }
 {}
 
-/// Over any parents, tips and ends, two lists in date order are equal, where no two commits of the walk have the same time.
+/// Over any parents, times, tips and ends, two lists in date order are equal.
 pub fn one_date_order()
     ensures { DateOrderIsOne }
 {}
@@ -55,7 +55,7 @@ pub fn one_topo_beginning()
     ensures { TopoBeginningIsOne }
 {}
 
-/// A beginning in date order is the first ids of the whole list in that order, where no two commits of the walk have the same time.
+/// A beginning in date order is the first ids of the whole list in that order.
 pub fn one_date_beginning()
     ensures { DateBeginningIsOne }
 {}
@@ -105,7 +105,7 @@ pub fn children_first<F: Find>()
     ensures { TakesChildrenFirst F.objects }
 {}
 
-/// Two walks under `TopoOrder` that were built alike, except that each has rows of its own or none, give the same list of ids, where
+/// Two walks that were built alike, except that each has rows of its own or none, give the same list of ids, where
 /// the premises of `in_order` hold for both, and both predicates answer alike.
 pub fn rows_agree<F: Find, P: Predicate>()
     ensures { RowsLeaveTheIds F.objects F.faulty P.answers }

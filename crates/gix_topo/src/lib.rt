@@ -18,13 +18,13 @@ use std::marker::Model;
 use thiserror::Error;
 use walk::Walk;
 
-/// The order of a topological walk. In both every child comes before its parents. Among commits of one time the order may not be git's.
+/// The order of a topological walk. In both every child comes before its parents.
 #[derive(Clone, Copy, Debug, PartialEq, Eq)]
 pub enum Sorting {
-    /// Of the commits whose children were all taken, one of greatest commit time comes next, as in `git rev-list --date-order`.
+    /// Of the commits whose children were all taken, the first of greatest commit time comes next, as in `git rev-list --date-order`.
     DateOrder,
     /// Lines of history aren't intermixed: of the commits whose children were all taken, the one comes next that became so last, as in
-    /// `git rev-list --topo-order`.
+    /// `git rev-list --topo-order`. Of tips of one time it begins with the last given, and git with the first.
     TopoOrder,
 }
 

@@ -119,7 +119,7 @@ impl<F: Find + Drop> Walk<F> {
             ready: ReadySet::new(sorting, alloc),
         };
         walk.start_all()?;
-        walk.ready.sort_by_rising_time()?;
+        walk.ready.sort_by_rising_time(alloc)?;
         Ok(walk)
     }
 

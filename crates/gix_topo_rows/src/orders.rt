@@ -131,7 +131,7 @@ static TABLES: [Table<'static>; 25] = [
         cases: &[(&[10, 12], &[], "12 13 10 11")],
         ..OF_SAMPLE
     },
-    // Times that fall, and times that are all the same.
+    // Times that fall, and times that are all the same: then what became ready first comes first, and in topological order last.
     Table {
         history: History { scale: -1, ..PLAIN },
         way: DATES,
@@ -148,6 +148,16 @@ static TABLES: [Table<'static>; 25] = [
         cases: &[
             (&[6, 7], &[], "7 4 2 6 5 3 1"),
             (&[7, 6], &[], "6 5 3 7 4 2 1"),
+        ],
+        ..OF_SAMPLE
+    },
+    Table {
+        history: History { scale: 0, ..PLAIN },
+        way: DATES,
+        cases: &[
+            (&[8], &[], "8 6 7 5 4 3 2 1"),
+            (&[6, 7], &[], "6 7 5 4 3 2 1"),
+            (&[7, 6], &[], "7 6 4 5 2 3 1"),
         ],
         ..OF_SAMPLE
     },

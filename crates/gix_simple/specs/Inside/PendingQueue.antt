@@ -1,15 +1,14 @@
 -- How the pending commits of a walk are held, and which comes next.
-use Rattle.std.specs.Prelude.{◌≡◌, ℤ, List, [], ◌∷◌, All, Contains, Option, Some, None, IsPermutation, neg_ℤ, pos, ◌-ℤ◌}
+use Rattle.std.specs.Prelude.{◌≡◌, ℤ, List, [], ◌∷◌, All, Option, Some, None, neg_ℤ, pos, ◌-ℤ◌}
 use Rattle.gix_revwalk.specs.PriorityQueue.{values}
 use Rattle.gix_revwalk.specs.declared.CommitTimeOrder.{CommitTimeOrder}
 use Rattle.gix_revwalk.specs.declared.CommitTimeOrder.TheVariants.{NewestFirst, OldestFirst}
 use Rattle.gix_revwalk.specs.Pending.{Pending}
 use Rattle.gix_simple.specs.declared.pending.Held.{Held}
 use Rattle.gix_simple.specs.declared.pending.Held.TheVariants.{Listed, ByTime}
-use Rattle.gix_revwalk.specs.TimeOrder.{IsNoWorse}
+use Rattle.gix_simple.specs.Walk.{TakesBest}
 
--- The pending commits, and the order by time in which they are held, if there is one. Without one they are in the order in which they
--- became pending.
+-- The pending commits, in the order in which they became pending, and the order by time in which they are held, if there is one.
 pub record Queued : Type 0 where
   pub order : Option CommitTimeOrder
   pub items : List Pending
@@ -36,10 +35,10 @@ abbrev pub IsKeyed : Held → Type 0
 IsKeyed (Listed list) = Unit {0}
 IsKeyed (ByTime order queue) = AreKeyed order queue
 
--- the pending commit whose turn it is, and the others: what came first, or where an order by time is in force one of best time
+-- the pending commit whose turn it is, and the others: what came first, or where an order by time is in force the first of best time
 abbrev pub IsChosen : Option CommitTimeOrder → List Pending → Pending → List Pending → Type 0
 IsChosen None pending taken others = pending ≡ taken ∷ others
-IsChosen (Some order) pending taken others = IsPermutation pending (taken ∷ others) × ((other : Pending) → Contains others other → IsNoWorse order taken.time other.time)
+IsChosen (Some order) pending taken others = TakesBest order pending taken others
 
 -- the next pending commit is taken out, if there is one
 abbrev pub TakesOut : Option CommitTimeOrder → List Pending → Option Pending → List Pending → Type 0

@@ -9,8 +9,8 @@ cut_short Q (x ∷ ids) rest done h zero i e = rw append-nil (subst (λ o. Q don
 cut_short Q (x ∷ ids) rest done h (suc k) i e = rw append_assoc at (cut_short Q ids rest (done ++ x ∷ []) (turn_on Q done (ids ++ rest) x h) k i e)
 
 module _ (time : ObjectId → ℤ) (walked : ObjectId → List ObjectId) (In : ObjectId → Type 0) where
-  pub date_cut : (ids rest : List ObjectId) → IsDateOrder time walked In (ids ++ rest) → IsDateBeginning time walked In ids
-  date_cut ids rest h = cut_short (IsBestNext time walked In) ids rest [] h
+  pub date_cut : (tips ids rest : List ObjectId) → IsDateOrder time walked In tips (ids ++ rest) → IsDateBeginning time walked In tips ids
+  date_cut tips ids rest h = cut_short (IsBestNext time walked In tips) ids rest [] h
 
   pub topo_cut : (tips ids rest : List ObjectId) → IsTopoOrder time walked In tips (ids ++ rest) → IsTopoBeginning time walked In tips ids
   topo_cut tips ids rest h = λ k i e. let l : IsLastMade time walked In tips (take k ids) (Some i) = cut_short (IsLastMade time walked In tips) ids rest [] h k i e in (l.0, l.1, sym l.2)

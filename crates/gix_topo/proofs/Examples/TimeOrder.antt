@@ -1,12 +1,12 @@
 -- Worked examples of the order by time: over a finite history a test that computes says whether a list is in it.
-use Rattle.std.proofs.Common.{◌≡◌, ◌≤◌, ℕ, pos, List, [], ◌∷◌, Bool, true, false, not, ◌&&◌, ◌||◌, Option, Some, None, Contains, MatchOption, refl, sym, ◌∙◌, arith, true≢false, leb-true}
+use Rattle.std.proofs.Common.{◌≡◌, ◌≤◌, ℕ, pos, List, [], ◌∷◌, Bool, true, false, not, ◌&&◌, ◌||◌, find, Option, Some, None, Contains, MatchOption, refl, sym, ◌∙◌, arith, true≢false, leb-true}
 use Rattle.std.proofs.Math.Dec.{leb}
 use Rattle.gix_topo.proofs.Common.{ints, and_parts, not-true, false_from_ne_true, ObjectId, is_among, among_from, among_is, NewestFirst, OldestFirst, named_by}
 use Rattle.gix_revwalk.specs.declared.CommitTimeOrder.{CommitTimeOrder}
-use Rattle.gix_revwalk.specs.TimeOrder.{IsNoWorse, IsPending, IsBest, IsTimeOrder}
+use Rattle.gix_revwalk.specs.TimeOrder.{is_no_worse, IsNoWorse, IsPending, IsNextByTime, IsTimeOrder}
 use Rattle.gix_revwalk.specs.Examples.{ids, history, sample_in}
 use Rattle.gix_topo.proofs.Readiness.Decided.{all_of, all_is}
-use Rattle.gix_topo.proofs.Examples.TopologicalOrders.{sample_seconds}
+use Rattle.gix_topo.proofs.Examples.TopologicalOrders.{sample_seconds, is_this, this_is}
 use Rattle.gix_topo.proofs.Run.ReadyInTurn.{is_list, list_turns}
 
 abbrev no_worse : CommitTimeOrder → ℕ → ℕ → Bool
@@ -24,10 +24,11 @@ module _ (order : CommitTimeOrder) (seconds : ObjectId → ℕ) (next : ObjectId
   abbrev is_next : List ObjectId → Option ObjectId → Bool
   is_next done None = all_of (λ j. is_among j done) (named_by next starts done)
   is_next done (Some i) =
-      (is_among i (named_by next starts done) && not (is_among i done)) && all_of (λ j. is_among j done || no_worse order (seconds i) (seconds j)) (named_by next starts done)
+      ((is_among i (named_by next starts done) && not (is_among i done)) && all_of (λ j. is_among j done || no_worse order (seconds i) (seconds j)) (named_by next starts done))
+      && is_this (find (λ j. not (is_among j done) && is_no_worse order (pos (seconds j)) (pos (seconds i))) (named_by next starts done)) (Some i)
 
   abbrev IsNext : List ObjectId → Option ObjectId → Type 0
-  IsNext done o = MatchOption o ((i : ObjectId) → IsPending next starts done i → ⊥) (IsBest order (λ i. pos (seconds i)) (IsPending next starts done))
+  IsNext done o = MatchOption o ((i : ObjectId) → IsPending next starts done i → ⊥) (IsNextByTime order (λ i. pos (seconds i)) next starts done)
 
   untaken : (done : List ObjectId) (i : ObjectId) → (Contains done i → ⊥) → is_among i done ≡ false
   untaken done i left = false_from_ne_true _ (λ e. left (among_is i done e))
@@ -35,11 +36,15 @@ module _ (order : CommitTimeOrder) (seconds : ObjectId → ℕ) (next : ObjectId
   next_is : (done : List ObjectId) (o : Option ObjectId) → is_next done o ≡ true → IsNext done o
   next_is done None e = λ i p. true≢false (sym (all_is (λ j. is_among j done) (named_by next starts done) e i p.0) ∙ untaken done i p.1)
   next_is done (Some i) e =
-      let a : ((is_among i (named_by next starts done) && not (is_among i done)) ≡ true) × (all_of (λ j. is_among j done || no_worse order (seconds i) (seconds j)) (named_by next starts done) ≡ true) = and_parts _ _ e in
+      let t : (((is_among i (named_by next starts done) && not (is_among i done)) && all_of (λ j. is_among j done || no_worse order (seconds i) (seconds j)) (named_by next starts done)) ≡ true) × (is_this (find (λ j. not (is_among j done) && is_no_worse order (pos (seconds j)) (pos (seconds i))) (named_by next starts done)) (Some i) ≡ true) = and_parts _ _ e in
+      let a : ((is_among i (named_by next starts done) && not (is_among i done)) ≡ true) × (all_of (λ j. is_among j done || no_worse order (seconds i) (seconds j)) (named_by next starts done) ≡ true) = and_parts _ _ t.0 in
       let b : (is_among i (named_by next starts done) ≡ true) × (not (is_among i done) ≡ true) = and_parts _ _ a.0 in
       record {
-        among = (among_is i _ b.0, λ c. true≢false (sym (among_from i done c) ∙ not-true _ b.1));
-        best = λ j p. no_worse_is order (seconds i) (seconds j) (other _ _ (all_is (λ k. is_among k done || no_worse order (seconds i) (seconds k)) (named_by next starts done) a.1 j p.0) (untaken done j p.1));
+        best = record {
+          among = (among_is i _ b.0, λ c. true≢false (sym (among_from i done c) ∙ not-true _ b.1));
+          best = λ j p. no_worse_is order (seconds i) (seconds j) (other _ _ (all_is (λ k. is_among k done || no_worse order (seconds i) (seconds k)) (named_by next starts done) a.1 j p.0) (untaken done j p.1));
+        };
+        first = this_is _ _ t.1;
       }
 
   abbrev is_time : List ObjectId → List ObjectId → Bool

@@ -1,9 +1,10 @@
 -- Worked examples: over a finite history, lists in the orders of topological walks are found by computing.
-use Rattle.std.proofs.Common.{◌≡◌, ◌≤◌, ℕ, suc, ℤ, pos, List, [], ◌∷◌, Bool, true, false, not, ◌&&◌, ◌||◌, cond, reverse, take, Option, Some, None, Contains, refl, sym, ap, subst, inr, ⊎_elim, ◌∙◌, arith, true≢false, leb-true}
+use Rattle.std.proofs.Common.{◌≡◌, ◌≤◌, ℕ, suc, ℤ, pos, List, [], ◌∷◌, Bool, true, false, not, ◌&&◌, ◌||◌, cond, find, reverse, take, Option, Some, None, Contains, refl, sym, ap, subst, inr, ⊎_elim, ◌∙◌, arith, true≢false, leb-true}
 use Rattle.std.proofs.Math.Dec.{leb}
 use Rattle.gix_topo.proofs.Common.{ints, false≢true, and_parts, and_from, not-true, not_from_false, false_from_ne_true, ObjectId, is_same, is_among, first_new, named_by, IsDateOrder, Reaches, start, step, IsAcyclic, IsAtBoundary}
-use Rattle.gix_topo.proofs.Common.{IsInWalk, IsAcyclicIn, IsReady, IsMadeReady, IsTopoOrder, same_is, among_is, Contains-cons_cases, no_member}
+use Rattle.gix_topo.proofs.Common.{IsInWalk, IsAcyclicIn, IsReady, IsMadeReady, IsTopoOrder, NewestFirst, same_is, among_is, Contains-cons_cases, no_member}
 use Rattle.gix_revwalk.specs.Examples.{n, ids, history, sample_in}
+use Rattle.gix_revwalk.specs.TimeOrder.{is_no_worse, IsBest}
 use Rattle.gix_revwalk.proofs.Orders.{reached_by_named}
 use Rattle.gix_topo.proofs.Readiness.Decided.{all_of, all_is, given, is_ready as is_ready_of, ready_is as ready_of, is_ready_by as of_ready, made as made_by, made_is as made_is_by}
 use Rattle.gix_topo.proofs.Run.ReadyInTurn.{is_list, list_turns, IsBestNext, IsLastMade}
@@ -29,6 +30,19 @@ module _ (next : ObjectId → List ObjectId) (starts : List ObjectId) where
       ⊎_elim (λ s. subst (Reaches next starts) s here)
       (λ t. led_reach rs (x ∷ done) (and_parts _ _ e).1 (λ d k. ⊎_elim (λ s. subst (Reaches next starts) s here) (λ l. h d l) (Contains-cons_cases d x done k)) i t)
       (Contains-cons_cases i x rs c)
+
+-- the two are one
+abbrev pub is_this : Option ObjectId → Option ObjectId → Bool
+is_this None None = true
+is_this None (Some j) = false
+is_this (Some i) None = false
+is_this (Some i) (Some j) = is_same i j
+
+pub this_is : (o p : Option ObjectId) → is_this o p ≡ true → o ≡ p
+this_is None None e = refl
+this_is None (Some j) e = absurd (false≢true e)
+this_is (Some i) None e = absurd (false≢true e)
+this_is (Some i) (Some j) e = ap Some (same_is i j e)
 
 -- a finite history: the commits that have parents, what tips reach, and what ends reach
 module _ (walked : ObjectId → List ObjectId) (tips ends keys reached hidden : List ObjectId) (finite : (c i : ObjectId) → Contains (walked c) i → is_among c keys ≡ true)
@@ -61,51 +75,12 @@ module _ (walked : ObjectId → List ObjectId) (tips ends keys reached hidden : 
   is_ready_by : (taken : List ObjectId) (i : ObjectId) → IsReady walked Member (Contains taken) i → is_ready taken i ≡ true
   is_ready_by = of_ready walked Member keys is_member (λ c i k. finite c i k.named) member_is is_member_by
 
-  -- the next one is ready, and no member that is ready has a greater time
-  module _ (seconds : ObjectId → ℕ) where
-    abbrev is_best : List ObjectId → Option ObjectId → Bool
-    is_best done None = all_of (λ j. not (is_ready done j)) reached
-    is_best done (Some i) = is_ready done i && all_of (λ j. not (is_ready done j) || leb (seconds j) (seconds i)) reached
-
-    best_is : (done : List ObjectId) (o : Option ObjectId) → is_best done o ≡ true → IsBestNext (λ i. pos (seconds i)) walked Member done o
-    best_is done None e = λ i r.
-        let b : is_ready done i ≡ true = is_ready_by done i r in
-        true≢false (sym (all_is (λ j. not (is_ready done j)) reached e i (among_is i reached (and_parts _ _ (and_parts _ _ b).0).0)) ∙ ap not b)
-    best_is done (Some i) e =
-        let a : (is_ready done i ≡ true) × (all_of (λ j. not (is_ready done j) || leb (seconds j) (seconds i)) reached ≡ true) = and_parts _ _ e in
-        record {
-          among = ready_is done i a.0;
-          best = λ j r.
-              let b : is_ready done j ≡ true = is_ready_by done j r in
-              let l : seconds j ≤ seconds i = leb-true _ _ (given _ _ (all_is (λ k. not (is_ready done k) || leb (seconds k) (seconds i)) reached a.1 j (among_is j reached (and_parts _ _ (and_parts _ _ b).0).0)) b) in
-              omega (arith, ints);
-        }
-
-    abbrev is_date : List ObjectId → List ObjectId → Bool
-    is_date = is_list is_best
-
-    -- a list that passes is in order by date
-    pub date_by : (ids : List ObjectId) → is_date [] ids ≡ true → IsDateOrder (λ i. pos (seconds i)) walked Member ids
-    date_by ids e = list_turns (IsBestNext (λ i. pos (seconds i)) walked Member) is_best best_is ids [] e
-
   module _ (time : ObjectId → ℤ) where
     abbrev made : List ObjectId → List ObjectId
     made = made_by walked Member keys is_member time tips
 
     made_is : (taken : List ObjectId) → IsMadeReady time walked Member tips taken (made taken)
     made_is = made_is_by walked Member keys is_member (λ c i k. finite c i k.named) member_is is_member_by time tips
-
-    abbrev is_this : Option ObjectId → Option ObjectId → Bool
-    is_this None None = true
-    is_this None (Some j) = false
-    is_this (Some i) None = false
-    is_this (Some i) (Some j) = is_same i j
-
-    this_is : (o p : Option ObjectId) → is_this o p ≡ true → o ≡ p
-    this_is None None e = refl
-    this_is None (Some j) e = absurd (false≢true e)
-    this_is (Some i) None e = absurd (false≢true e)
-    this_is (Some i) (Some j) e = ap Some (same_is i j e)
 
     abbrev is_turn : List ObjectId → Option ObjectId → Bool
     is_turn done o = is_this o (first_new (reverse (made (reverse done))) done)
@@ -119,6 +94,44 @@ module _ (walked : ObjectId → List ObjectId) (tips ends keys reached hidden : 
     -- a list that passes is in topological order
     pub topo_by : (ids : List ObjectId) → is_topo [] ids ≡ true → IsTopoOrder time walked Member tips ids
     topo_by ids e = list_turns (IsLastMade time walked Member tips) is_turn turn_is ids [] e
+
+  -- the next one is ready, and no member that is ready has a greater time
+  module _ (seconds : ObjectId → ℕ) where
+    abbrev at : ObjectId → ℤ
+    at i = pos (seconds i)
+
+    abbrev is_best : List ObjectId → Option ObjectId → Bool
+    is_best done None = all_of (λ j. not (is_ready done j)) reached
+    is_best done (Some i) =
+        (is_ready done i && all_of (λ j. not (is_ready done j) || leb (seconds j) (seconds i)) reached)
+        && is_this (find (λ j. not (is_among j done) && is_no_worse NewestFirst (pos (seconds j)) (pos (seconds i))) (made at (reverse done))) (Some i)
+
+    best_is : (done : List ObjectId) (o : Option ObjectId) → is_best done o ≡ true → IsBestNext at walked Member tips done o
+    best_is done None e = (
+      made at (reverse done),
+      made_is at (reverse done),
+      λ i r.
+          let b : is_ready done i ≡ true = is_ready_by done i r in
+          true≢false (sym (all_is (λ j. not (is_ready done j)) reached e i (among_is i reached (and_parts _ _ (and_parts _ _ b).0).0)) ∙ ap not b),
+    )
+    best_is done (Some i) e =
+        let t : ((is_ready done i && all_of (λ j. not (is_ready done j) || leb (seconds j) (seconds i)) reached) ≡ true) × (is_this (find (λ j. not (is_among j done) && is_no_worse NewestFirst (at j) (at i)) (made at (reverse done))) (Some i) ≡ true) = and_parts _ _ e in
+        let a : (is_ready done i ≡ true) × (all_of (λ j. not (is_ready done j) || leb (seconds j) (seconds i)) reached ≡ true) = and_parts _ _ t.0 in
+        let b : IsBest NewestFirst at (IsReady walked Member (Contains done)) i = record {
+          among = ready_is done i a.0;
+          best = λ j r.
+              let b : is_ready done j ≡ true = is_ready_by done j r in
+              let l : seconds j ≤ seconds i = leb-true _ _ (given _ _ (all_is (λ k. not (is_ready done k) || leb (seconds k) (seconds i)) reached a.1 j (among_is j reached (and_parts _ _ (and_parts _ _ b).0).0)) b) in
+              omega (arith, ints);
+        } in
+        (made at (reverse done), made_is at (reverse done), record { best = b; first = this_is _ _ t.1 })
+
+    abbrev is_date : List ObjectId → List ObjectId → Bool
+    is_date = is_list is_best
+
+    -- a list that passes is in order by date
+    pub date_by : (ids : List ObjectId) → is_date [] ids ≡ true → IsDateOrder at walked Member tips ids
+    date_by ids e = list_turns (IsBestNext at walked Member tips) is_best best_is ids [] e
 
 -- the sample history
 abbrev pub keys_of : List (ℕ × List ℕ) → List ObjectId
@@ -146,7 +159,7 @@ abbrev pub IsSampleTopo : List (ℕ × List ℕ) → List ℕ → List ℕ → L
 IsSampleTopo h tips ends order = IsTopoOrder (λ i. pos (sample_seconds h i)) (sample_in h) (SampleSet h tips ends) (ids tips) (ids order)
 
 abbrev pub IsSampleDate : List (ℕ × List ℕ) → List ℕ → List ℕ → List ℕ → Type 0
-IsSampleDate h tips ends order = IsDateOrder (λ i. pos (sample_seconds h i)) (sample_in h) (SampleSet h tips ends) (ids order)
+IsSampleDate h tips ends order = IsDateOrder (λ i. pos (sample_seconds h i)) (sample_in h) (SampleSet h tips ends) (ids tips) (ids order)
 
 -- `reached` and `hidden` are what tips and ends reach, each behind a commit that names it
 module _ (h : List (ℕ × List ℕ)) (tips ends reached hidden : List ℕ)

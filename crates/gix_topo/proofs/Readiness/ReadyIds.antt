@@ -1,8 +1,8 @@
 -- Ready commits by their ids: those that are held, chosen, and joined.
 use Rattle.std.proofs.Common.{◌≡◌, ◌+◌, ◌≤◌, ℕ, suc, List, [], ◌∷◌, ◌++◌, length, Bool, true, false, ◌||◌, cond, map, Contains, IsPermutation, sym, ap, subst, ⊎_elim, ◌∙◌, arith, append_assoc, append-nil}
 use Rattle.std.proofs.lemmas.List.{map-append}
-use Rattle.gix_topo.proofs.Common.{length_permutation, IsPermutation-to_front, IsPermutation-map, IsPermutation-sym, IsPermutation-append_left, IsPermutation-trans, IsPermutation-refl, Contains-permutation, ObjectId, is_same, is_among}
-use Rattle.gix_topo.proofs.Common.{among-append, among_is, Contains-here, Contains-there, Contains-cons_cases, no_member, Sorting, Ready, ready_ids, HoldsReady, Chooses, AreDistinct, times-append, times_moved, times_none, times_once}
+use Rattle.gix_topo.proofs.Common.{length_permutation, IsPermutation-middle, IsPermutation-map, IsPermutation-sym, Contains-permutation, ObjectId, is_same, is_among}
+use Rattle.gix_topo.proofs.Common.{among-append, among_is, Contains-here, Contains-there, Contains-cons_cases, no_member, Sorting, Ready, ready_ids, Chooses, AreDistinct, times-append, times_moved, times_none, times_once}
 use Rattle.gix_topo.specs.declared.Sorting.TheVariants as order
 use Rattle.gix_revwalk.proofs.NewIds.{times}
 use Rattle.gix_topo.proofs.Readiness.IsReady.{among_by, distinct_times}
@@ -29,31 +29,27 @@ pub joined_times : (i : ObjectId) (xs ys : List Ready) → times i (ready_ids (x
 joined_times i xs ys = ap (times i) (ids-append xs ys) ∙ times-append i (ready_ids xs) (ready_ids ys)
 
 -- what is held
-holds_moved : (s : Sorting) (these ready : List Ready) → HoldsReady s these ready → IsPermutation these ready
-holds_moved order.TopoOrder these ready h = subst (IsPermutation these) (sym h) (IsPermutation-refl these)
-holds_moved order.DateOrder these ready h = h
+pub holds_times : (these ready : List Ready) → ready ≡ these → (i : ObjectId) → times i (ready_ids ready) ≡ times i (ready_ids these)
+holds_times these ready h i = ap (λ rs. times i (ready_ids rs)) h
 
-pub holds_times : (s : Sorting) (these ready : List Ready) → HoldsReady s these ready → (i : ObjectId) → times i (ready_ids ready) ≡ times i (ready_ids these)
-holds_times s these ready h i = times-permutation i these ready (holds_moved s these ready h)
+pub holds_on : (old first mid others new : List Ready) → mid ≡ old ++ first → new ≡ mid ++ others → new ≡ old ++ (first ++ others)
+holds_on old first mid others new a b = b ∙ ap (λ xs. xs ++ others) a ∙ append_assoc old first others
 
-pub holds_length : (s : Sorting) (these ready : List Ready) → HoldsReady s these ready → length ready ≡ length these
-holds_length s these ready h = length_permutation these ready (holds_moved s these ready h)
+-- where the chosen one is, and what is left
+pub record Splits (ready : List Ready) (c : Ready) (others : List Ready) : Type 0 where
+  pub before : List Ready
+  pub behind : List Ready
+  pub place : ready ≡ before ++ c ∷ behind
+  pub left : others ≡ before ++ behind
 
-pub holds_in : (s : Sorting) (these ready : List Ready) → HoldsReady s these ready → (r : Ready) → Contains ready r → Contains these r
-holds_in s these ready h r c = Contains-permutation ready these r (IsPermutation-sym these ready (holds_moved s these ready h)) c
+pub chosen_splits : (s : Sorting) (ready : List Ready) (c : Ready) (others : List Ready) → Chooses s ready c others → Splits ready c others
+chosen_splits order.TopoOrder ready c others h = record { before = others; behind = []; place = h; left = sym (append-nil others) }
+chosen_splits order.DateOrder ready c others h = record { before = h.before; behind = h.behind; place = h.place; left = h.left }
 
-pub holds_none : (s : Sorting) (old : List Ready) → HoldsReady s (old ++ []) old
-holds_none order.TopoOrder old = sym (append-nil old)
-holds_none order.DateOrder old = subst (λ xs. IsPermutation xs old) (sym (append-nil old)) (IsPermutation-refl old)
-
-pub holds_on : (s : Sorting) (old first mid others new : List Ready) → HoldsReady s (old ++ first) mid → HoldsReady s (mid ++ others) new → HoldsReady s (old ++ (first ++ others)) new
-holds_on order.TopoOrder old first mid others new a b = b ∙ ap (λ xs. xs ++ others) a ∙ append_assoc old first others
-holds_on order.DateOrder old first mid others new a b = subst (λ xs. IsPermutation xs new) (append_assoc old first others) (IsPermutation-trans _ _ _ (IsPermutation-append_left others (old ++ first) mid a) b)
-
--- what is chosen, and what is left
 chosen_moved : (s : Sorting) (ready : List Ready) (c : Ready) (others : List Ready) → Chooses s ready c others → IsPermutation (c ∷ others) ready
-chosen_moved order.TopoOrder ready c others h = IsPermutation-sym _ _ (subst (λ rs. IsPermutation rs (c ∷ others)) (sym h) (IsPermutation-to_front others c))
-chosen_moved order.DateOrder ready c others h = IsPermutation-sym _ _ h.0
+chosen_moved s ready c others h =
+    let k : Splits ready c others = chosen_splits s ready c others h in
+    subst (IsPermutation (c ∷ others)) (sym k.place) (subst (λ rs. IsPermutation (c ∷ rs) (k.before ++ c ∷ k.behind)) (sym k.left) (IsPermutation-sym _ _ (IsPermutation-middle k.before c k.behind)))
 
 pub chosen_times : (s : Sorting) (ready : List Ready) (c : Ready) (others : List Ready) → Chooses s ready c others → (i : ObjectId) → times i (ready_ids ready) ≡ cond (is_same i c.id) 1 0 + times i (ready_ids others)
 chosen_times s ready c others h i = times-permutation i (c ∷ others) ready (chosen_moved s ready c others h)
@@ -71,8 +67,8 @@ others_in s ready c others h r m = Contains-permutation (c ∷ others) ready r (
 pub chosen_among : (s : Sorting) (ready : List Ready) (c : Ready) (others : List Ready) → Chooses s ready c others → (i : ObjectId) → is_among i (ready_ids ready) ≡ (is_same i c.id || is_among i (ready_ids others))
 chosen_among s ready c others h i = among_by i (ready_ids ready) (c.id ∷ ready_ids others) (chosen_times s ready c others h i)
 
-pub held_among : (s : Sorting) (others added ready : List Ready) → HoldsReady s (others ++ added) ready → (i : ObjectId) → is_among i (ready_ids ready) ≡ (is_among i (ready_ids others) || is_among i (ready_ids added))
-held_among s others added ready h i = among_by i (ready_ids ready) (ready_ids others ++ ready_ids added) (holds_times s (others ++ added) ready h i ∙ ap (times i) (ids-append others added)) ∙ among-append i (ready_ids others) (ready_ids added)
+pub held_among : (others added ready : List Ready) → ready ≡ others ++ added → (i : ObjectId) → is_among i (ready_ids ready) ≡ (is_among i (ready_ids others) || is_among i (ready_ids added))
+held_among others added ready h i = among_by i (ready_ids ready) (ready_ids others ++ ready_ids added) (holds_times (others ++ added) ready h i ∙ ap (times i) (ids-append others added)) ∙ among-append i (ready_ids others) (ready_ids added)
 
 -- the chosen one was there once
 pub chosen_once : (s : Sorting) (ready : List Ready) (c : Ready) (others : List Ready) → Chooses s ready c others → AreDistinct (ready_ids ready) → AreDistinct (c.id ∷ ready_ids others)
@@ -82,9 +78,9 @@ chosen_once s ready c others h d = times_once (c.id ∷ ready_ids others) (λ i.
     omega arith)
 
 -- and so is each one, where what is added is new
-pub held_once : (s : Sorting) (others added ready : List Ready) → HoldsReady s (others ++ added) ready → AreDistinct (ready_ids others) → AreDistinct (ready_ids added) → ((i : ObjectId) → Contains (ready_ids added) i → is_among i (ready_ids others) ≡ false) → AreDistinct (ready_ids ready)
-held_once s others added ready h o a apart = times_once (ready_ids ready) (λ i.
-    go (is_among i (ready_ids added)) _ _ _ (holds_times s (others ++ added) ready h i ∙ joined_times i others added) (distinct_times (ready_ids others) o i) (distinct_times (ready_ids added) a i)
+pub held_once : (others added ready : List Ready) → ready ≡ others ++ added → AreDistinct (ready_ids others) → AreDistinct (ready_ids added) → ((i : ObjectId) → Contains (ready_ids added) i → is_among i (ready_ids others) ≡ false) → AreDistinct (ready_ids ready)
+held_once others added ready h o a apart = times_once (ready_ids ready) (λ i.
+    go (is_among i (ready_ids added)) _ _ _ (holds_times (others ++ added) ready h i ∙ joined_times i others added) (distinct_times (ready_ids others) o i) (distinct_times (ready_ids added) a i)
     (λ e. times_none i (ready_ids others) (apart i (among_is i _ e))) (times_none i (ready_ids added)))
   where
     go : (b : Bool) (n m k : ℕ) → n ≡ m + k → m ≤ 1 → k ≤ 1 → (b ≡ true → m ≡ 0) → (b ≡ false → k ≡ 0) → n ≤ 1

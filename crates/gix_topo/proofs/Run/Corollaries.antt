@@ -3,7 +3,7 @@ use Rattle.gix_topo.specs.declared.Sorting.TheVariants as order
 use Rattle.gix_revwalk.specs.declared.Parents.TheVariants as mode
 use Rattle.std.proofs.Common.{◌≡◌, ◌↔◌, ℕ, List, [], Bool, filter, take, slice_get, Some, Result, Contains, ◌++◌, ℤ, ◌∷◌, true, Ok, Err, All, subst, refl, sym}
 use Rattle.std.specs.List.{AllZip}
-use Rattle.gix_topo.proofs.Common.{ObjectId, Objects, GraphRow, Info, Sorting, Error, parents_of, time_of, ReadsWhole, walked_parents, by_mode, IsAcyclicIn, IsChild, IsInWalk, IsTopoOrder, AreDistinct, TopoPlan, TopoWalk, walked_of}
+use Rattle.gix_topo.proofs.Common.{ObjectId, Objects, GraphRow, Info, Sorting, Error, parents_of, time_of, ReadsWhole, walked_parents, by_mode, IsAcyclicIn, IsChild, IsInWalk, AreDistinct, TopoPlan, TopoWalk, walked_of}
 use Rattle.gix_topo.proofs.Common.{IsMember, text_walked, IsTextMember, IsStarted, Next, IsTakenInOrder, IsTakenFirst, IsTakenByText, IsGiven, GivesInOrder, IsWholeRun, IsNoRefusal, IsTextGiven, GivesTextOrder, GivesDifference}
 use Rattle.gix_topo.proofs.Common.{GivesTextDifference, given_ids, Drains, Contains-append_left, Contains-append_right, Parents, Reaches, step, IsAgreeing, filter_all}
 use Rattle.gix_revwalk.specs.Texts.{text_next}
@@ -11,7 +11,7 @@ use Rattle.gix_topo.specs.Laws.{IsSorted}
 use Rattle.gix_topo.proofs.Run.ReadyInTurn.{TurnsFrom, IsReadyNext, same_set}
 use Rattle.gix_topo.proofs.Reading.ReadsCommit.{text_has}
 use Rattle.gix_topo.proofs.Run.EachOnce.{turns_by, each_by, first_by}
-use Rattle.gix_topo.proofs.Run.OneList.{same_topo}
+use Rattle.gix_topo.proofs.Run.OneList.{same_date, same_topo}
 use Rattle.gix_topo.proofs.Run.Theorem.{gives, gives_text, run_faultless}
 use Rattle.gix_revwalk.specs.Asking.{AnswersBy}
 use Rattle.gix_revwalk.proofs.Reached.{reach_more}
@@ -36,16 +36,19 @@ module _ {F : Type 0} (objects : F → Objects) (plan : TopoPlan F) (ids : List 
       ((k : ℕ) (d p : ObjectId) → slice_get ids k ≡ Some p → IsChild (walked_of objects plan) (IsMember objects plan) d p → Contains (take k ids) d)
   first_once h = first_by (objects plan.store) (parents_of (objects plan.store)) (text_has (objects plan.store)) plan.parents (time_of (objects plan.store)) plan.tips plan.ends ids plan.sorting h
 
-pub with_rows : {F P : Type 0} (objects : F → Objects) (faulty : F → ObjectId → Type 0) (answers : P → ObjectId → Bool → P → Type 0) (walk other : TopoWalk F P) (rows : List GraphRow) (accepts : ObjectId → Bool) (list longer : List (Result Info Error)) → walk.plan.sorting ≡ order.TopoOrder → other.plan ≡ record walk.plan { rows = rows } →
+-- each order is one list
+one_sorted : (s : Sorting) (time : ObjectId → ℤ) (walked : ObjectId → List ObjectId) (In : ObjectId → Type 0) (tips xs ys : List ObjectId) → IsSorted s time walked In tips xs → IsSorted s time walked In tips ys → xs ≡ ys
+one_sorted order.DateOrder time walked In tips xs ys h k = same_date time walked In tips xs ys h k
+one_sorted order.TopoOrder time walked In tips xs ys h k = same_topo time walked In tips xs ys h k
+
+pub with_rows : {F P : Type 0} (objects : F → Objects) (faulty : F → ObjectId → Type 0) (answers : P → ObjectId → Bool → P → Type 0) (walk other : TopoWalk F P) (rows : List GraphRow) (accepts : ObjectId → Bool) (list longer : List (Result Info Error)) → other.plan ≡ record walk.plan { rows = rows } →
     IsWholeRun objects faulty answers walk accepts list → IsWholeRun objects faulty answers other accepts longer →
     (ids : List ObjectId) × AllZip (IsGiven objects walk.plan) list (filter accepts ids) × AllZip (IsGiven objects other.plan) longer (filter accepts ids)
-with_rows {F} objects faulty answers walk other rows accepts list longer sorted same run run_other =
+with_rows {F} objects faulty answers walk other rows accepts list longer same run run_other =
     let g : GivesInOrder objects walk.plan accepts list = gives objects faulty answers accepts walk list run in
     let h : GivesInOrder objects other.plan accepts longer = gives objects faulty answers accepts other longer run_other in
     let plan : TopoPlan F = walk.plan in
-    let topo : (ids : List ObjectId) → IsTakenInOrder objects plan ids → IsTopoOrder (time_of (objects plan.store)) (walked_of objects plan) (IsMember objects plan) plan.tips ids = λ ids k. subst
-    (λ s. IsSorted s (time_of (objects plan.store)) (walked_of objects plan) (IsMember objects plan) plan.tips ids) sorted k in
-    let e : h.ids ≡ g.ids = same_topo (time_of (objects plan.store)) (walked_of objects plan) (IsMember objects plan) plan.tips h.ids g.ids (topo h.ids (subst (λ p. IsTakenInOrder objects p h.ids) same h.in_order)) (topo g.ids g.in_order) in
+    let e : h.ids ≡ g.ids = one_sorted plan.sorting (time_of (objects plan.store)) (walked_of objects plan) (IsMember objects plan) plan.tips h.ids g.ids (subst (λ p. IsTakenInOrder objects p h.ids) same h.in_order) g.in_order in
     (g.ids, g.given, subst (λ ids. AllZip (IsGiven objects other.plan) longer (filter accepts ids)) e h.given)
 
 -- whatever the rows and the order: the same commits are taken

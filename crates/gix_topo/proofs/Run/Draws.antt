@@ -1,10 +1,10 @@
 -- What a walk does while it is drawn, whatever faults come: it takes one commit after the other, and may end in a fault. The laws of runs go along these steps.
-use Rattle.std.proofs.Common.{◌≡◌, ◌⊎◌, List, [], ◌∷◌, ◌++◌, Bool, true, false, Option, Some, None, Result, Ok, Err, Contains, refl, sym, subst, inl, inr, ⊎_elim}
+use Rattle.std.proofs.Common.{◌≡◌, ◌⊎◌, List, [], ◌∷◌, Bool, true, false, Option, Some, None, Result, Ok, Err, Contains, refl, sym, subst, inl, inr, ⊎_elim}
 use Rattle.gix_topo.proofs.Common.{Contains-append_cases, Drains, Yields, ObjectId, id_cmp, Objects, Info, Sorting, Error, TopoWalk, Ready, Counted, Chooses, IsNextReady, IsFault, IsLate, Takes, after, Next, refused, no_member}
 use Rattle.std.specs.FinSet as set
 use Rattle.gix_revwalk.specs.Infos.{IsInfo}
 use Rattle.gix_topo.specs.Walk.{ended, given, failed}
-use Rattle.gix_topo.proofs.Readiness.ReadyIds.{chosen_in, others_in, holds_in}
+use Rattle.gix_topo.proofs.Readiness.ReadyIds.{chosen_in, others_in}
 
 -- where a commit is chosen something is ready
 none_chosen : (s : Sorting) (ready : List Ready) (c : Ready) (others : List Ready) → Chooses s ready c others → ready ≡ [] → ⊥
@@ -23,7 +23,7 @@ module _ {F P : Type 0} (objects : F → Objects) (faulty : F → ObjectId → T
 
   -- what is ready after a commit was taken was so before, or was added
   pub ready_after : {w : TopoWalk F P} {c : Ready} {counted : Counted} {ready : List Ready} (t : Takes objects faulty answers w c counted ready) (r : Ready) → Contains ready r → Contains w.ready r ⊎ Contains t.added r
-  ready_after {w} {c} {ready = ready} t r m = ⊎_elim (λ o. inl (others_in w.plan.sorting w.ready c t.others t.chosen r o)) (λ a. inr a) (Contains-append_cases t.others t.added r (holds_in w.plan.sorting (t.others ++ t.added) ready t.holds r m))
+  ready_after {w} {c} {ready = ready} t r m = ⊎_elim (λ o. inl (others_in w.plan.sorting w.ready c t.others t.chosen r o)) (λ a. inr a) (Contains-append_cases t.others t.added r (subst (λ rs. Contains rs r) t.holds m))
 
   -- where nothing is ready nothing is drawn
   stays : {w new : TopoWalk F P} {ids : List ObjectId} {list : List (Result Info Error)} → Draws w ids list new → w.ready ≡ [] → (list ≡ []) × (w ≡ new)

@@ -12,7 +12,7 @@ use Rattle.gix_topo.specs.Walk.{was_ready, failed}
 use Rattle.gix_revwalk.specs.Asking.{AsksAll, none, more}
 use Rattle.gix_revwalk.proofs.NewIds.{times}
 use Rattle.gix_topo.proofs.Readiness.IsReady.{distinct_times}
-use Rattle.gix_topo.proofs.Readiness.ReadyIds.{chosen_in, chosen_length, holds_length, chosen_among, chosen_once, held_among, held_once, in_ids}
+use Rattle.gix_topo.proofs.Readiness.ReadyIds.{chosen_in, chosen_length, chosen_among, chosen_once, held_among, held_once, in_ids}
 use Rattle.gix_topo.proofs.Run.Draws.{Draws, rests, shows, hides, breaks, all_drawn, ended_drawn, nothing_more}
 
 -- distinct ids that are new no more
@@ -39,7 +39,7 @@ left_all n (r ∷ ready) m e = refl
 module _ {F P : Type 0} (objects : F → Objects) (faulty : F → ObjectId → Type 0) (answers : P → ObjectId → Bool → P → Type 0) where
   made_then : (w : TopoWalk F P) (c : Ready) (counted : Counted) (ready : List Ready) (predicate : P) (t : Takes objects faulty answers w c counted ready) (j : ObjectId) → was_ready (after objects faulty answers w c counted ready predicate) j ≡ (is_among j (ready_ids t.added) || was_ready w j)
   made_then w c counted ready predicate t j =
-      (λ k. set.contains-insert id_total w.taken c.id j k || held_among w.plan.sorting t.others t.added ready t.holds j k)
+      (λ k. set.contains-insert id_total w.taken c.id j k || held_among t.others t.added ready t.holds j k)
       ∙ turned (is_same j c.id) (set.contains w.taken j) (is_among j (ready_ids t.others)) (is_among j (ready_ids t.added))
       ∙ ap (λ b. is_among j (ready_ids t.added) || (set.contains w.taken j || b)) (sym (chosen_among w.plan.sorting w.ready c t.others t.chosen j))
     where
@@ -55,7 +55,7 @@ module _ {F P : Type 0} (objects : F → Objects) (faulty : F → ObjectId → T
       let a : length (fresh (λ j. is_among j (ready_ids t.added) || was_ready w j) named) + length (ready_ids t.added) ≡ new_in w = all_new (was_ready w) named (ready_ids t.added) t.adds.distinct t.adds.named t.adds.unmade in
       let b : new_in (after objects faulty answers w c counted ready predicate) ≡ length (fresh (λ j. is_among j (ready_ids t.added) || was_ready w j) named) = ap length (fresh_agree _ _ named (λ j h. made_then w c counted ready predicate t j)) in
       let l : length (ready_ids t.added) ≡ length t.added = length-map t.added (λ r. r.id) in
-      let h : length ready ≡ length (t.others ++ t.added) = holds_length w.plan.sorting (t.others ++ t.added) ready t.holds in
+      let h : length ready ≡ length (t.others ++ t.added) = ap length t.holds in
       let j : length (t.others ++ t.added) ≡ length t.others + length t.added = length-append t.others t.added in
       let s : length w.ready ≡ suc (length t.others) = chosen_length w.plan.sorting w.ready c t.others t.chosen in
       let x : answers_left objects w ≡ new_in w + length w.ready = left_all (new_in w) w.ready (length t.others) s in
@@ -118,8 +118,8 @@ module _ {F P : Type 0} (objects : F → Objects) (faulty : F → ObjectId → T
   -- no commit is taken twice
   pub apart_on : (w : TopoWalk F P) (c : Ready) (counted : Counted) (ready : List Ready) (predicate : P) → Takes objects faulty answers w c counted ready → AreApart w → AreApart (after objects faulty answers w c counted ready predicate)
   apart_on w c counted ready predicate t h = record {
-    distinct = held_once w.plan.sorting t.others t.added ready t.holds once.1 t.adds.distinct (λ i m. (fresh i m).2);
-    untaken = λ i m. set.contains-insert id_total w.taken c.id i ∙ ⊎_elim (of_others i) (λ a. or_from _ _ (fresh i (among_is i _ a)).1 (fresh i (among_is i _ a)).0) (or_cases _ _ (sym (held_among w.plan.sorting t.others t.added ready t.holds i) ∙ among_from i _ m));
+    distinct = held_once t.others t.added ready t.holds once.1 t.adds.distinct (λ i m. (fresh i m).2);
+    untaken = λ i m. set.contains-insert id_total w.taken c.id i ∙ ⊎_elim (of_others i) (λ a. or_from _ _ (fresh i (among_is i _ a)).1 (fresh i (among_is i _ a)).0) (or_cases _ _ (sym (held_among t.others t.added ready t.holds i) ∙ among_from i _ m));
   }
     where
       once : AreDistinct (c.id ∷ ready_ids t.others)

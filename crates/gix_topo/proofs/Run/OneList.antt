@@ -1,6 +1,7 @@
 -- Each order is one list: topological order over any commits, date order over commits of different times.
-use Rattle.std.proofs.Common.{◌≡◌, ◌≤◌, ◌≤ℤ◌, ℤ, List, [], ◌∷◌, ◌++◌, length, take, reverse, Option, Some, None, refl, sym, ap, subst, ◌∙◌, arith, length-take, take_all}
-use Rattle.gix_topo.proofs.Common.{ints, ObjectId, first_new, IsDateOrder, IsDateBeginning, IsTopoOrder, IsTopoBeginning}
+use Rattle.std.proofs.Common.{◌≡◌, ◌≤◌, ℤ, List, [], ◌∷◌, ◌++◌, length, take, reverse, Option, Some, None, Contains, refl, sym, ap, subst, ◌∙◌, arith, length-take, take_all}
+use Rattle.gix_topo.proofs.Common.{ObjectId, first_new, IsDateOrder, IsDateBeginning, IsTopoOrder, IsTopoBeginning, IsReady, NewestFirst}
+use Rattle.gix_revwalk.proofs.OneOrder as best
 use Rattle.gix_topo.proofs.Run.ReadyInTurn.{TurnsFrom, IfOne, turns_begin, turns_by, turn_ended, turn_now, turn_on, IsBestNext, IsLastMade, made_one}
 
 -- the next one is decided by those before, so the list is
@@ -32,19 +33,13 @@ module _ (time : ObjectId → ℤ) (walked : ObjectId → List ObjectId) (In : O
   pub first_topo : (tips ids whole : List ObjectId) → IsTopoBeginning time walked In tips ids → IsTopoOrder time walked In tips whole → ids ≡ take (length ids) whole
   first_topo tips ids whole h k = first_ids (IsLastMade time walked In tips) (last_decided tips) [] ids whole (turns_by (IsLastMade time walked In tips) ids (λ n i e. let b = h n i e in (b.0, b.1, sym b.2))) k
 
-  module _ (apart : (i j : ObjectId) → In i → In j → time i ≡ time j → i ≡ j) where
-    best_decided : (done : List ObjectId) (o p : Option ObjectId) → IsBestNext time walked In done o → IsBestNext time walked In done p → o ≡ p
-    best_decided done None None a b = refl
-    best_decided done None (Some y) a b = absurd (a y b.among)
-    best_decided done (Some x) None a b = absurd (b x a.among)
-    best_decided done (Some x) (Some y) a b =
-        let l : time y ≤ℤ time x = a.best y b.among in
-        let g : time x ≤ℤ time y = b.best x a.among in
-        let t : time x ≡ time y = omega (arith, ints) in
-        ap Some (apart x y a.among.member b.among.member t)
+  best_decided : (tips done : List ObjectId) (o p : Option ObjectId) → IsBestNext time walked In tips done o → IsBestNext time walked In tips done p → o ≡ p
+  best_decided tips done o p a b =
+      best.best_decided NewestFirst time (IsReady walked In (Contains done)) b.0 done o p
+      (subst (λ ready. best.IsBestNext NewestFirst time (IsReady walked In (Contains done)) ready done o) (made_one time walked In tips (reverse done) a.0 b.0 a.1 b.1) a.2) b.2
 
-    pub same_date : (xs ys : List ObjectId) → IsDateOrder time walked In xs → IsDateOrder time walked In ys → xs ≡ ys
-    same_date xs ys h k = one_list (IsBestNext time walked In) best_decided xs ys h k
+  pub same_date : (tips xs ys : List ObjectId) → IsDateOrder time walked In tips xs → IsDateOrder time walked In tips ys → xs ≡ ys
+  same_date tips xs ys h k = one_list (IsBestNext time walked In tips) (best_decided tips) xs ys h k
 
-    pub first_date : (ids whole : List ObjectId) → IsDateBeginning time walked In ids → IsDateOrder time walked In whole → ids ≡ take (length ids) whole
-    first_date ids whole h k = first_ids (IsBestNext time walked In) best_decided [] ids whole (turns_by (IsBestNext time walked In) ids h) k
+  pub first_date : (tips ids whole : List ObjectId) → IsDateBeginning time walked In tips ids → IsDateOrder time walked In tips whole → ids ≡ take (length ids) whole
+  first_date tips ids whole h k = first_ids (IsBestNext time walked In tips) (best_decided tips) [] ids whole (turns_by (IsBestNext time walked In tips) ids h) k

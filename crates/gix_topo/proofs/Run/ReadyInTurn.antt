@@ -5,7 +5,7 @@ use Rattle.gix_topo.proofs.Common.{false_from_ne_true, true_from_ne_false, and_p
 use Rattle.gix_topo.proofs.Common.{is_among, NewestFirst, first_new, Reaches, start, step, IsAcyclicIn, IsChild, IsChildless, IsReady, by_time, IsMadeReady, AreDistinct, Sorting, IsSortedBeginning, same_is, same_itself, among-append}
 use Rattle.gix_topo.proofs.Common.{among_from, among_is, Contains-here, Contains-there, Contains-cons_cases, no_member, fresh, among-filter, new_less, past_end}
 use Rattle.std.proofs.lemmas.List.{reverse-append}
-use Rattle.gix_revwalk.specs.TimeOrder.{IsBest}
+use Rattle.gix_revwalk.proofs.OneOrder as best
 use Rattle.gix_topo.specs.declared.Sorting.TheVariants as order
 use Rattle.gix_topo.specs.Laws.{IsSorted}
 use Rattle.gix_revwalk.proofs.Orders.{found_passes, none_passes}
@@ -159,14 +159,14 @@ reverse_in i xs c = among_is i xs (sym (among-reverse i xs) ∙ among_from i (re
 pub in_reverse : (i : ObjectId) (xs : List ObjectId) → Contains xs i → Contains (reverse xs) i
 in_reverse i xs c = among_is i (reverse xs) (among-reverse i xs ∙ among_from i xs c)
 
--- a ready one of greatest time; there is none only where none is ready
-abbrev pub IsBestNext : (ObjectId → ℤ) → (ObjectId → List ObjectId) → (ObjectId → Type 0) → List ObjectId → Option ObjectId → Type 0
-IsBestNext time walked In done o = MatchOption o ((i : ObjectId) → IsReady walked In (Contains done) i → ⊥) (IsBest NewestFirst time (IsReady walked In (Contains done)))
-
 module _ (time : ObjectId → ℤ) (walked : ObjectId → List ObjectId) (In : ObjectId → Type 0) (tips : List ObjectId) where
   -- the last of those made ready that isn't taken
   abbrev pub IsLastMade : List ObjectId → Option ObjectId → Type 0
   IsLastMade done o = (ready : List ObjectId) × IsMadeReady time walked In tips (reverse done) ready × (o ≡ first_new (reverse ready) done)
+
+  -- a ready one of greatest time, of these the one made ready first; there is none only where none is ready
+  abbrev pub IsBestNext : List ObjectId → Option ObjectId → Type 0
+  IsBestNext done o = (ready : List ObjectId) × IsMadeReady time walked In tips (reverse done) ready × best.IsBestNext NewestFirst time (IsReady walked In (Contains done)) ready done o
 
   -- there is one list of those made ready
   pub made_one : (taken xs ys : List ObjectId) → IsMadeReady time walked In tips taken xs → IsMadeReady time walked In tips taken ys → xs ≡ ys
@@ -178,7 +178,7 @@ module _ (time : ObjectId → ℤ) (walked : ObjectId → List ObjectId) (In : O
 
   -- the next one in either order
   abbrev pub IsNextBy : Sorting → List ObjectId → Option ObjectId → Type 0
-  IsNextBy order.DateOrder = IsBestNext time walked In
+  IsNextBy order.DateOrder = IsBestNext
   IsNextBy order.TopoOrder = IsLastMade
 
   pub turns_sorted : (s : Sorting) (ids : List ObjectId) → TurnsFrom (IsNextBy s) [] ids → IsSorted s time walked In tips ids
@@ -190,17 +190,21 @@ module _ (time : ObjectId → ℤ) (walked : ObjectId → List ObjectId) (In : O
   sorted_turns order.TopoOrder ids h = h
 
   pub turns_beginning : (s : Sorting) (ids : List ObjectId) → TurnsFrom (IfOne (IsNextBy s)) [] ids → IsSortedBeginning s time walked In tips ids
-  turns_beginning order.DateOrder ids h = turn_at (IfOne (IsBestNext time walked In)) ids h
+  turns_beginning order.DateOrder ids h = turn_at (IfOne IsBestNext) ids h
   turns_beginning order.TopoOrder ids h = λ k i e. let l : IsLastMade (take k ids) (Some i) = turn_at (IfOne IsLastMade) ids h k i e in (l.0, l.1, sym l.2)
 
   pub beginning_turns : (s : Sorting) (ids : List ObjectId) → IsSortedBeginning s time walked In tips ids → TurnsFrom (IfOne (IsNextBy s)) [] ids
-  beginning_turns order.DateOrder ids h = turns_by (IsBestNext time walked In) ids h
+  beginning_turns order.DateOrder ids h = turns_by IsBestNext ids h
   beginning_turns order.TopoOrder ids h = turns_by IsLastMade ids (λ k i e. let b = h k i e in (b.0, b.1, sym b.2))
 
   -- each was the last of those made ready, when it was taken
-  abbrev WereTaken : List ObjectId → Type 0
+  abbrev pub WereTaken : List ObjectId → Type 0
   WereTaken [] = Unit {0}
   WereTaken (c ∷ taken) = ((ready : List ObjectId) → IsMadeReady time walked In tips taken ready → (is_among c ready ≡ true) × (is_among c taken ≡ false)) × WereTaken taken
+
+  pub were_on : (done : List ObjectId) (i : ObjectId) (made : List ObjectId) → IsMadeReady time walked In tips (reverse done) made → WereTaken (reverse done) → Contains made i → is_among i done ≡ false → WereTaken (reverse (done ++ i ∷ []))
+  were_on done i made is_made were c untaken =
+      subst WereTaken (sym (reverse-append done (i ∷ []))) ((λ ready h. (among_from i ready (subst (λ r. Contains r i) (made_one (reverse done) made ready is_made h) c), among-reverse i done ∙ untaken)), were)
 
   abbrev pub left_among : List ObjectId → List ObjectId → List ObjectId
   left_among taken ready = filter (λ i. not (is_among i taken)) ready
@@ -232,7 +236,7 @@ module _ (time : ObjectId → ℤ) (walked : ObjectId → List ObjectId) (In : O
         (λ i. among-filter i (λ j. true) ready ∙ ap (is_among i) h.2 ∙ among-by_time time i h.0)
     made_ready (c ∷ taken) ready were h = made_more c taken ready h (were.0 h.0 h.2) (made_ready taken h.0 were.1 h.2)
 
-    are_left : (done : List ObjectId) → WereTaken (reverse done) → (ready : List ObjectId) → IsMadeReady time walked In tips (reverse done) ready → AreReady walked In (Contains done) (left_among (reverse done) ready)
+    pub are_left : (done : List ObjectId) → WereTaken (reverse done) → (ready : List ObjectId) → IsMadeReady time walked In tips (reverse done) ready → AreReady walked In (Contains done) (left_among (reverse done) ready)
     are_left done were ready h = are_ready_alike walked In (Contains (reverse done)) (Contains done) (λ j. reverse_in j done) (λ j. in_reverse j done) (left_among (reverse done) ready) (made_ready (reverse done) ready were h)
 
     none_is_ready : (done : List ObjectId) → WereTaken (reverse done) → IsLastMade done None → IsReadyNext walked In done None
@@ -245,15 +249,14 @@ module _ (time : ObjectId → ℤ) (walked : ObjectId → List ObjectId) (In : O
     last_is_ready done i were h =
         let f : Contains (reverse h.0) i × (not (is_among i done) ≡ true) = found_passes (λ j. not (is_among j done)) (reverse h.0) i (sym h.2) in (
           (are_left done were h.0 h.1).each i (among-filter i (λ j. not (is_among j (reverse done))) h.0 ∙ and_from _ _ (ap not (among-reverse i done) ∙ f.1) (among_from i h.0 (reverse_in i h.0 f.0))),
-          subst WereTaken (sym (reverse-append done (i ∷ [])))
-              ((λ ready made. (among_from i ready (subst (λ r. Contains r i) (made_one (reverse done) h.0 ready h.1 made) (reverse_in i h.0 f.0)), among-reverse i done ∙ not-true _ f.1)), were),
+          were_on done i h.0 h.1 were (reverse_in i h.0 f.0) (not-true _ f.1),
         )
 
     -- in either order each is ready when it comes, and the list ends where none is ready
     pub ready_turns : (s : Sorting) (ids : List ObjectId) → IsSorted s time walked In tips ids → TurnsFrom (IsReadyNext walked In) [] ids
-    ready_turns order.DateOrder ids h = turns_map (IsBestNext time walked In) (IsReadyNext walked In) (λ done. Unit {0}) (λ done k n. n) (λ done i k b. (b.among, tt)) ids [] tt h
+    ready_turns order.DateOrder ids h = turns_map IsBestNext (IsReadyNext walked In) (λ done. Unit {0}) (λ done k n. n.2) (λ done i k b. (b.2.best.among, tt)) ids [] tt h
     ready_turns order.TopoOrder ids h = turns_map IsLastMade (IsReadyNext walked In) (λ done. WereTaken (reverse done)) none_is_ready last_is_ready ids [] tt h
 
     pub ready_begins : (s : Sorting) (ids : List ObjectId) → IsSortedBeginning s time walked In tips ids → TurnsFrom (IfOne (IsReadyNext walked In)) [] ids
-    ready_begins order.DateOrder ids h = turns_by (IsReadyNext walked In) ids (λ k i e. (h k i e).among)
+    ready_begins order.DateOrder ids h = turns_by (IsReadyNext walked In) ids (λ k i e. (h k i e).2.best.among)
     ready_begins order.TopoOrder ids h = turns_map (IfOne IsLastMade) (IfOne (IsReadyNext walked In)) (λ done. WereTaken (reverse done)) (λ done were n. tt) last_is_ready ids [] tt (beginning_turns order.TopoOrder ids h)

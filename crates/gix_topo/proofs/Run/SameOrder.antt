@@ -42,8 +42,12 @@ module _ (time : ObjectId → ℤ) (walked other : ObjectId → List ObjectId) (
 
   -- so is the next one
   next_to : (s : Sorting) (tips done : List ObjectId) → ((i : ObjectId) → Contains done i → In i) → (o : Option ObjectId) → IsNextBy time walked In tips s done o → IsNextBy time other Out tips s done o
-  next_to order.DateOrder tips done members None h = λ i r. h i (ready_from (Contains done) i r)
-  next_to order.DateOrder tips done members (Some i) h = record { among = ready_to (Contains done) i h.among; best = λ j r. h.best j (ready_from (Contains done) j r) }
+  next_to order.DateOrder tips done members None h = (h.0, made_to tips (reverse done) h.0 (λ i m. members i (reverse_in i done m)) h.1, λ i r. h.2 i (ready_from (Contains done) i r))
+  next_to order.DateOrder tips done members (Some i) h = (
+    h.0,
+    made_to tips (reverse done) h.0 (λ i m. members i (reverse_in i done m)) h.1,
+    record { best = record { among = ready_to (Contains done) i h.2.best.among; best = λ j r. h.2.best.best j (ready_from (Contains done) j r) }; first = h.2.first },
+  )
   next_to order.TopoOrder tips done members o h = (h.0, made_to tips (reverse done) h.0 (λ i m. members i (reverse_in i done m)) h.1, h.2)
 
   module _ (tips ids : List ObjectId) (members : (i : ObjectId) → Contains ids i → In i) (s : Sorting) where

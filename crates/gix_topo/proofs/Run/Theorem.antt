@@ -1,11 +1,11 @@
 -- A topological walk takes what the definitions say, in their order: all of it where it is drawn to its end.
-use Rattle.std.proofs.Common.{◌≡◌, ◌⊎◌, ◌≤ℤ◌, List, [], ◌∷◌, ◌++◌, Bool, true, false, not, ◌&&◌, ◌||◌, cond, filter, find, reverse, slice_get, Option, Some, None, Result, Ok, Err, Contains, All, refl, sym, ap, subst, ⊎_elim, inl, inr}
+use Rattle.std.proofs.Common.{◌≡◌, ◌⊎◌, ◌<ℤ◌, ◌≤ℤ◌, ℤ, List, [], ◌∷◌, ◌++◌, Bool, true, false, not, ◌&&◌, ◌||◌, cond, filter, find, reverse, slice_get, Option, Some, None, Result, Ok, Err, Contains, All, refl, sym, ap, subst, ⊎_elim, inl, inr}
 use Rattle.std.proofs.Common.{◌∙◌, arith, append-nil}
 use Rattle.std.proofs.Math.Bool.{or_comm}
 use Rattle.std.specs.List.{AllZip}
-use Rattle.gix_topo.proofs.Common.{ints, false≢true, false_from_ne_true, not_from_false, Contains-permutation, Contains-append_left, Contains-push, Contains-push_cases, All-head, All-tail, filter-append, filter_agree, Drains, Yields}
-use Rattle.gix_topo.proofs.Common.{ObjectId, id_cmp, is_same, is_among, Objects, Info, Sorting, Error, time_of, IsReady, Keeps, last_places, IsMadeReady, IsAgreeing, TopoPlan, TopoWalk, Ready, Counted, ready_ids, IsTaken, HoldsReady}
-use Rattle.gix_topo.proofs.Common.{Chooses, IsStored, IsSound, IsFault, StartsWith, IsStarted, Takes, after, Next, text_walked, IsTextMember, walked_of, IsMember, IsNoRefusal, IsSortedBeginning, IsTakenInOrder, IsTakenFirst}
+use Rattle.gix_topo.proofs.Common.{ints, false≢true, false_from_ne_true, not_from_false, Contains-append_left, Contains-push, Contains-push_cases, All-head, All-tail, filter-append, filter_agree, Drains, Yields}
+use Rattle.gix_topo.proofs.Common.{ObjectId, id_cmp, is_same, is_among, Objects, Info, Sorting, Error, time_of, IsReady, Keeps, last_places, IsMadeReady, IsAgreeing, TopoPlan, TopoWalk, Ready, Counted, ready_ids, IsTaken}
+use Rattle.gix_topo.proofs.Common.{Chooses, TakesLatest, NewestFirst, IsStored, IsSound, IsFault, StartsWith, IsStarted, Takes, after, Next, text_walked, IsTextMember, walked_of, IsMember, IsNoRefusal, IsSortedBeginning, IsTakenInOrder, IsTakenFirst}
 use Rattle.gix_topo.proofs.Common.{IsTakenByText, IsTakenFirstByText, IsCommitInfo, IsTextInfo, IsGiven, IsTextGiven, GivesInOrder, BeginsInOrder, GivesTextOrder, BeginsTextOrder, IsWholeRun, AreApart, id_total, same_is, same_itself}
 use Rattle.gix_topo.proofs.Common.{among-append, among-one, among_from, among_is, Contains-here, Contains-there, Contains-cons_cases, no_member, walked_within, filter_all}
 use Rattle.std.proofs.lemmas.List.{map-append, reverse-append}
@@ -15,6 +15,9 @@ use Rattle.gix_topo.specs.declared.Sorting.TheVariants as order
 use Rattle.gix_topo.specs.declared.Error.TheVariants as error
 use Rattle.gix_revwalk.specs.Texts.{text_next}
 use Rattle.gix_revwalk.specs.Asking.{Becomes, itself, further, AnswersBy}
+use Rattle.gix_revwalk.specs.TimeOrder.{is_no_worse}
+use Rattle.gix_revwalk.proofs.NewIds.{find-filter, find-behind}
+use Rattle.gix_revwalk.proofs.SomeOrder.{itself_is}
 use Rattle.gix_topo.specs.Laws.{IsSorted}
 use Rattle.gix_topo.proofs.Readiness.IsReady.{among_by, among-by_time, keeps_from, keeps_alike, AreReady, ready_alike, takes_ready, starts_ready, in_walk_top}
 use Rattle.gix_topo.proofs.Run.ReadyInTurn.{TurnsFrom, IfOne, turn_none, turn_more, IsNextBy, turns_sorted, turns_beginning, reverse_in, in_reverse}
@@ -23,7 +26,7 @@ use Rattle.gix_topo.proofs.Run.Draws.{Draws, rests, shows, hides, breaks, ready_
 use Rattle.gix_topo.proofs.Run.EachOnce.{each_by, first_by}
 use Rattle.gix_topo.proofs.Run.Ends.{apart_on, started_apart}
 use Rattle.gix_topo.proofs.Run.SameOrder.{sorted_to, begins_to}
-use Rattle.gix_topo.proofs.Readiness.ReadyIds.{in_ids, from_ids, holds_times, chosen_in, chosen_among, chosen_once, held_among}
+use Rattle.gix_topo.proofs.Readiness.ReadyIds.{in_ids, from_ids, Splits, chosen_splits, holds_times, chosen_in, chosen_among, chosen_once, held_among}
 
 -- the first that passes is the first of those that pass
 first_found : (p : ObjectId → Bool) (xs : List ObjectId) → find p xs ≡ slice_get (filter p xs) 0
@@ -49,6 +52,9 @@ filter_twice p q (x ∷ xs) = go (p x) (filter_twice p q xs)
     go true r = ap (λ ys. cond (q x) (x ∷ ys) ys) r
     go false r = r
 
+earlier : (a b : ℤ) → a <ℤ b → is_no_worse NewestFirst a b ≡ false
+earlier a b l = grind (arith, ints)
+
 module _ {P : Type 0} (answers : P → ObjectId → Bool → P → Type 0) where
   becomes_on : (old mid : P) (i : ObjectId) (b : Bool) → answers old i b mid → (new : P) → Becomes answers mid new → Becomes answers old new
   becomes_on old mid i b a new itself = further itself a
@@ -66,7 +72,7 @@ module _ {F P : Type 0} (objects : F → Objects) (faulty : F → ObjectId → T
   abbrev IsNext : Sorting → TopoPlan F → List ObjectId → Option ObjectId → Type 0
   IsNext s plan = IsNextBy (time_of (objects plan.store)) (text_walked objects plan) (IsTextMember objects plan) plan.tips s
 
-  -- in topological order the ready ones are those made ready and not taken, in their order
+  -- the ready ones are those made ready and not taken, in their order
   record Stacks (w : TopoWalk F P) (done : List ObjectId) : Type 0 where
     made : List ObjectId
     is_made : IsMadeReady (time_of (objects w.plan.store)) (text_walked objects w.plan) (IsTextMember objects w.plan) w.plan.tips (reverse done) made
@@ -79,7 +85,7 @@ module _ {F P : Type 0} (objects : F → Objects) (faulty : F → ObjectId → T
     taken : (i : ObjectId) → set.contains w.taken i ≡ is_among i done
     ready : AreReady (text_walked objects w.plan) (IsTextMember objects w.plan) (Contains done) (ready_ids w.ready)
     stored : (r : Ready) → Contains w.ready r → IsStored objects w.plan w.counted.in_use r
-    stacks : w.plan.sorting ≡ order.TopoOrder → Stacks w done
+    stacks : Stacks w done
 
   -- a commit is taken
   module _ (w : TopoWalk F P) (done : List ObjectId) (c : Ready) (counted : Counted) (ready : List Ready) (t : Takes objects faulty answers w c counted ready) (h : Stands w done) where
@@ -109,59 +115,90 @@ module _ {F P : Type 0} (objects : F → Objects) (faulty : F → ObjectId → T
     became_now : Keeps (IsReady (text_walked objects w.plan) (IsTextMember objects w.plan) (Contains (done ++ c.id ∷ []))) (last_places (text_walked objects w.plan c.id)) (ready_ids t.added)
     became_now = became (Contains (done ++ c.id ∷ [])) (λ i m. m) (λ i m. m)
 
-    -- on a stack
-    module _ (o : w.plan.sorting ≡ order.TopoOrder) where
-      s : Stacks w done
-      s = h.stacks o
+    s : Stacks w done
+    s = h.stacks
 
-      stack_is : filter (λ i. not (is_among i done)) s.made ≡ ready_ids t.others ++ c.id ∷ []
-      stack_is = sym s.left ∙ ap ready_ids (subst (λ x. Chooses x w.ready c t.others) o t.chosen) ∙ map-append (λ r. r.id) t.others (c ∷ [])
+    k : Splits w.ready c t.others
+    k = chosen_splits w.plan.sorting w.ready c t.others t.chosen
 
-      last_next : IsNext order.TopoOrder w.plan done (Some c.id)
-      last_next = (s.made, s.is_made, sym (first_found (λ i. not (is_among i done)) (reverse s.made) ∙ ap (λ ids. slice_get ids 0) (filter-reverse _ s.made ∙ ap reverse stack_is ∙ reverse-append (ready_ids t.others) (c.id ∷ []))))
+    left_is : filter (λ i. not (is_among i done)) s.made ≡ ready_ids k.before ++ c.id ∷ ready_ids k.behind
+    left_is = sym s.left ∙ ap ready_ids k.place ∙ map-append (λ r. r.id) k.before (c ∷ k.behind)
 
-      others_left : ready_ids t.others ≡ filter (λ i. not (is_among i (done ++ c.id ∷ []))) s.made
-      others_left =
-          sym (filter_all (λ i. not (is_same i c.id)) (ready_ids t.others) (λ i m. not_from_false _ (false_from_ne_true _ (λ e. alone (subst (Contains (ready_ids t.others)) (same_is i c.id e) m)))))
-          ∙ sym (append-nil (filter (λ i. not (is_same i c.id)) (ready_ids t.others)))
-          ∙ ap (λ b. filter (λ i. not (is_same i c.id)) (ready_ids t.others) ++ cond (not b) (c.id ∷ []) []) (sym (same_itself c.id))
-          ∙ sym (filter-append (λ i. not (is_same i c.id)) (ready_ids t.others) (c.id ∷ []))
-          ∙ ap (filter (λ i. not (is_same i c.id))) (sym stack_is)
-          ∙ filter_twice (λ i. not (is_among i done)) (λ i. not (is_same i c.id)) s.made
-          ∙ filter_agree (λ i. not (is_among i done) && not (is_same i c.id)) (λ i. not (is_among i (done ++ c.id ∷ []))) (λ i. both (is_among i done) (is_same i c.id) ∙ ap not (sym (among_now i))) s.made
-        where
-          both : (a b : Bool) → (not a && not b) ≡ not (a || b)
-          both a b = grind arith
+    -- the last one of a stack
+    last_next : w.plan.sorting ≡ order.TopoOrder → IsNext order.TopoOrder w.plan done (Some c.id)
+    last_next o =
+        let stack_is : filter (λ i. not (is_among i done)) s.made ≡ ready_ids t.others ++ c.id ∷ [] = sym s.left ∙ ap ready_ids (subst (λ x. Chooses x w.ready c t.others) o t.chosen) ∙ map-append (λ r. r.id) t.others (c ∷ []) in
+        (s.made, s.is_made, sym (first_found (λ i. not (is_among i done)) (reverse s.made) ∙ ap (λ ids. slice_get ids 0) (filter-reverse _ s.made ∙ ap reverse stack_is ∙ reverse-append (ready_ids t.others) (c.id ∷ []))))
 
-      stacks_on : (predicate : P) → Stacks (after objects faulty answers w c counted ready predicate) (done ++ c.id ∷ [])
-      stacks_on predicate = record {
-        made = s.made ++ ready_ids t.added;
-        is_made = subst (λ taken. IsMadeReady (time_of (objects w.plan.store)) (text_walked objects w.plan) (IsTextMember objects w.plan) w.plan.tips taken (s.made ++ ready_ids t.added)) (sym (reverse-append done (c.id ∷ [])))
-            (s.made, ready_ids t.added, s.is_made, became (Contains (c.id ∷ reverse done)) to from, refl);
-        left = ap ready_ids (subst (λ x. HoldsReady x (t.others ++ t.added) ready) o t.holds) ∙ map-append (λ r. r.id) t.others t.added ∙ (λ k. others_left k ++ added_left k) ∙ sym (filter-append (λ i. not (is_among i (done ++ c.id ∷ []))) s.made (ready_ids t.added));
-      }
-        where
-          to : (i : ObjectId) → Contains (done ++ c.id ∷ []) i → Contains (c.id ∷ reverse done) i
-          to i m = ⊎_elim (λ n. Contains-there i c.id (reverse done) (in_reverse i done n)) (λ e. subst (λ y. Contains (c.id ∷ reverse done) y) e (Contains-here c.id (reverse done))) (Contains-push_cases done c.id i m)
+    without : (xs ys : List ObjectId) → filter (λ i. not (is_same i c.id)) (xs ++ c.id ∷ ys) ≡ filter (λ i. not (is_same i c.id)) (xs ++ ys)
+    without xs ys =
+        filter-append (λ i. not (is_same i c.id)) xs (c.id ∷ ys)
+        ∙ ap (λ b. filter (λ i. not (is_same i c.id)) xs ++ cond (not b) (c.id ∷ filter (λ i. not (is_same i c.id)) ys) (filter (λ i. not (is_same i c.id)) ys)) (same_itself c.id)
+        ∙ sym (filter-append (λ i. not (is_same i c.id)) xs ys)
 
-          from : (i : ObjectId) → Contains (c.id ∷ reverse done) i → Contains (done ++ c.id ∷ []) i
-          from i m = ⊎_elim (λ e. subst (λ y. Contains (done ++ c.id ∷ []) y) e (Contains-push done c.id)) (λ n. Contains-append_left done (c.id ∷ []) i (reverse_in i done n)) (Contains-cons_cases i c.id (reverse done) m)
+    others_left : ready_ids t.others ≡ filter (λ i. not (is_among i (done ++ c.id ∷ []))) s.made
+    others_left =
+        sym (filter_all (λ i. not (is_same i c.id)) (ready_ids t.others) (λ i m. not_from_false _ (false_from_ne_true _ (λ e. alone (subst (Contains (ready_ids t.others)) (same_is i c.id e) m)))))
+        ∙ ap (λ rs. filter (λ i. not (is_same i c.id)) (ready_ids rs)) k.left
+        ∙ ap (filter (λ i. not (is_same i c.id))) (map-append (λ r. r.id) k.before k.behind)
+        ∙ sym (without (ready_ids k.before) (ready_ids k.behind))
+        ∙ ap (filter (λ i. not (is_same i c.id))) (sym left_is)
+        ∙ filter_twice (λ i. not (is_among i done)) (λ i. not (is_same i c.id)) s.made
+        ∙ filter_agree (λ i. not (is_among i done) && not (is_same i c.id)) (λ i. not (is_among i (done ++ c.id ∷ []))) (λ i. both (is_among i done) (is_same i c.id) ∙ ap not (sym (among_now i))) s.made
+      where
+        both : (a b : Bool) → (not a && not b) ≡ not (a || b)
+        both a b = grind arith
 
-          added_left : ready_ids t.added ≡ filter (λ i. not (is_among i (done ++ c.id ∷ []))) (ready_ids t.added)
-          added_left = sym (filter_all (λ i. not (is_among i (done ++ c.id ∷ []))) (ready_ids t.added) (λ i m. not_from_false _ (false_from_ne_true _ (λ e. (keeps_from _ became_now i m).1.left (among_is i _ e)))))
-
-    -- by date
-    best_next : w.plan.sorting ≡ order.DateOrder → IsNext order.DateOrder w.plan done (Some c.id)
-    best_next o = record {
-      among = c_ready;
-      best = λ other r.
-          let ch : Chooses order.DateOrder w.ready c t.others = subst (λ x. Chooses x w.ready c t.others) o t.chosen in
-          let k : (q : Ready) × Contains w.ready q × (q.id ≡ other) = from_ids w.ready other (among_is other (ready_ids w.ready) (h.ready.all other r)) in
-          let there : k.0.time ≡ time_of (objects w.plan.store) other = (h.stored k.0 k.1).time ∙ ap (time_of (objects w.plan.store)) k.2 in
-          let here : c.time ≡ time_of (objects w.plan.store) c.id = (h.stored c c_in).time in
-          let l : k.0.time ≤ℤ c.time = ⊎_elim (λ e. subst (λ x. x.time ≤ℤ c.time) e (omega (arith, ints))) (ch.1 k.0) (Contains-cons_cases k.0 c t.others (Contains-permutation w.ready (c ∷ t.others) k.0 ch.0 k.1)) in
-          omega (arith, ints);
+    stacks_on : (predicate : P) → Stacks (after objects faulty answers w c counted ready predicate) (done ++ c.id ∷ [])
+    stacks_on predicate = record {
+      made = s.made ++ ready_ids t.added;
+      is_made = subst (λ taken. IsMadeReady (time_of (objects w.plan.store)) (text_walked objects w.plan) (IsTextMember objects w.plan) w.plan.tips taken (s.made ++ ready_ids t.added)) (sym (reverse-append done (c.id ∷ [])))
+          (s.made, ready_ids t.added, s.is_made, became (Contains (c.id ∷ reverse done)) to from, refl);
+      left = ap ready_ids t.holds ∙ map-append (λ r. r.id) t.others t.added ∙ (λ k. others_left k ++ added_left k) ∙ sym (filter-append (λ i. not (is_among i (done ++ c.id ∷ []))) s.made (ready_ids t.added));
     }
+      where
+        to : (i : ObjectId) → Contains (done ++ c.id ∷ []) i → Contains (c.id ∷ reverse done) i
+        to i m = ⊎_elim (λ n. Contains-there i c.id (reverse done) (in_reverse i done n)) (λ e. subst (λ y. Contains (c.id ∷ reverse done) y) e (Contains-here c.id (reverse done))) (Contains-push_cases done c.id i m)
+
+        from : (i : ObjectId) → Contains (c.id ∷ reverse done) i → Contains (done ++ c.id ∷ []) i
+        from i m = ⊎_elim (λ e. subst (λ y. Contains (done ++ c.id ∷ []) y) e (Contains-push done c.id)) (λ n. Contains-append_left done (c.id ∷ []) i (reverse_in i done n)) (Contains-cons_cases i c.id (reverse done) m)
+
+        added_left : ready_ids t.added ≡ filter (λ i. not (is_among i (done ++ c.id ∷ []))) (ready_ids t.added)
+        added_left = sym (filter_all (λ i. not (is_among i (done ++ c.id ∷ []))) (ready_ids t.added) (λ i m. not_from_false _ (false_from_ne_true _ (λ e. (keeps_from _ became_now i m).1.left (among_is i _ e)))))
+
+    -- by date the first of greatest time
+    time_in : (q : Ready) → Contains w.ready q → q.time ≡ time_of (objects w.plan.store) q.id
+    time_in q m = (h.stored q m).time
+
+    abbrev as_late : ObjectId → Bool
+    as_late j = is_no_worse NewestFirst (time_of (objects w.plan.store) j) (time_of (objects w.plan.store) c.id)
+
+    best_next : w.plan.sorting ≡ order.DateOrder → IsNext order.DateOrder w.plan done (Some c.id)
+    best_next o =
+        let ch : TakesLatest w.ready c t.others = subst (λ x. Chooses x w.ready c t.others) o t.chosen in
+        let here : c.time ≡ time_of (objects w.plan.store) c.id = time_in c c_in in (
+          s.made,
+          s.is_made,
+          record {
+            best = record {
+              among = c_ready;
+              best = λ other r.
+                  let q : (q : Ready) × Contains w.ready q × (q.id ≡ other) = from_ids w.ready other (among_is other (ready_ids w.ready) (h.ready.all other r)) in
+                  let there : q.0.time ≡ time_of (objects w.plan.store) other = time_in q.0 q.1 ∙ ap (time_of (objects w.plan.store)) q.2 in
+                  let l : q.0.time ≤ℤ c.time = ch.best q.0 q.1 in
+                  omega (arith, ints);
+            };
+            first =
+                sym (find-filter as_late (λ j. not (is_among j done)) s.made)
+                ∙ ap (find as_late) (sym s.left ∙ ap ready_ids ch.place ∙ map-append (λ r. r.id) ch.before (c ∷ ch.behind))
+                ∙ find-behind as_late (ready_ids ch.before) (ready_ids ch.behind) c.id
+                (λ j m.
+                let q : (q : Ready) × Contains ch.before q × (q.id ≡ j) = from_ids ch.before j m in
+                let there : q.0.time ≡ time_of (objects w.plan.store) j = time_in q.0 (subst (λ rs. Contains rs q.0) (sym ch.place) (Contains-append_left ch.before (c ∷ ch.behind) q.0 q.1)) ∙ ap (time_of (objects w.plan.store)) q.2 in
+                let l : q.0.time <ℤ c.time = ch.first q.0 q.1 in
+                earlier (time_of (objects w.plan.store) j) (time_of (objects w.plan.store) c.id) (omega (arith, ints))) (itself_is NewestFirst (time_of (objects w.plan.store) c.id));
+          },
+        )
 
     turn : (s : Sorting) → w.plan.sorting ≡ s → IsNext s w.plan done (Some c.id)
     turn order.DateOrder e = best_next e
@@ -174,16 +211,16 @@ module _ {F P : Type 0} (objects : F → Objects) (faulty : F → ObjectId → T
       taken = taken_now;
       ready = takes_ready (text_walked objects w.plan) (IsTextMember objects w.plan) (Contains done) (Contains (done ++ c.id ∷ [])) c.id (ready_ids w.ready) (ready_ids t.others) (ready_ids t.added) (ready_ids ready)
           (record { before = λ i m. Contains-append_left done (c.id ∷ []) i m; now = Contains-push done c.id; either = λ i m. Contains-push_cases done c.id i m })
-          h.ready (chosen_among w.plan.sorting w.ready c t.others t.chosen) alone became_now (held_among w.plan.sorting t.others t.added ready t.holds);
+          h.ready (chosen_among w.plan.sorting w.ready c t.others t.chosen) alone became_now (held_among t.others t.added ready t.holds);
       stored = λ r m. ⊎_elim (λ o. let k = h.stored r o in record { parents = k.parents; time = k.time; by_row = k.by_row; told = λ e. k.told (t.adds.stands e) }) (λ a. t.adds.stored h.agrees r a) (ready_after objects faulty answers t r m);
-      stacks = λ o. stacks_on o predicate;
+      stacks = stacks_on predicate;
     }
 
   -- nothing is ready
   none_next : (w : TopoWalk F P) (done : List ObjectId) → Stands w done → w.ready ≡ [] → (s : Sorting) → w.plan.sorting ≡ s → IsNext s w.plan done None
-  none_next w done h e order.DateOrder o = λ i r. false≢true (sym (ap (λ rs. is_among i (ready_ids rs)) e) ∙ h.ready.all i r)
+  none_next w done h e order.DateOrder o = (h.stacks.made, h.stacks.is_made, λ i r. false≢true (sym (ap (λ rs. is_among i (ready_ids rs)) e) ∙ h.ready.all i r))
   none_next w done h e order.TopoOrder o =
-      let s : Stacks w done = h.stacks o in
+      let s : Stacks w done = h.stacks in
       (s.made, s.is_made, sym (first_found (λ i. not (is_among i done)) (reverse s.made) ∙ ap (λ ids. slice_get ids 0) (filter-reverse _ s.made ∙ ap reverse (sym s.left ∙ ap ready_ids e))))
 
   -- each commit is taken in its turn
@@ -234,12 +271,12 @@ module _ {F P : Type 0} (objects : F → Objects) (faulty : F → ObjectId → T
         taken = λ i. ap (λ s. set.contains s i) h.untaken ∙ set.contains-empty id_cmp i;
         ready = starts_ready (text_walked objects w.plan) (IsTextMember objects w.plan) (Contains []) w.plan.tips st.childless (ready_ids w.ready) (λ i c. no_member i c)
             (in_walk_top (text_walked objects w.plan) (text_next (objects w.plan.store)) w.plan.tips w.plan.ends (λ c i n. walked_within w.plan.parents _ i n)) st.kept
-            (λ i. among_by i (ready_ids w.ready) (ready_ids st.starts) (holds_times w.plan.sorting st.starts w.ready st.holds i) ∙ ap (is_among i) st.sorted ∙ among-by_time (time_of (objects w.plan.store)) i st.childless);
+            (λ i. among_by i (ready_ids w.ready) (ready_ids st.starts) (holds_times st.starts w.ready st.holds i) ∙ ap (is_among i) st.sorted ∙ among-by_time (time_of (objects w.plan.store)) i st.childless);
         stored = h.stored agrees;
-        stacks = λ o. record {
+        stacks = record {
           made = ready_ids st.starts;
           is_made = (st.childless, st.kept, st.sorted);
-          left = ap ready_ids (subst (λ x. HoldsReady x st.starts w.ready) o st.holds) ∙ sym (filter_all (λ i. not false) (ready_ids st.starts) (λ i c. refl));
+          left = ap ready_ids st.holds ∙ sym (filter_all (λ i. not false) (ready_ids st.starts) (λ i c. refl));
         };
       }
 

@@ -1,14 +1,14 @@
 -- Ids one after the other, each of which may lose a child, and may become ready: which become ready, and in which order.
-use Rattle.std.proofs.Common.{◌≡◌, ◌≤◌, ◌+◌, ℕ, List, [], ◌∷◌, ◌++◌, Bool, true, false, cond, Contains, refl, sym, ap, subst, ⊎_elim, ◌∙◌, arith, zero-add, true≢false}
+use Rattle.std.proofs.Common.{◌≡◌, ◌≤◌, ◌+◌, ℕ, List, [], ◌∷◌, ◌++◌, Bool, true, false, cond, Contains, refl, sym, ap, subst, ⊎_elim, ◌∙◌, arith, zero-add, true≢false, append-nil}
 use Rattle.gix_topo.proofs.Common.{false_from_ne_true, or_cases, or_from, or_left, or_parts, ObjectId, is_same, is_among, Objects, same_is, same_itself, among_from, among_is, Contains-here, no_member, Side, Ends, Frontier, Walk, is_seen}
-use Rattle.gix_topo.proofs.Common.{is_due, known_of, reached, with_frontier, Pushes, Starts, StartsAll, Keeps, passed, distinct_after, Ready, ready_ids, HoldsReady, only_member}
+use Rattle.gix_topo.proofs.Common.{is_due, known_of, reached, with_frontier, Pushes, Starts, StartsAll, Keeps, passed, distinct_after, Ready, ready_ids, only_member}
 use Rattle.gix_topo.specs.Inside.Starting.{waits, frees, none, more}
 use Rattle.gix_revwalk.specs.Ids.{times}
 use Rattle.gix_topo.specs.TopoOrder.{none as keeps_none, kept}
 use Rattle.gix_topo.proofs.Counts.Frontier.{has_seen}
 use Rattle.gix_topo.proofs.Counts.Children.{children_of, was_ready_of}
 use Rattle.gix_topo.proofs.Counts.MakesReady.{MakesReady, made_none, made_one, made_more, marks_ready_known, makes_moved, due_parts, due_from}
-use Rattle.gix_topo.proofs.Readiness.ReadyIds.{from_ids, ids-append, holds_none, holds_on}
+use Rattle.gix_topo.proofs.Readiness.ReadyIds.{from_ids, ids-append, holds_on}
 use Rattle.gix_topo.proofs.Readiness.IsReady.{keeps_in, keeps_on, keeps_append, first_from}
 
 module _ {F : Type 0} (objects : F → Objects) (faulty : F → ObjectId → Type 0) where
@@ -22,7 +22,7 @@ module _ {F : Type 0} (objects : F → Objects) (faulty : F → ObjectId → Typ
   pub record Frees (loses : Bool) (old : Walk F) (ids : List ObjectId) (added : List Ready) (new : Walk F) : Type 0 where
     pub ready : MakesReady objects faulty old ids added new
     pub children : (p : ObjectId) → cond loses (times p ids) 0 + children_of new.counting.frontier p ≡ children_of old.counting.frontier p
-    pub holds : HoldsReady old.ready.sorting (old.ready.commits ++ added) new.ready.commits
+    pub holds : new.ready.commits ≡ old.ready.commits ++ added
     -- each at its first place, except for ids behind ids that aren't due
     pub due : ((p : ObjectId) → cond loses (times p ids) 0 ≤ 1) → (seen : List ObjectId) → ((j : ObjectId) → is_among j seen ≡ true → IsDue old new j → ⊥) → Keeps (IsDue old new) (distinct_after seen ids) (ready_ids added)
 
@@ -30,7 +30,7 @@ module _ {F : Type 0} (objects : F → Objects) (faulty : F → ObjectId → Typ
   frees_none loses old = record {
     ready = made_none objects faulty old old.counting.frontier [] refl (λ s j. refl) (λ j. refl);
     children = λ p. nothing loses (children_of old.counting.frontier p);
-    holds = holds_none old.ready.sorting old.ready.commits;
+    holds = sym (append-nil old.ready.commits);
     due = λ once seen h. keeps_none;
   }
     where
@@ -44,7 +44,7 @@ module _ {F : Type 0} (objects : F → Objects) (faulty : F → ObjectId → Typ
     waits_one d = record {
       ready = made_none objects faulty old f (i ∷ []) queue moved made;
       children = less;
-      holds = holds_none old.ready.sorting old.ready.commits;
+      holds = sym (append-nil old.ready.commits);
       due = λ once seen h. go (is_among i seen);
     }
       where
@@ -74,7 +74,7 @@ module _ {F : Type 0} (objects : F → Objects) (faulty : F → ObjectId → Typ
   frees_more loses old mid new i ids first others a b = record {
     ready = made_more objects faulty old mid new i ids first others a.ready b.ready;
     children = λ p. joined loses (cond (is_same p i) 1 0) (times p ids) (children_of new.counting.frontier p) (children_of mid.counting.frontier p) (children_of old.counting.frontier p) (a.children p) (b.children p);
-    holds = holds_on old.ready.sorting old.ready.commits first mid.ready.commits others new.ready.commits a.holds (subst (λ s. HoldsReady s (mid.ready.commits ++ others) new.ready.commits) (ap (λ p. p.sorting) a.ready.plan) b.holds);
+    holds = holds_on old.ready.commits first mid.ready.commits others new.ready.commits a.holds b.holds;
     due = due;
   }
     where

@@ -4,7 +4,7 @@ use Rattle.std.proofs.Common.{◌≡◌, ◌≤◌, List, [], ◌++◌, Bool, tr
 use Rattle.std.proofs.Math.Bool.{or-false, and-not_self}
 use Rattle.gix_topo.proofs.Common.{false≢true, Contains-append_left, ObjectId, id_cmp, is_among, Objects, id_total, id_apart, among_from, among_is, Contains-here, Contains-there, Tips, Ends, Counting, Walk, IsAgreeing, infinity}
 use Rattle.gix_topo.proofs.Common.{known_generation, is_seen, is_done, reached, known_of, time_of, start, DropsRows, plan_of, counted_by, taken_of, walk_of, IsCounted, IsSearched, next_by, AreDistinct, HasBegun, IsBegunWalk}
-use Rattle.gix_topo.proofs.Common.{by_rising_time, IsStartFault, Keeps, first_places, IsDone, AreRead, AreDroppedFor, IsTallied, IsSteady, HasCounted, IsHeld, unasked, unasked_of, TopoPlan, Ready, ready_ids, HoldsReady, IsNumberOf}
+use Rattle.gix_topo.proofs.Common.{by_rising_time, IsStartFault, Keeps, first_places, IsDone, AreRead, AreDroppedFor, IsTallied, IsSteady, HasCounted, IsHeld, unasked, unasked_of, TopoPlan, Ready, ready_ids, IsNumberOf}
 use Rattle.gix_topo.proofs.Common.{IsInDepth, IsBrokenRow, IsCounting, IsStored, IsStarted, StartsWith, IsFound, text_walked, IsTextMember, IsReached, IsFirstReady, IsFault, IsBuildFault, IsChildless, times_once, Error, only_member}
 use Rattle.gix_topo.specs.Inside.Starting.{here, later, short}
 use Rattle.gix_topo.proofs.Counts.IndegreeZero.{unseen, all_taken, text_left, text_outside}
@@ -21,7 +21,7 @@ use Rattle.gix_topo.proofs.Starting.OneByOne.{IsDue, Frees, started, started_one
 use Rattle.gix_topo.proofs.Reading.FoundIsStored.{found_stored}
 use Rattle.gix_topo.proofs.Reading.OnceRead.{all_still, found_later}
 use Rattle.gix_topo.proofs.Counts.Children.{children_of, was_ready_of, tally_same}
-use Rattle.gix_topo.proofs.Readiness.ReadyIds.{holds_in, holds_times, times-permutation}
+use Rattle.gix_topo.proofs.Readiness.ReadyIds.{holds_times, times-permutation}
 use Rattle.gix_topo.proofs.Counts.Frontier.{has_seen}
 use Rattle.gix_topo.proofs.Counts.ReadFaults.{push_fault, push_misses_no_count}
 
@@ -127,18 +127,18 @@ module _ {F : Type 0} (objects : F → Objects) (faulty : F → ObjectId → Typ
   first_plan : plan_of h.first ≡ p
   first_plan = h.before ∙ sym same
 
-  sorted : HoldsReady p.sorting (by_rising_time h.starts) w.ready.commits
-  sorted = subst (λ q. HoldsReady q.sorting (by_rising_time h.starts) w.ready.commits) (sym same) h.sorted
+  sorted : w.ready.commits ≡ by_rising_time h.starts
+  sorted = h.sorted
 
   kept_children : (j : ObjectId) → children_of new.frontier j ≡ children_of old.frontier j
   kept_children j = sym (zero-add _) ∙ all.children j
 
   -- the ready commits
   in_starts : (r : Ready) → Contains w.ready.commits r → Contains h.starts r
-  in_starts r m = in_by_time (λ s. s.time) h.starts r (holds_in p.sorting (by_rising_time h.starts) w.ready.commits sorted r m)
+  in_starts r m = in_by_time (λ s. s.time) h.starts r (subst (λ rs. Contains rs r) sorted m)
 
   ready_times : (i : ObjectId) → times i (ready_ids w.ready.commits) ≡ times i (ready_ids h.starts)
-  ready_times i = holds_times p.sorting (by_rising_time h.starts) w.ready.commits sorted i ∙ times-permutation i h.starts (by_rising_time h.starts) (by_time_moves (λ r. r.time) h.starts)
+  ready_times i = holds_times (by_rising_time h.starts) w.ready.commits sorted i ∙ times-permutation i h.starts (by_rising_time h.starts) (by_time_moves (λ r. r.time) h.starts)
 
   ready_among : (i : ObjectId) → is_among i (ready_ids h.starts) ≡ is_among i (ready_ids w.ready.commits)
   ready_among i = among_by i (ready_ids h.starts) (ready_ids w.ready.commits) (sym (ready_times i))

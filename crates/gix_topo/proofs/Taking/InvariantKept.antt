@@ -1,10 +1,10 @@
 -- A ready commit is chosen and taken: what that adds to a walk, and that what a walk holds still holds; counting stays exact, down to the depth lowered to the commit's parents.
 use Rattle.std.specs.FinSet as set
-use Rattle.std.proofs.Common.{◌≡◌, ◌+◌, ◌≤◌, ℕ, List, Bool, false, cond, Contains, true, ◌||◌, ◌⊎◌, ◌∷◌, ◌++◌, not, ◌&&◌, sym, ap, subst, ◌∙◌, refl, arith, inl, ⊎_elim, true≢false}
+use Rattle.std.proofs.Common.{◌≡◌, ◌+◌, ◌≤◌, ℕ, List, Bool, false, cond, Contains, true, ◌||◌, ◌⊎◌, ◌∷◌, not, ◌&&◌, sym, ap, subst, ◌∙◌, refl, arith, inl, ⊎_elim, true≢false}
 use Rattle.gix_topo.proofs.Common.{false_from_ne_true, or_from, or_parts, or_right, or_cases, or_left, ObjectId, is_same, is_among, Objects, id_total, same_is, among_from, id_apart, among_is, Side, Tips, Ends, Counting, Walk, ReadySet}
 use Rattle.gix_topo.proofs.Common.{IsAgreeing, IsRested, IsSamePlan, Explores, is_done, reached, is_seen, by_mode, Reaches, step, rows_of, plan_of, lowered, with_counting, taken_of, counted_by, TakesOne, IsCounted, IsExplored, IsTally}
 use Rattle.gix_topo.proofs.Common.{next_by, IsSearched, IsBegun, AreDistinct, last_places, Keeps, IsTallied, IsHeld, AreRead, IsSteady, unasked, unasked_of, AreDroppedFor, HasCounted, TakesReady, Ready, ready_ids, Chooses, IsTaken}
-use Rattle.gix_topo.proofs.Common.{text_walked, IsTextMember, IsCounting, Adds, IsFound, IsCommitRead, HoldsReady, IsReached, TopoPlan, IsBrokenRow, IsReady, IsChild, known_generation, times_once, walked_within, Contains-append_cases}
+use Rattle.gix_topo.proofs.Common.{text_walked, IsTextMember, IsCounting, Adds, IsFound, IsCommitRead, IsReached, TopoPlan, IsBrokenRow, IsReady, IsChild, known_generation, times_once, walked_within, Contains-append_cases}
 use Rattle.gix_topo.specs.Inside.Exploring.{itself, further}
 use Rattle.gix_revwalk.specs.Ids.{times}
 use Rattle.gix_topo.proofs.Counts.Frontier.{has_seen}
@@ -16,7 +16,7 @@ use Rattle.gix_topo.proofs.Reading.FoundIsStored.{found_text, found_named, found
 use Rattle.gix_topo.proofs.Counts.Children.{children_of, was_ready_of, tally_takes, tally_same}
 use Rattle.gix_topo.proofs.Readiness.IsReady.{times-last, keeps_from, keeps_times, last_from, last_once, keeps_on}
 use Rattle.gix_topo.proofs.Counts.Taken.{ready_untaken, made_taken, contains-taken}
-use Rattle.gix_topo.proofs.Readiness.ReadyIds.{chosen_in, in_ids, chosen_among, chosen_once, held_among, held_once, others_in, holds_in}
+use Rattle.gix_topo.proofs.Readiness.ReadyIds.{chosen_in, in_ids, chosen_among, chosen_once, held_among, held_once, others_in}
 use Rattle.gix_revwalk.proofs.NewIds.{times}
 use Rattle.gix_topo.proofs.Starting.OneByOne.{IsDue}
 use Rattle.gix_topo.proofs.Taking.AllReleases.{IsReleased, released, released_due}
@@ -155,10 +155,10 @@ module _ {F : Type 0} (objects : F → Objects) (faulty : F → ObjectId → Typ
     was_among = chosen_among w.ready.sorting w.ready.commits r rest.commits chosen
 
     is_now : (j : ObjectId) → is_among j (ready_ids new.ready.commits) ≡ (is_among j (ready_ids rest.commits) || is_among j (ready_ids added))
-    is_now = held_among rest.sorting rest.commits added new.ready.commits rel.holds
+    is_now = held_among rest.commits added new.ready.commits rel.holds
 
     ready_cases : (A : Type 0) (q : Ready) → (Contains rest.commits q → A) → (Contains added q → A) → Contains new.ready.commits q → A
-    ready_cases A q f g m = ⊎_elim f g (Contains-append_cases rest.commits added q (holds_in rest.sorting (rest.commits ++ added) new.ready.commits rel.holds q m))
+    ready_cases A q f g m = ⊎_elim f g (Contains-append_cases rest.commits added q (subst (λ rs. Contains rs q) rel.holds m))
 
     made_now : (j : ObjectId) → was_ready_of new.counting.frontier j ≡ (is_among j (ready_ids added) || was_ready_of w.counting.frontier j)
     made_now j = rel.ready.made j ∙ ap (λ b. is_among j (ready_ids added) || b) (explores_made objects faulty t.explores j)
@@ -331,7 +331,7 @@ module _ {F : Type 0} (objects : F → Objects) (faulty : F → ObjectId → Typ
       pub held_on : IsHeld objects faulty new
       held_on = record {
         made = λ j m. made_now j ∙ still_made j (or_cases (is_among j (ready_ids rest.commits)) (is_among j (ready_ids added)) (sym (is_now j) ∙ among_from j (ready_ids new.ready.commits) m));
-        distinct = held_once rest.sorting rest.commits added new.ready.commits rel.holds once.1 adds.distinct (λ i m. (or_parts _ _ (sym (was_among i) ∙ (or_parts _ _ (adds.unmade i m)).1)).1);
+        distinct = held_once rest.commits added new.ready.commits rel.holds once.1 adds.distinct (λ i m. (or_parts _ _ (sym (was_among i) ∙ (or_parts _ _ (adds.unmade i m)).1)).1);
         found = found_now;
         tallied = λ a. tallied_now (subst (λ p. IsAgreeing (objects p.store) p.rows) plan_is a);
         steady = λ s. steady_now (subst (λ plan. IsAgreeing (objects plan.store) plan.rows) plan_is s);
@@ -345,7 +345,7 @@ module _ {F : Type 0} (objects : F → Objects) (faulty : F → ObjectId → Typ
       -- a ready commit is taken
       pub takes_on : TakesReady objects faulty w r new
       takes_on = record {
-        takes = record { others = rest.commits; added = added; chosen = chosen; adds = adds; holds = subst (λ s. HoldsReady s (rest.commits ++ added) new.ready.commits) same rel.holds };
+        takes = record { others = rest.commits; added = added; chosen = chosen; adds = adds; holds = rel.holds };
         plan = plan_is;
         taken = taken_is;
       }

@@ -1,7 +1,7 @@
 -- One call of `next`: a commit after the other is taken, until one is shown.
 use Rattle.std.proofs.Common.{◌≡◌, ◌⊎◌, ◌≤◌, suc, List, [], Bool, true, false, Option, Some, None, Result, Ok, Err, Contains, sym, ap, subst, ⊎_elim}
 use Rattle.gix_topo.proofs.Common.{MakesProgress, at_most, ObjectId, Objects, Info, Error, Walk, ReadySet, plan_of, counted_by, taken_of, walk_of, TakesOne, IsTakingFault, answers_left, IsHeld, IsOpen, TakesReady, TakesNext, TopoWalk}
-use Rattle.gix_topo.proofs.Common.{Ready, Counted, Chooses, Adds, IsNextReady, IsFault, IsLate, Takes, after, Next, no_member}
+use Rattle.gix_topo.proofs.Common.{Ready, Chooses, IsNextReady, IsFault, IsLate, Takes, after, Next, no_member}
 use Rattle.gix_topo.specs.Inside.Steady.{ended, given, failed}
 use Rattle.gix_topo.specs.Walk as machine
 use Rattle.gix_revwalk.specs.Infos.{IsInfo}

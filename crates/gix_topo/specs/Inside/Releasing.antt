@@ -23,7 +23,7 @@ use Rattle.gix_frontier.specs.Inside.Frontier.{IsDone, known_of, is_due, MarksRe
 use Rattle.gix_revwalk.specs.Reading.{rows_of}
 use Rattle.gix_topo.specs.Reading.{Reads, ReadFails, LookUpFails}
 use Rattle.gix_topo.specs.declared.Sorting.{Sorting}
-use Rattle.gix_topo.specs.Walk.{TopoPlan, TopoWalk, Counted, Ready, ready_ids, IsKnown, IsOfInfo, HoldsReady}
+use Rattle.gix_topo.specs.Walk.{TopoPlan, TopoWalk, Counted, Ready, ready_ids, IsKnown, IsOfInfo}
 
 -- what a walk over a reader goes over
 abbrev pub plan_over : {F : Type 0} → Reader F → Parents → Sorting → List ObjectId → List ObjectId → TopoPlan F
@@ -70,7 +70,7 @@ module _ {F : Type 0} (objects : F → Objects) (faulty : F → ObjectId → Typ
     pub is : IsOfInfo r info
     pub known : (p : ObjectId) → Contains info.parent_ids.items p → LooksUpParent (objects old.counting.reader.find) (rows_of old.counting.reader.graph) new.counting.reader.in_use old.counting.frontier p
     pub made : MarksReady old.counting.frontier i new.counting.frontier
-    pub holds : HoldsReady old.ready.sorting (old.ready.commits ++ r ∷ []) new.ready.commits
+    pub holds : new.ready.commits ≡ old.ready.commits ++ r ∷ []
 
   -- why a commit can't become ready: it, or a parent of it, can't be read
   pub data IsPushFault (old : Walk F) (i : ObjectId) (e : Error) : Type 0 where

@@ -16,7 +16,7 @@ use Rattle.gix_topo.specs.Inside.Releasing.{plan_by, plan_of, counted_by, Pushes
 use Rattle.gix_topo.specs.Inside.Searched.{IsCounted, IsBegun, IsExplored}
 use Rattle.gix_topo.specs.Inside.Steady.{AreRead, AreDroppedFor, HasCounted}
 use Rattle.gix_topo.specs.TopoOrder.{by_time}
-use Rattle.gix_topo.specs.Walk.{TopoPlan, Ready, HoldsReady, IsReached, first_depth, IsCommitRead, IsCounting}
+use Rattle.gix_topo.specs.Walk.{TopoPlan, Ready, IsReached, first_depth, IsCommitRead, IsCounting}
 
 -- by rising time, and at one time in the order given
 abbrev pub by_rising_time : List Ready → List Ready
@@ -72,6 +72,6 @@ module _ {F : Type 0} (objects : F → Objects) (faulty : F → ObjectId → Typ
     pub empty : first.ready.commits ≡ []
     pub all : StartsAll first plan.tips starts mid
     -- the walk is that, except for the order of the ready commits
-    pub sorted : HoldsReady plan.sorting (by_rising_time starts) w.ready.commits
+    pub sorted : w.ready.commits ≡ by_rising_time starts
     pub counting : w.counting ≡ mid.counting
     pub same : plan_of w ≡ plan

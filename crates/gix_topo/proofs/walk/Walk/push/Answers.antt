@@ -1,6 +1,6 @@
-use Rattle.std.proofs.Common.{◌+◌, [], ◌∷◌, ◌++◌, Contains, refl, sym, ap, subst, ⊎_elim, ◌∙◌, arith, take_all, w64, to_z, of_z, Some, rules, SFits}
+use Rattle.std.proofs.Common.{◌+◌, [], ◌∷◌, ◌++◌, Contains, refl, sym, ap, subst, ⊎_elim, ◌∙◌, arith, take_all, w64, to_z, of_z, Some, rules, SFits, ◌≡◌}
 use Rattle.std.proofs.lemmas.Int.{to_z-of_z}
-use Rattle.gix_topo.proofs.Common.{rows_of, Reads, HoldsReady, MarksReady, LooksUpParent, err_from}
+use Rattle.gix_topo.proofs.Common.{rows_of, Reads, MarksReady, LooksUpParent, err_from}
 use Rattle.gix_topo.specs.Inside.Releasing.{itself}
 use Rattle.gix_topo.proofs.Reading.OnceRead.{reading_fails}
 use Rattle.gix_topo.proofs.Taking.OneRelease.{looks_up_by, take_more, fault_of_parent, reads_timed, at_index, time_told}
@@ -42,7 +42,7 @@ returns-clause-pushes g c = (
     known = λ p m. subst (λ s. LooksUpParent (g.F.Find.objects c.args.self.now.counting.reader.find) (rows_of c.args.self.now.counting.reader.graph) s c.args.self.now.counting.frontier p) (sym (ap (λ x. x.reader.in_use) c.loop-parent.invariant.counting))
         (subst (λ x. LooksUpParent (g.F.Find.objects x.find) (rows_of x.graph) c.read.new.self.in_use c.args.self.now.counting.frontier p) c.in_ok-info.ensures.same (c.loop-parent.invariant.known p (subst (λ ids. Contains ids p) (sym (take_all c.loop-parent.parent-index c.as_slice-parent-items.result.now c.loop-parent-test.false ∙ c.as_slice-parent-items.ensures)) m)));
     made = subst (λ i. MarksReady c.args.self.now.counting.frontier i c.mark_ready.new.self) (reads_timed c.in_ok-info.ensures.reads).id (subst (λ f. MarksReady f c.in_ok-info.info.id c.mark_ready.new.self) (ap (λ x. x.frontier) c.loop-parent.invariant.counting) c.in_ok-mark_ready.ensures);
-    holds = subst (λ s. HoldsReady s.sorting (s.commits ++ record { id = c.in_ok-info.info.id; parents = c.in_ok-info.info.parent_ids.items; time = to_z w64 (of_z w64 c.unwrap_or-time.result); generation = c.in_ok-info.info.generation } ∷ []) c.push.new.self.commits) c.loop-parent.invariant.ready c.in_ok-push.ensures.holds;
+    holds = subst (λ s. c.push.new.self.commits ≡ s.commits ++ record { id = c.in_ok-info.info.id; parents = c.in_ok-info.info.parent_ids.items; time = to_z w64 (of_z w64 c.unwrap_or-time.result); generation = c.in_ok-info.info.generation } ∷ []) c.loop-parent.invariant.ready c.in_ok-push.ensures.holds;
   },
 )
 
