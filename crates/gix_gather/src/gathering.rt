@@ -93,12 +93,7 @@ impl Gathering {
     }
 
     /// Objects of which none is read yet.
-    fn of(
-        alloc: Global,
-        waiting: Waiting,
-        through: Kind,
-        border: IdSet,
-    ) -> Gathering
+    fn of(alloc: Global, waiting: Waiting, through: Kind, border: IdSet) -> Gathering
         ensures { result ≡ map.empty }
     {
         Gathering {
@@ -136,7 +131,7 @@ impl Gathering {
             if left == 0 {
                 return Ok(self.is_all_read());
             }
-            let Some(id) = self.next() else {
+            let Some(id) = self.next()? else {
                 return Ok(true);
             };
             if self.read_new(odb, graph, id)? {
@@ -147,13 +142,13 @@ impl Gathering {
     }
 
     /// The id that is read next.
-    fn next(&mut self) -> Option<ObjectId>
+    fn next(&mut self) -> Result<Option<ObjectId>, AllocError>
         ensures { self.new ≡ self.old }
     {
         if self.reading.is_none() {
-            self.reading = self.waiting.pop();
+            self.reading = self.waiting.pop()?;
         }
-        self.reading
+        Ok(self.reading)
     }
 
     /// Reads the object of an id, unless nothing is to be read. Whether an object was read.
@@ -305,6 +300,7 @@ fn add_named(
 /// Adds the parents of a commit.
 fn add_parents(waiting: &mut Waiting, items: CommitRefIter<'_>) -> Result<(), AllocError> {
     let mut seconds = 0;
+    waiting.begin();
     if waiting.is_by_time() {
         if let Ok(committer) = items.committer() {
             seconds = committer.seconds();

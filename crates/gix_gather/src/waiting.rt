@@ -8,9 +8,9 @@ use std::collections::{BinaryHeap, VecDeque};
 pub enum Order {
     /// In the order in which they are met, as `breadth` lists them.
     Met,
-    /// Of the commits whose child was read, a parent of the newest child comes first, as `newest` asks for them.
+    /// The parents of the newest commit that was read come first, as `newest` asks for them.
     NewestFirst,
-    /// A parent of the oldest child comes first, as `oldest` asks for them.
+    /// The parents of the oldest commit that was read come first, as `oldest` asks for them.
     OldestFirst,
 }
 
@@ -18,11 +18,12 @@ pub enum Order {
 #[derive(Drop)]
 pub(crate) struct Waiting {
     order: Order,
-    met: VecDeque<ObjectId>,
-    /// The ids with what they are compared by, where the order is one by time: the child's time, and how many ids could still come.
+    /// The ids that come first, in this order.
+    first: VecDeque<ObjectId>,
+    /// The others, which are named by commits: what the commit's time counts, its number, counted down, and the id.
     by_time: BinaryHeap<(i64, u64, ObjectId)>,
-    /// How many ids can still come.
-    left: u64,
+    /// The number of the last commit.
+    number: u64,
 }
 
 impl Waiting {
@@ -30,52 +31,67 @@ impl Waiting {
     pub fn new(alloc: Global, order: Order) -> Waiting {
         Waiting {
             order,
-            met: VecDeque::new(alloc),
+            first: VecDeque::new(alloc),
             by_time: BinaryHeap::new(alloc),
-            left: u64::MAX,
+            number: u64::MAX,
         }
     }
 
-    /// Whether ids come by the times of their children.
+    /// Whether ids come by the times of the commits that name them.
     pub fn is_by_time(&self) -> bool {
         self.order != Order::Met
     }
 
-    /// Adds an id that comes before all others but those that were added so.
+    /// Adds an id that comes behind those that come first.
     pub fn push_first(&mut self, id: ObjectId) -> Result<(), AllocError> {
-        self.push_keyed(i64::MAX, id)
-    }
-
-    /// Adds an id that an object names, which has these seconds.
-    pub fn push(&mut self, seconds: i64, id: ObjectId) -> Result<(), AllocError> {
-        match self.order {
-            Order::OldestFirst => self.push_keyed((-1i64).wrapping_sub(seconds), id),
-            _ => self.push_keyed(seconds, id),
-        }
-    }
-
-    /// Adds an id. Of equal keys the first that was added comes first.
-    fn push_keyed(&mut self, key: i64, id: ObjectId) -> Result<(), AllocError> {
-        if let Order::Met = self.order {
-            self.met.push_back(id)?;
-            return Ok(());
-        }
-        self.by_time.push((key, self.left, id))?;
-        self.left = self.left.saturating_sub(1);
+        self.first.push_back(id)?;
         Ok(())
     }
 
-    /// Takes the id that comes first.
-    pub fn pop(&mut self) -> Option<ObjectId> {
-        if let Order::Met = self.order {
-            return self.met.pop_front();
+    /// Begins with the ids that another commit names.
+    pub fn begin(&mut self) {
+        self.number = self.number.saturating_sub(1);
+    }
+
+    /// Adds an id that the commit names. The commit has these seconds.
+    pub fn push(&mut self, seconds: i64, id: ObjectId) -> Result<(), AllocError> {
+        let counts = match self.order {
+            Order::Met => return self.push_first(id),
+            Order::NewestFirst => seconds,
+            Order::OldestFirst => (-1i64).wrapping_sub(seconds),
+        };
+        self.by_time.push((counts, self.number, id))?;
+        Ok(())
+    }
+
+    /// Takes the id that comes first. Where memory runs out, none is lost.
+    pub fn pop(&mut self) -> Result<Option<ObjectId>, AllocError> {
+        if self.first.is_empty() {
+            self.begin_next()?;
         }
-        let (_, _, id) = self.by_time.pop()?;
-        Some(id)
+        Ok(self.first.pop_front())
+    }
+
+    /// Lets the ids come first that the commit names whose ids come next.
+    fn begin_next(&mut self) -> Result<(), AllocError> {
+        let Some((counts, number, _)) = self.by_time.peek().copied() else {
+            return Ok(());
+        };
+        for _ in 0..u64::MAX {
+            let Some((its_counts, its_number, id)) = self.by_time.peek().copied() else {
+                break;
+            };
+            if its_counts != counts || its_number != number {
+                break;
+            }
+            self.push_first(id)?;
+            self.by_time.pop();
+        }
+        Ok(())
     }
 
     /// Whether no id waits.
     pub fn is_empty(&self) -> bool {
-        self.met.is_empty() && self.by_time.is_empty()
+        self.first.is_empty() && self.by_time.is_empty()
     }
 }

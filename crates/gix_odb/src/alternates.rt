@@ -2,7 +2,7 @@
 ghost use Rattle.std.specs.Prelude.{◌≡◌, ◌+◌, ◌≤◌, ◌<◌, length};
 
 use crate::fault::{Damage, Fault, fault_of};
-use gix_files::{read, real_folder};
+use gix_files::{is_there, read, real_folder};
 use std::alloc::Global;
 use std::fs::Files;
 use std::os::unix::fs::FileExt;
@@ -24,13 +24,23 @@ pub(crate) struct Folder {
     level: u32,
 }
 
+/// Folders whose objects are read.
+#[derive(Drop)]
+pub(crate) struct Borrowed {
+    /// The folders, in the order in which they were met.
+    pub all: Vec<Folder>,
+    /// The files of alternates that nothing was read of, since they are too many levels away.
+    pub too_deep: Vec<String>,
+}
+
 /// The folder and those whose objects it borrows, each once. One that isn't there, or is too many levels away, is passed over, as in git.
-pub(crate) fn folders<R: Files + AllocGlobal>(rt: &R, objects: &str) -> Result<Vec<Folder>, Fault>
+pub(crate) fn folders<R: Files + AllocGlobal>(rt: &R, objects: &str) -> Result<Borrowed, Fault>
 where
     R::File: FileExt,
 {
     let alloc = rt.alloc();
     let mut folders = Vec::new(alloc);
+    let mut too_deep = Vec::new(alloc);
     let path = match real_folder(rt, objects) {
         Ok(Some(path)) => path,
         Ok(None) => return Err(fault_of(String::from_str(alloc, objects)?, Damage::NotAFolder)),
@@ -41,16 +51,20 @@ where
         if number >= folders.len() {
             break;
         }
-        add_alternates(rt, &mut folders, number)?;
+        add_alternates(rt, &mut folders, number, &mut too_deep)?;
     }
-    Ok(folders)
+    Ok(Borrowed {
+        all: folders,
+        too_deep,
+    })
 }
 
-/// Adds the folders that the folder of this number borrows from.
+/// Adds the folders that the folder of this number borrows from, or to `too_deep` its file that names them.
 fn add_alternates<R: Files + AllocGlobal>(
     rt: &R,
     folders: &mut Vec<Folder>,
     number: usize,
+    too_deep: &mut Vec<String>,
 ) -> Result<(), Fault>
 where
     R::File: FileExt,
@@ -59,12 +73,16 @@ where
         return Ok(());
     };
     let level = folder.level;
-    if level >= MOST_LEVELS {
-        return Ok(());
-    }
     let from = folder.path.clone()?;
     let mut file = from.clone()?;
     file.push_str("/info/alternates")?;
+    if level >= MOST_LEVELS {
+        return match is_there(rt, file.as_str()) {
+            Ok(true) => Ok(too_deep.push(file)?),
+            Ok(false) => Ok(()),
+            Err(damage) => Err(fault_of(file, Damage::from(damage))),
+        };
+    }
     let mut text = Vec::new(rt.alloc());
     match read(rt, file.as_str(), MOST_BYTES, &mut text) {
         Ok(_) => {}

@@ -15,7 +15,7 @@ mod packs;
 mod short;
 mod work;
 
-use alternates::Folder;
+use alternates::Borrowed;
 use bases::Place;
 use fault::fault_of;
 pub use fault::{Damage, Fault};
@@ -43,7 +43,7 @@ const MOST_LOOSE: u64 = (1 << 28) + (1 << 20);
 pub struct Odb<R: Files> {
     rt: R,
     kind: gix_hash::Kind,
-    folders: Vec<Folder>,
+    folders: Borrowed,
     packs: Packs<R::File>,
     /// The number of the pack that had the last object.
     last: usize,
@@ -70,7 +70,7 @@ where
     pub fn open(rt: &R, objects: &str, kind: gix_hash::Kind) -> Result<Odb<R>, Fault> {
         let folders = alternates::folders(rt, objects)?;
         let mut packs = Packs::new(rt.alloc());
-        for folder in folders.iter() {
+        for folder in folders.all.iter() {
             packs.list(rt, folder.path.as_str())?;
         }
         Ok(Odb {
@@ -90,6 +90,11 @@ where
     /// The kind of the ids.
     pub fn kind(&self) -> gix_hash::Kind {
         self.kind
+    }
+
+    /// The paths of the files of alternates that aren't read, since they are too many levels away. git passes over them too, and says so.
+    pub fn unread_alternates(&self) -> &[String] {
+        self.folders.too_deep.as_slice()
     }
 
     /// Puts the bytes of an object into `buf` in place of what was there, and returns its kind. None where no file has the object.
@@ -192,7 +197,7 @@ where
             return Ok(());
         }
         self.listings -= 1;
-        for folder in self.folders.iter() {
+        for folder in self.folders.all.iter() {
             self.packs.list(&self.rt, folder.path.as_str())?;
         }
         Ok(())
@@ -345,7 +350,7 @@ where
 
     /// Makes the object of the deltas on the way, whose base is a loose object.
     fn unpack_from_loose(&mut self, place: Place, id: &ObjectId) -> Result<Kind, Trouble> {
-        for number in 0..self.folders.len() {
+        for number in 0..self.folders.all.len() {
             if let Ok(Some(kind)) = self.read_loose_in(number, id) {
                 return Ok(self.work.make(kind, place, true)?);
             }
@@ -360,7 +365,7 @@ where
         id: &ObjectId,
         first: &mut Option<Fault>,
     ) -> Result<Option<Kind>, Fault> {
-        for number in 0..self.folders.len() {
+        for number in 0..self.folders.all.len() {
             match self.read_loose_in(number, id) {
                 Ok(Some(kind)) => {
                     if let Some(kind) = self.unless_passed(kind) {
@@ -369,7 +374,7 @@ where
                 }
                 Ok(None) => {}
                 Err(damage) => {
-                    let file = match self.folders.get(number) {
+                    let file = match self.folders.all.get(number) {
                         Some(folder) => loose::path_of(self.rt.alloc(), folder.path.as_str(), id)?,
                         None => String::new(self.rt.alloc()),
                     };
@@ -382,7 +387,7 @@ where
 
     /// Reads an object from its file in a folder.
     fn read_loose_in(&mut self, number: usize, id: &ObjectId) -> Result<Option<Kind>, Damage> {
-        let Some(folder) = self.folders.get(number) else {
+        let Some(folder) = self.folders.all.get(number) else {
             return Ok(None);
         };
         let path = loose::path_of(self.rt.alloc(), folder.path.as_str(), id)?;

@@ -140,7 +140,7 @@ where
     /// Those of [`refs_below`](Repository::refs_below).
     pub fn count_replacements(&mut self) -> Result<usize, Fault> {
         let mut count = 0usize;
-        let listed = self.list_below("refs/replace/")?;
+        let listed = self.list("refs/replace/", true)?;
         for replacement in listed.refs.iter() {
             if let Some((_, hex)) = replacement.name.as_str().rsplit_once('/') {
                 if ObjectId::from_digits(hex.as_bytes(), self.settings.kind).is_some() {

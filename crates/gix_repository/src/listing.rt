@@ -73,6 +73,11 @@ where
     ///
     /// Those of [`refs_below`](Repository::refs_below).
     pub fn list_below(&mut self, prefix: &str) -> Result<Listed, Fault> {
+        self.list(prefix, false)
+    }
+
+    /// The same, where a packed ref whose name isn't UTF-8 may be passed over, or is a fault.
+    pub(crate) fn list(&mut self, prefix: &str, passes_over: bool) -> Result<Listed, Fault> {
         let alloc = self.rt.alloc();
         let mut listed = Listed {
             refs: Vec::new(alloc),
@@ -82,8 +87,9 @@ where
             Some(folder) if is_name_of_any_level(folder.as_bytes()) => {}
             _ => return Ok(listed),
         }
+        // A ref that git packs meanwhile is among the packed ones, which are read behind the files.
         let mut targets = self.read_below(prefix)?;
-        let packed = self.all_packed(false)?;
+        let packed = self.all_packed(passes_over)?;
         for (name, id) in packed.iter() {
             if name.as_str().starts_with(prefix) && !targets.contains_key(name.as_str()) {
                 targets.insert(name.clone()?, Target::Id(*id))?;
@@ -224,8 +230,8 @@ where
     }
 
     /// The packed refs. A name that can't be that of a ref is passed over, as by git. One that isn't UTF-8 is a ref for git: it is passed over
-    /// where another one is looked for, and a fault where all are listed.
-    pub(crate) fn all_packed(&self, finds_one: bool) -> Result<Packed, Fault> {
+    /// where that is said, and else a fault.
+    pub(crate) fn all_packed(&self, passes_over: bool) -> Result<Packed, Fault> {
         let alloc = self.rt.alloc();
         let text = self.read_packed()?;
         let mut all = BTreeMap::new(alloc);
@@ -236,7 +242,7 @@ where
                 }
                 Err(RefFault::Name) => {}
                 Err(fault) => {
-                    if fault != RefFault::NotText || !finds_one {
+                    if fault != RefFault::NotText || !passes_over {
                         return Err(fault_of(self.path_of("packed-refs")?, Damage::Ref(fault)));
                     }
                 }

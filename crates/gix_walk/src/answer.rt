@@ -78,6 +78,9 @@ fn notice(rt: &HostRuntime, repository: &mut Repository<HostRuntime>) -> Result<
             "gix_walk: info/grafts is ignored: a commit's parents are those that it names"
         );
     }
+    for file in repository.odb.unread_alternates() {
+        let _ = eprintln!(rt; "gix_walk: {file:?} isn't read: too many repositories lead to it");
+    }
     let count = repository.count_replacements()?;
     if count > 0 {
         let _ = eprintln!(rt;
