@@ -1,5 +1,7 @@
+-- Hex digits.
+pub mod WrittenHex
 -- Texts are read in one way, and a history exists.
-mod OneCommit
+pub mod OneCommit
 mod HaveHistory
 -- What is right of some objects is right of all that have them.
 mod Carried
