@@ -25,7 +25,7 @@ kept_in P before ids those (kept {i = x} {after = after} {those = more} p k) i m
     (Contains-cons_cases i x more m)
 kept_in P before ids those (passed {i = x} {after = after} n k) i m = Contains-there i x after (kept_in P _ _ _ k i m)
 
-reverse_in : {I : Type 0} (ids : List I) (i : I) → Contains (reverse ids) i → Contains ids i
+pub reverse_in : {I : Type 0} (ids : List I) (i : I) → Contains (reverse ids) i → Contains ids i
 reverse_in [] i m = m
 reverse_in (x ∷ ids) i m = ⊎_elim
     (λ n. Contains-there i x ids (reverse_in ids i n))

@@ -1,9 +1,9 @@
 -- From one history to each: where what was gone through is there, an answer that is right in one history is right in every other.
 use Rattle.std.proofs.Common.{◌≡◌, ◌≢◌, ℕ, ℤ, pos, List, [], ◌∷◌, ◌++◌, length, take, filter, not, int_lt, cond, Bool, true, false, All, Contains, codes, flat_map, refl, sym, ap, subst, ◌∙◌, arith, ⊎_elim}
-use Rattle.std.proofs.lemmas.List.Elements.{All-contains, Contains-append_cases, Contains-append_left, Contains-append_right}
+use Rattle.std.proofs.lemmas.List.Elements.{All-contains, Contains-append_cases, Contains-append_left}
 use Rattle.gix_hash.proofs.Ids.Membership.{Contains-cons_cases, Contains-here, Contains-there, no_member}
 use Rattle.gix_hash.specs.declared.ObjectId.{ObjectId}
-use Rattle.gix_statement.specs.WholeStatement.{Objects, Row, IsThere, IsHistory, Begins, IsWhole, Follows, all, first, since, Keeps, empty, kept, passed, Lists, lists, AreTips, Reaches, start, parent, IsNumberShown}
+use Rattle.gix_statement.specs.WholeStatement.{Objects, Row, IsThere, IsHistory, Begins, IsWhole, Follows, all, first, since, Keeps, empty, kept, passed, Reaches, start, parent, IsNumberShown}
 use Rattle.gix_statement.proofs.Heart.{IsSimple, begins_there, whole_there}
 
 -- a member of what a test keeps
@@ -21,19 +21,13 @@ filter_same p q (x ∷ xs) h =
     (λ k. cond (h x (Contains-here x xs) k) (x ∷ filter p xs) (filter p xs))
     ∙ ap (λ ids. cond (q x) (x ∷ ids) ids) (filter_same p q xs (λ i c. h i (Contains-there i x xs c)))
 
-names_in : {I : Type 0} (some more : I → List I) → ((c i : I) → Contains (some c) i → Contains (more c) i) → (ids : List I) (i : I) → Contains (flat_map some ids) i → Contains (flat_map more ids) i
-names_in some more within [] i m = m
-names_in some more within (c ∷ ids) i m = ⊎_elim
-    (λ h. Contains-append_left (more c) _ i (within c i h))
-    (λ t. Contains-append_right (more c) _ i (names_in some more within ids i t))
-    (Contains-append_cases (some c) (flat_map some ids) i m)
-
-name_of : {I : Type 0} (names : I → List I) (ids : List I) (c i : I) → Contains ids c → Contains (names c) i → Contains (flat_map names ids) i
-name_of names [] c i m n = absurd (no_member c m)
-name_of names (x ∷ ids) c i m n = ⊎_elim
-    (λ e. Contains-append_left (names x) _ i (subst (λ y. Contains (names y) i) (sym e) n))
-    (λ t. Contains-append_right (names x) _ i (name_of names ids c i t n))
-    (Contains-cons_cases c x ids m)
+-- who names it
+namer : {I : Type 0} (names : I → List I) (ids : List I) (i : I) → Contains (flat_map names ids) i → (c : I) × Contains ids c × Contains (names c) i
+namer names [] i m = absurd (no_member i m)
+namer names (c ∷ ids) i m = ⊎_elim
+    (λ here. (c, Contains-here c ids, here))
+    (λ there. let n = namer names ids i there in (n.0, Contains-there n.0 c ids n.1, n.2))
+    (Contains-append_cases (names c) (flat_map names ids) i m)
 
 take_in : {I : Type 0} (xs : List I) (i : I) → Contains (take 1 xs) i → Contains xs i
 take_in [] i m = m
@@ -78,20 +72,29 @@ module _ (objects : Objects) (rows : List Row) (parents other : ObjectId → Lis
     many,
   )
 
-  -- what a run must have read: what hidden ids reach, and behind orders by time the commits whose times were judged
-  pub record WasRead (tips hidden ids : List ObjectId) : Type 0 where
-    pub below : (i : ObjectId) → Reaches parents hidden i → IsThere objects rows i
-    pub judged : (by : List ℕ) → by ≢ codes "breadth" → (i : ObjectId) → Contains (tips ++ flat_map parents ids) i → IsThere objects rows i
-
-  -- LISTS that aren't topological, whole ones and beginnings: what is listed is there, what hidden ids reach is, and behind orders by time what is judged
+  -- LISTS that aren't topological, whole ones and beginnings: what is listed is there, what hidden ids reach is, and behind orders by time tips
+  -- and what is judged
   module _ (by : List ℕ) (simple : IsSimple by) (tips hidden ids : List ObjectId) (listed : All (IsThere objects rows) ids)
       (below : (i : ObjectId) → Reaches parents hidden i → IsThere objects rows i)
-      (judged : by ≢ codes "breadth" → (i : ObjectId) → Contains (tips ++ flat_map parents ids) i → IsThere objects rows i) where
-    named_judged : by ≢ codes "breadth" → (c i : ObjectId) → Contains ids c → Contains (parents c) i → IsThere objects rows i
-    named_judged late c i m n = judged late i (Contains-append_right tips _ i (name_of parents ids c i m n))
+      (first_judged : by ≢ codes "breadth" → (i : ObjectId) → Contains tips i → IsThere objects rows i)
+      (judged : by ≢ codes "breadth" → (taken rest : List ObjectId) (j : ObjectId) → ids ≡ taken ++ j ∷ rest → (c i : ObjectId) → Contains taken c → Contains (parents c) i → IsThere objects rows i) where
+    -- and behind a whole list what its last names
+    abbrev pub AllJudged : Type 0
+    AllJudged = by ≢ codes "breadth" → (c i : ObjectId) → Contains ids c → Contains (parents c) i → IsThere objects rows i
 
     is_listed : (c : ObjectId) → Contains ids c → IsThere objects rows c
     is_listed c m = All-contains (IsThere objects rows) ids c listed m
+
+    taken_there : (taken rest : List ObjectId) (j : ObjectId) → ids ≡ taken ++ j ∷ rest → (c : ObjectId) → Contains taken c → IsThere objects rows c
+    taken_there taken rest j is c m = is_listed c (subst (λ all. Contains all c) (sym is) (Contains-append_left taken (j ∷ rest) c m))
+
+    -- what tips and those taken name is judged
+    judged_so : (some : ObjectId → List ObjectId) → ((c i : ObjectId) → Contains (some c) i → Contains (parents c) i) → (starts taken : List ObjectId) → ((i : ObjectId) → Contains starts i → Contains tips i) → by ≢ codes "breadth"
+        → ((c i : ObjectId) → Contains taken c → Contains (parents c) i → IsThere objects rows i) → (i : ObjectId) → Contains (starts ++ flat_map some taken) i → time i ≡ times i
+    judged_so some within starts taken from late of i m = same_time i (⊎_elim
+        (λ s. first_judged late i (from i s))
+        (λ n. let c = namer some taken i n in of c.0 i c.1 (within c.0 i c.2))
+        (Contains-append_cases starts (flat_map some taken) i m))
 
     -- a list through what an option follows is one in the other history
     abbrev pub AreMoved : (option : List (List ℕ)) (followed : ObjectId → List ObjectId) (starts : List ObjectId) → Type 0
@@ -99,34 +102,37 @@ module _ (objects : Objects) (rows : List Row) (parents other : ObjectId → Lis
         (follows : ObjectId → List ObjectId)
         × Follows other times tips by option follows starts
         × (Begins parents followed time starts hidden by ids → Begins other follows times starts hidden by ids)
-        × (Begins parents followed time starts hidden by ids → IsWhole parents followed time starts hidden by ids → IsWhole other follows times starts hidden by ids)
+        × (AllJudged → Begins parents followed time starts hidden by ids → IsWhole parents followed time starts hidden by ids → IsWhole other follows times starts hidden by ids)
+
+    hides : (c : ObjectId) → Reaches parents hidden c → parents c ≡ other c
+    hides c r = same_parents c (below c r)
 
     pub moved : (option : List (List ℕ)) (followed : ObjectId → List ObjectId) (starts : List ObjectId) → Follows parents time tips by option followed starts → AreMoved option followed starts
     moved option followed starts all =
-        let same : (c : ObjectId) → Contains ids c → parents c ≡ other c = (λ c m. same_parents c (is_listed c m)) in
         let within : (c i : ObjectId) → Contains (other c) i → Contains (other c) i = (λ c i m. m) in
-        let hides : (c : ObjectId) → Reaches parents hidden c → parents c ≡ other c = (λ c r. same_parents c (below c r)) in
-        let timed : by ≢ codes "breadth" → (i : ObjectId) → Contains (tips ++ flat_map parents ids) i → time i ≡ times i = (λ late i m. same_time i (judged late i m)) in (
+        let plain : (c i : ObjectId) → Contains (parents c) i → Contains (parents c) i = (λ c i m. m) in
+        let same : (taken rest : List ObjectId) (j : ObjectId) → ids ≡ taken ++ j ∷ rest → (c : ObjectId) → Contains taken c → parents c ≡ other c = (λ taken rest j is c m. same_parents c (taken_there taken rest j is c m)) in
+        let timed : by ≢ codes "breadth" → (taken rest : List ObjectId) (j : ObjectId) → ids ≡ taken ++ j ∷ rest → (i : ObjectId) → Contains (tips ++ flat_map parents taken) i → time i ≡ times i = (λ late taken rest j is. judged_so parents plain tips taken (λ i m. m) late (judged late taken rest j is)) in (
           other,
           all,
-          begins_there parents other parents other time times tips hidden ids same within hides by simple timed,
-          whole_there parents other parents other time times tips hidden ids same within hides by simple timed,
+          begins_there parents other parents other time times tips hidden ids within hides by simple same timed,
+          λ every. whole_there parents other parents other time times tips hidden ids within hides by simple same timed (λ c m. same_parents c (is_listed c m)) (λ late. judged_so parents plain tips ids (λ i m. m) late (every late)),
         )
     moved option followed starts (first is) =
-        let same : (c : ObjectId) → Contains ids c → take 1 (parents c) ≡ take 1 (other c) = (λ c m. ap (take 1) (same_parents c (is_listed c m))) in
         let within : (c i : ObjectId) → Contains (take 1 (other c)) i → Contains (other c) i = (λ c i m. take_in (other c) i m) in
-        let hides : (c : ObjectId) → Reaches parents hidden c → parents c ≡ other c = (λ c r. same_parents c (below c r)) in
-        let timed : by ≢ codes "breadth" → (i : ObjectId) → Contains (tips ++ flat_map (λ c. take 1 (parents c)) ids) i → time i ≡ times i = (λ late i m. absurd (late is)) in (
+        let same : (taken rest : List ObjectId) (j : ObjectId) → ids ≡ taken ++ j ∷ rest → (c : ObjectId) → Contains taken c → take 1 (parents c) ≡ take 1 (other c) = (λ taken rest j is c m. ap (take 1) (same_parents c (taken_there taken rest j is c m))) in
+        let timed : by ≢ codes "breadth" → (taken rest : List ObjectId) (j : ObjectId) → ids ≡ taken ++ j ∷ rest → (i : ObjectId) → Contains (tips ++ flat_map (λ c. take 1 (parents c)) taken) i → time i ≡ times i = (λ late taken rest j eq i m. absurd (late is)) in (
           λ c. take 1 (other c),
           first is,
-          begins_there parents other (λ c. take 1 (parents c)) (λ c. take 1 (other c)) time times tips hidden ids same within hides by simple timed,
-          whole_there parents other (λ c. take 1 (parents c)) (λ c. take 1 (other c)) time times tips hidden ids same within hides by simple timed,
+          begins_there parents other (λ c. take 1 (parents c)) (λ c. take 1 (other c)) time times tips hidden ids within hides by simple same timed,
+          λ every. whole_there parents other (λ c. take 1 (parents c)) (λ c. take 1 (other c)) time times tips hidden ids within hides by simple same timed (λ c m. ap (take 1) (same_parents c (is_listed c m))) (λ late. absurd (late is)),
         )
     moved option followed starts (since {number = number} n named is) = (
       λ c. filter (is_young times n) (other c),
       subst (Follows other times tips by option (λ c. filter (is_young times n) (other c))) (sym starts_same) (since n named is),
-      begins_there parents other (λ c. filter (is_young time n) (parents c)) (λ c. filter (is_young times n) (other c)) time times (filter (is_young time n) tips) hidden ids same within hides by simple timed,
-      whole_there parents other (λ c. filter (is_young time n) (parents c)) (λ c. filter (is_young times n) (other c)) time times (filter (is_young time n) tips) hidden ids same within hides by simple timed,
+      begins_there parents other (λ c. filter (is_young time n) (parents c)) (λ c. filter (is_young times n) (other c)) time times (filter (is_young time n) tips) hidden ids within hides by simple same timed,
+      λ every. whole_there parents other (λ c. filter (is_young time n) (parents c)) (λ c. filter (is_young times n) (other c)) time times (filter (is_young time n) tips) hidden ids within hides by simple same timed
+          (λ c m. young_same c (is_listed c m) (λ i p. every late c i m p)) (λ l. judged_so (λ c. filter (is_young time n) (parents c)) young_in (filter (is_young time n) tips) ids (filter_in (is_young time n) tips) l (every l)),
     )
       where
         late : by ≢ codes "breadth"
@@ -139,28 +145,19 @@ module _ (objects : Objects) (rows : List Row) (parents other : ObjectId → Lis
         of_time i e = λ k. not (int_lt (e k) (pos n))
 
         starts_same : filter (is_young time n) tips ≡ filter (is_young times n) tips
-        starts_same = filter_same (is_young time n) (is_young times n) tips (λ i m. of_time i (same_time i (judged late i (Contains-append_left tips _ i m))))
+        starts_same = filter_same (is_young time n) (is_young times n) tips (λ i m. of_time i (same_time i (first_judged late i m)))
 
-        same : (c : ObjectId) → Contains ids c → filter (is_young time n) (parents c) ≡ filter (is_young times n) (other c)
-        same c m = filter_same (is_young time n) (is_young times n) (parents c) (λ i p. of_time i (same_time i (named_judged late c i m p))) ∙ ap (filter (is_young times n)) (same_parents c (is_listed c m))
+        young_in : (c i : ObjectId) → Contains (filter (is_young time n) (parents c)) i → Contains (parents c) i
+        young_in c i m = filter_in (is_young time n) (parents c) i m
+
+        young_same : (c : ObjectId) → IsThere objects rows c → ((i : ObjectId) → Contains (parents c) i → IsThere objects rows i) → filter (is_young time n) (parents c) ≡ filter (is_young times n) (other c)
+        young_same c there of = filter_same (is_young time n) (is_young times n) (parents c) (λ i p. of_time i (same_time i (of i p))) ∙ ap (filter (is_young times n)) (same_parents c there)
+
+        same : (taken rest : List ObjectId) (j : ObjectId) → ids ≡ taken ++ j ∷ rest → (c : ObjectId) → Contains taken c → filter (is_young time n) (parents c) ≡ filter (is_young times n) (other c)
+        same taken rest j eq c m = young_same c (taken_there taken rest j eq c m) (λ i p. judged late taken rest j eq c i m p)
 
         within : (c i : ObjectId) → Contains (filter (is_young times n) (other c)) i → Contains (other c) i
         within c i m = filter_in (is_young times n) (other c) i m
 
-        hides : (c : ObjectId) → Reaches parents hidden c → parents c ≡ other c
-        hides c r = same_parents c (below c r)
-
-        timed : by ≢ codes "breadth" → (i : ObjectId) → Contains (filter (is_young time n) tips ++ flat_map (λ c. filter (is_young time n) (parents c)) ids) i → time i ≡ times i
-        timed l i m = same_time i (judged l i (⊎_elim
-            (λ s. Contains-append_left tips _ i (filter_in (is_young time n) tips i s))
-            (λ t. Contains-append_right tips _ i (names_in (λ c. filter (is_young time n) (parents c)) parents (λ c j q. filter_in (is_young time n) (parents c) j q) ids i t))
-            (Contains-append_cases (filter (is_young time n) tips) _ i m)))
-
-  -- so a whole answer is an answer in the other history
-  pub listed_there : (ids : List ObjectId) (ended : Bool) (words : List (List ℕ)) → Lists objects rows parents time ids ended words
-      → ((by : List ℕ) (rest : List (List ℕ)) → words ≡ by ∷ rest → IsSimple by)
-      → ((by : List ℕ) (option limit more : List (List ℕ)) (tips hidden : List ObjectId) → words ≡ by ∷ (option ++ (limit ++ more)) → AreTips more tips hidden → WasRead tips hidden ids) → Lists objects rows other times ids ended words
-  listed_there ids ended words (lists {by = by} option limit more {tips = tips} {hidden = hidden} {starts = starts} {followed = followed} named are some follows there begins allows whole) simple read =
-      let r = read by option limit more tips hidden refl are in
-      let m = moved by (simple by (option ++ (limit ++ more)) refl) tips hidden ids there r.below (r.judged by) option followed starts follows in
-      lists option limit more named are some m.1 there (m.2 begins) allows (λ e one_more. m.3 begins (whole e one_more))
+        timed : by ≢ codes "breadth" → (taken rest : List ObjectId) (j : ObjectId) → ids ≡ taken ++ j ∷ rest → (i : ObjectId) → Contains (filter (is_young time n) tips ++ flat_map (λ c. filter (is_young time n) (parents c)) taken) i → time i ≡ times i
+        timed l taken rest j eq = judged_so (λ c. filter (is_young time n) (parents c)) young_in (filter (is_young time n) tips) taken (filter_in (is_young time n) tips) l (judged l taken rest j eq)

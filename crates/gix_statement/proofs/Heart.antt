@@ -1,7 +1,7 @@
 -- The heart of the proof that a run is right in each history: a list in one history is a list in every other that has what was gone through.
 -- What is listed must name the same, what hidden ids reach the same parents, and what is pending must have the same time.
 use Rattle.std.proofs.Common.{◌≡◌, ◌≢◌, ◌≤ℤ◌, ℕ, ℤ, List, [], ◌∷◌, ◌++◌, Contains, codes, flat_map, refl, sym, ap, subst, ◌∙◌, arith, ⊎_elim, append_assoc, append-nil}
-use Rattle.std.proofs.lemmas.List.Elements.{All-contains, Contains-append_cases, Contains-append_left, Contains-append_right, Contains-push_cases, Contains-get_or}
+use Rattle.std.proofs.lemmas.List.Elements.{All-contains, Contains-append_cases, Contains-push_cases, Contains-get_or}
 use Rattle.gix_hash.proofs.Ids.Membership.{Contains-here, Contains-there, no_member}
 use Rattle.gix_statement.specs.WholeStatement.{Begins, IsBest, IsFirst, IsNext, IsPending, IsShown, IsWhole, Reaches, start, parent, breadth, newest, oldest, date, topo}
 
@@ -14,7 +14,7 @@ abbrev pub IsSimple : List ℕ → Type 0
 IsSimple by = Contains (codes "topo" ∷ codes "date" ∷ []) by → ⊥
 
 module _ {I : Type 0} (parents other followed follows : I → List I) (time times : I → ℤ) (starts hidden ids : List I)
-    (same_followed : (c : I) → Contains ids c → followed c ≡ follows c) (within : (c i : I) → Contains (follows c) i → Contains (other c) i)
+    (within : (c i : I) → Contains (follows c) i → Contains (other c) i)
     (same_hidden : (c : I) → Reaches parents hidden c → parents c ≡ other c) where
   hidden_there : (i : I) → Reaches parents hidden i → Reaches other hidden i
   hidden_there i (start s) = start s
@@ -24,11 +24,11 @@ module _ {I : Type 0} (parents other followed follows : I → List I) (time time
   hidden_back i (start s) = start s
   hidden_back i (parent {child = c} r m) = let before = hidden_back c r in parent before (subst (λ ps. Contains ps i) (sym (same_hidden c before)) m)
 
-  same_names : (taken : List I) → ((c : I) → Contains taken c → Contains ids c) → flat_map followed taken ≡ flat_map follows taken
+  same_names : (taken : List I) → ((c : I) → Contains taken c → followed c ≡ follows c) → flat_map followed taken ≡ flat_map follows taken
   same_names [] h = refl
-  same_names (c ∷ taken) h = (λ k. same_followed c (h c (Contains-here c taken)) k ++ same_names taken (λ i m. h i (Contains-there i c taken m)) k)
+  same_names (c ∷ taken) h = (λ k. h c (Contains-here c taken) k ++ same_names taken (λ i m. h i (Contains-there i c taken m)) k)
 
-  module _ (taken : List I) (part : (c : I) → Contains taken c → Contains ids c) where
+  module _ (taken : List I) (part : (c : I) → Contains taken c → followed c ≡ follows c) where
     abbrev Was : I → Type 0
     Was = IsPending parents followed time starts hidden taken
 
@@ -105,27 +105,9 @@ module _ {I : Type 0} (parents other followed follows : I → List I) (time time
       (λ there. let n = named taken i there in (n.0, Contains-there n.0 c taken n.1, n.2))
       (Contains-append_cases (follows c) (flat_map follows taken) i m)
 
-  module _ (by : List ℕ) (simple : IsSimple by) (timed : by ≢ codes "breadth" → (i : I) → Contains (starts ++ flat_map followed ids) i → time i ≡ times i) where
-    -- of a beginning too
-    more_names : (taken rest : List I) (i : I) → Contains (starts ++ flat_map followed taken) i → Contains (starts ++ flat_map followed (taken ++ rest)) i
-    more_names taken rest i m = ⊎_elim
-        (λ s. Contains-append_left starts _ i s)
-        (λ n. Contains-append_right starts _ i (in_more taken i n))
-        (Contains-append_cases starts (flat_map followed taken) i m)
-      where
-        in_more : (taken : List I) (i : I) → Contains (flat_map followed taken) i → Contains (flat_map followed (taken ++ rest)) i
-        in_more [] i n = absurd (no_member i n)
-        in_more (c ∷ taken) i n = ⊎_elim
-            (λ h. Contains-append_left (followed c) _ i h)
-            (λ t. Contains-append_right (followed c) _ i (in_more taken i t))
-            (Contains-append_cases (followed c) (flat_map followed taken) i n)
-
-    timed_so : (taken rest : List I) → ids ≡ taken ++ rest → by ≢ codes "breadth" → (i : I) → Contains (starts ++ flat_map followed taken) i → time i ≡ times i
-    timed_so taken rest is late i m = timed late i (subst (λ all. Contains (starts ++ flat_map followed all) i) (sym is) (more_names taken rest i m))
-
-    part_of : (taken rest : List I) → ids ≡ taken ++ rest → (c : I) → Contains taken c → Contains ids c
-    part_of taken rest is c m = subst (λ all. Contains all c) (sym is) (Contains-append_left taken rest c m)
-
+  -- a list is judged by what is named behind those taken before its last
+  module _ (by : List ℕ) (simple : IsSimple by) (same_followed : (taken rest : List I) (i : I) → ids ≡ taken ++ i ∷ rest → (c : I) → Contains taken c → followed c ≡ follows c)
+      (timed : by ≢ codes "breadth" → (taken rest : List I) (i : I) → ids ≡ taken ++ i ∷ rest → (j : I) → Contains (starts ++ flat_map followed taken) j → time j ≡ times j) where
     -- each that is listed is reached through what is listed before it
     module _ (next : (taken rest : List I) (i : I) → ids ≡ taken ++ i ∷ rest → IsNext parents followed time starts hidden taken i by) where
       all_reached : (taken rest : List I) → ids ≡ taken ++ rest → ((c : I) → Contains taken c → Reaches follows starts c) → (c : I) → Contains ids c → Reaches follows starts c
@@ -134,7 +116,7 @@ module _ {I : Type 0} (parents other followed follows : I → List I) (time time
           all_reached (taken ++ i ∷ []) rest (is ∙ sym (append_assoc taken (i ∷ []) rest)) (λ d n. ⊎_elim (h d) (λ e. subst (Reaches follows starts) e here) (Contains-push_cases taken i d n)) c m
         where
           pending : IsPending other follows times starts hidden taken i
-          pending = let part = part_of taken (i ∷ rest) is in pending_there taken part i (is_pending taken part by i simple (next taken rest i is))
+          pending = let part = same_followed taken rest i is in pending_there taken part i (is_pending taken part by i simple (next taken rest i is))
 
           here : Reaches follows starts i
           here = ⊎_elim (λ s. start s) (λ n. let from = named taken i n in parent (h from.0 from.1) from.2) (Contains-append_cases starts (flat_map follows taken) i pending.0)
@@ -143,12 +125,13 @@ module _ {I : Type 0} (parents other followed follows : I → List I) (time time
     begins_there (shown, apart, next) = (
       λ k d below. (all_reached next [] ids refl (λ c m. absurd (no_member c m)) _ (Contains-get_or ids k d below), λ r. (shown k d below).1 (hidden_back _ r)),
       apart,
-      λ taken rest i is. let part = part_of taken (i ∷ rest) is in next_there taken part by i simple (timed_so taken (i ∷ rest) is) (next taken rest i is),
+      λ taken rest i is. next_there taken (same_followed taken rest i is) by i simple (λ late. timed late taken rest i is) (next taken rest i is),
     )
 
-    pub whole_there : Begins parents followed time starts hidden by ids → IsWhole parents followed time starts hidden by ids → IsWhole other follows times starts hidden by ids
-    whole_there (shown, apart, next) (ended, all) = (
-      λ i n. ended i (next_back ids (λ c m. m) by i simple (timed_so ids [] (sym (append-nil ids))) n),
+    pub whole_there : ((c : I) → Contains ids c → followed c ≡ follows c) → (by ≢ codes "breadth" → (i : I) → Contains (starts ++ flat_map followed ids) i → time i ≡ times i)
+        → Begins parents followed time starts hidden by ids → IsWhole parents followed time starts hidden by ids → IsWhole other follows times starts hidden by ids
+    whole_there same_all timed_all (shown, apart, next) (ended, all) = (
+      λ i n. ended i (next_back ids same_all by i simple timed_all n),
       λ acyclic i s. found i s.0 s.1,
     )
       where
@@ -160,4 +143,4 @@ module _ {I : Type 0} (parents other followed follows : I → List I) (time time
         found i (parent {child = c} r m) out =
             let listed : Contains ids c = found c r (λ h. out (parent h (within c i m))) in
             let was : IsShown parents followed time starts hidden c = All-contains (IsShown parents followed time starts hidden) ids c shown listed in
-            all_listed i (parent was.0 (subst (λ ps. Contains ps i) (sym (same_followed c listed)) m), λ h. out (hidden_there i h))
+            all_listed i (parent was.0 (subst (λ ps. Contains ps i) (sym (same_all c listed)) m), λ h. out (hidden_there i h))

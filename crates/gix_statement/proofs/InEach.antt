@@ -1,8 +1,8 @@
 -- What a proof of the statement has to bring for each command: the answer in one history, and that what was gone through is there.
-use Rattle.std.proofs.Common.{All, Contains, List, Option, [], arith, codes, false, flat_map, length, refl, subst, suc, sym, ℕ, ℤ, ⊎_elim, ◌++◌, ◌∷◌, ◌≡◌, ◌≢◌, ◌⊎◌}
+use Rattle.std.proofs.Common.{All, Contains, List, Option, [], arith, codes, false, flat_map, length, refl, subst, suc, sym, ℕ, ℤ, ◌++◌, ◌∷◌, ◌≡◌, ◌≢◌, ◌⊎◌}
 use Rattle.std.specs.Fmt.{digits}
 use Rattle.std.specs.Io.KnownBytes.{Appends}
-use Rattle.std.proofs.lemmas.List.Elements.{All-nil, Contains-append_cases}
+use Rattle.std.proofs.lemmas.List.Elements.{All-nil}
 use Rattle.gix_hash.proofs.Ids.Membership.{no_member}
 use Rattle.gix_hash.specs.declared.ObjectId.{ObjectId}
 use Rattle.gix_statement.specs.WholeStatement.{Objects, Row, IsThere, IsHistory, InEach, Allows, AreTips, Begins, IsWhole, IsNext, breadth, newest, oldest, date, topo, parent, Follows, all, id_line, digits_in, Spells, Keeps, lists, Serves, commits, ahead, contains, files, Reaches, start, IsNumberShown, IsTree, Unfolds, Entry, entry_line}
@@ -27,17 +27,19 @@ module _ (objects : Objects) (rows : List Row) (parents : ObjectId → List Obje
     -- `breadth`, `newest`, `oldest`
     pub simple_each : IsSimple by → {followed : ObjectId → List ObjectId} {starts : List ObjectId} → Follows parents time tips by option followed starts
         → Begins parents followed time starts hidden by ids → (Allows limit (suc (length ids)) → IsWhole parents followed time starts hidden by ids)
-        → AreThere hidden → (by ≢ codes "breadth" → (i : ObjectId) → Contains (tips ++ flat_map parents ids) i → IsThere objects rows i) → Each those
-    simple_each simple {followed} {starts} follows begins whole below judged other times another =
-        let m = moved objects rows parents other time times one another by simple tips hidden ids there below judged option followed starts follows in
-        commits ids (lists option limit words named are some m.1 there (m.2 begins) allows (λ e more. m.3 begins (whole more))) written
+        → AreThere hidden → (by ≢ codes "breadth" → (i : ObjectId) → Contains tips i → IsThere objects rows i)
+        → (by ≢ codes "breadth" → (taken rest : List ObjectId) (j : ObjectId) → ids ≡ taken ++ j ∷ rest → (c i : ObjectId) → Contains taken c → Contains (parents c) i → IsThere objects rows i)
+        → (Allows limit (suc (length ids)) → by ≢ codes "breadth" → (c i : ObjectId) → Contains ids c → Contains (parents c) i → IsThere objects rows i) → Each those
+    simple_each simple {followed} {starts} follows begins whole below first_judged judged every other times another =
+        let m = moved objects rows parents other time times one another by simple tips hidden ids there below first_judged judged option followed starts follows in
+        commits ids (lists option limit words named are some m.1 there (m.2 begins) allows (λ e more. m.3 (every more) begins (whole more))) written
 
     -- nothing listed: then hidden ids needn't have been read, if no start is left or the limit is 0
     pub none_each : IsSimple by → {followed : ObjectId → List ObjectId} {starts : List ObjectId} → Follows parents time tips by option followed starts → ids ≡ [] → (Allows limit 1 → starts ≡ [])
         → (by ≢ codes "breadth" → (i : ObjectId) → Contains tips i → IsThere objects rows i) → Each those
     none_each simple {followed} {starts} follows nothing unstarted judged other times another =
-        let m = moved objects rows parents other time times one another by simple tips [] [] (All-nil (IsThere objects rows)) (λ i r. absurd (unreached parents i r))
-        (λ late i n. judged late i (⊎_elim (λ t. t) (λ n. absurd (no_member i n)) (Contains-append_cases tips [] i n))) option followed starts follows in
+        let m = moved objects rows parents other time times one another by simple tips [] [] (All-nil (IsThere objects rows)) (λ i r. absurd (unreached parents i r)) judged
+        (λ late taken rest j is. absurd (not_cut taken rest j is)) option followed starts follows in
         commits ids
         (lists option limit words {hidden = hidden} named are some m.1 there
         (subst (Begins other m.0 times starts hidden by) (sym nothing) (All-nil _, (λ i j d l below. absurd (omega (arith, below))), λ taken rest i is. absurd (not_cut taken rest i is))) allows

@@ -39,7 +39,7 @@ keeps_once P (passed n k) (kept p l) = absurd (n p)
 keeps_once P (passed n k) (passed m l) = keeps_once P k l
 
 module _ {I : Type 0} (parents followed : I → List I) (time : I → ℤ) (starts hidden : List I) where
-  ready_once : (taken r s : List I) → AreMadeReady parents followed time starts hidden taken r → AreMadeReady parents followed time starts hidden taken s → r ≡ s
+  pub ready_once : (taken r s : List I) → AreMadeReady parents followed time starts hidden taken r → AreMadeReady parents followed time starts hidden taken s → r ≡ s
   ready_once [] r s (some, keeps, is) (others, keeps_too, same) = is ∙ ap (by_time parents followed time starts hidden) (keeps_once _ keeps keeps_too) ∙ sym same
   ready_once (c ∷ taken) r s (old, more, made, is, keeps) (older, others, made_too, same, keeps_too) =
       let o = ready_once taken old older made made_too in
