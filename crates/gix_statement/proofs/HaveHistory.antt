@@ -211,7 +211,7 @@ time_behind rest before (x ∷ more) n s plain spaced = ⊎_elim
 without_it : (text : List ℕ) → All (λ x. x ≢ 62) text → Contains text 62 → ⊥
 without_it text h (k, l, is) = h k 62 l is
 
-a_time : (rest : List ℕ) → (t : ℤ) × IsTime rest t
+pub a_time : (rest : List ℕ) → (t : ℤ) × IsTime rest t
 a_time rest = ⊎_elim
     (λ h. ⊎_elim
     (λ l. let s = spaces l.1 in time_behind rest l.0 s.1 s.0 (subst (IsSigned rest) (l.2 ∙ ap (λ w. l.0 ++ 62 ∷ w) s.2) h.1) (all_behind s.0 s.1 (subst (All (λ x. x ≢ 62)) s.2 l.3)) s.3)
