@@ -1,0 +1,104 @@
+-- What a proof of the statement has to bring for each command: the answer in one history, and that what was gone through is there.
+use Rattle.std.proofs.Common.{Bool, true, All, Contains, List, Option, [], arith, codes, false, flat_map, length, refl, subst, suc, sym, ℕ, ℤ, ◌++◌, ◌∷◌, ◌≡◌, ◌≢◌, ◌⊎◌}
+use Rattle.std.specs.Fmt.{digits}
+use Rattle.std.specs.Io.KnownBytes.{Appends}
+use Rattle.std.proofs.lemmas.List.Elements.{All-nil}
+use Rattle.gix_hash.proofs.Ids.Membership.{no_member}
+use Rattle.gix_hash.specs.declared.ObjectId.{ObjectId}
+use Rattle.gix_statement.specs.WholeStatement.{Objects, Row, IsThere, IsHistory, InEach, Allows, AreTips, Begins, IsWhole, IsNext, breadth, newest, oldest, date, topo, parent, Follows, all, id_line, digits_in, Spells, Keeps, Lists, lists, HasBegun, Serves, commits, ahead, contains, files, Reaches, start, IsNumberShown, IsTree, Unfolds, Entry, entry_line}
+use Rattle.gix_statement.proofs.Heart.{IsSimple}
+use Rattle.gix_statement.proofs.EachHistory.{counted_there, kept_there, moved, same_parents, same_time}
+use Rattle.gix_statement.proofs.Descents.{IsDown, begins_down, whole_down}
+
+module _ (objects : Objects) (rows : List Row) (parents : ObjectId → List ObjectId) (time : ObjectId → ℤ) (one : IsHistory objects rows parents time) (old new : Option (List ℕ)) where
+  abbrev Each : List (List ℕ) → Type 0
+  Each words = InEach objects rows (λ ps ts. Serves objects rows ps ts old new words)
+
+  abbrev AreThere : List ObjectId → Type 0
+  AreThere starts = (i : ObjectId) → Reaches parents starts i → IsThere objects rows i
+
+  module _ (by : List ℕ) (option limit words : List (List ℕ)) (tips hidden ids : List ObjectId)
+      (named : Contains (codes "breadth" ∷ codes "newest" ∷ codes "oldest" ∷ codes "topo" ∷ codes "date" ∷ []) by)
+      (are : AreTips words tips hidden) (some : tips ≢ []) (there : All (IsThere objects rows) ids)
+      (allows : Allows limit (length ids)) (written : Appends old new (flat_map id_line ids)) where
+    abbrev those : List (List ℕ)
+    those = by ∷ (option ++ (limit ++ words))
+
+    -- a list that has ended, or not yet
+    abbrev EachLists : Bool → Type 0
+    EachLists ended = InEach objects rows (λ ps ts. Lists objects rows ps ts ids ended those)
+
+    abbrev pub HasEnded : Bool → Type 0
+    HasEnded ended = (ended ≡ true) × Allows limit (suc (length ids))
+
+    -- so it was written, or begun
+    pub served : EachLists true → Each those
+    served each other times another = commits ids (each other times another) written
+
+    pub begun : EachLists false → InEach objects rows (λ ps ts. HasBegun objects rows ps ts old new those)
+    begun each other times another = (ids, each other times another, written)
+
+    -- `breadth`, `newest`, `oldest`
+    pub simple_each : (ended : Bool) → IsSimple by → {followed : ObjectId → List ObjectId} {starts : List ObjectId} → Follows parents time tips by option followed starts
+        → Begins parents followed time starts hidden by ids → (HasEnded ended → IsWhole parents followed time starts hidden by ids)
+        → AreThere hidden → (by ≢ codes "breadth" → (i : ObjectId) → Contains tips i → IsThere objects rows i)
+        → (by ≢ codes "breadth" → (taken rest : List ObjectId) (j : ObjectId) → ids ≡ taken ++ j ∷ rest → (c i : ObjectId) → Contains taken c → Contains (parents c) i → IsThere objects rows i)
+        → (HasEnded ended → by ≢ codes "breadth" → (c i : ObjectId) → Contains ids c → Contains (parents c) i → IsThere objects rows i) → EachLists ended
+    simple_each ended simple {followed} {starts} follows begins whole below first_judged judged every other times another =
+        let m = moved objects rows parents other time times one another by simple tips hidden ids there below first_judged judged option followed starts follows in
+        lists option limit words named are some m.1 there (m.2 begins) allows (λ e more. m.3 (every (e, more)) begins (whole (e, more)))
+
+    -- nothing listed: then hidden ids needn't have been read, if no start is left or the limit is 0
+    pub none_each : (ended : Bool) → IsSimple by → {followed : ObjectId → List ObjectId} {starts : List ObjectId} → Follows parents time tips by option followed starts → ids ≡ [] → (HasEnded ended → starts ≡ [])
+        → (by ≢ codes "breadth" → (i : ObjectId) → Contains tips i → IsThere objects rows i) → EachLists ended
+    none_each ended simple {followed} {starts} follows nothing unstarted judged other times another =
+        let m = moved objects rows parents other time times one another by simple tips [] [] (All-nil (IsThere objects rows)) (λ i r. absurd (unreached parents i r)) judged
+        (λ late taken rest j is. absurd (not_cut taken rest j is)) option followed starts follows in
+        lists option limit words {hidden = hidden} named are some m.1 there
+        (subst (Begins other m.0 times starts hidden by) (sym nothing) (All-nil _, (λ i j d l below. absurd (omega (arith, below))), λ taken rest i is. absurd (not_cut taken rest i is))) allows
+        (λ e more. subst (IsWhole other m.0 times starts hidden by) (sym nothing)
+        (subst (λ from. IsWhole other m.0 times from hidden by []) (sym (unstarted (e, more))) (none_next m.0 times by simple, λ acyclic i s. absurd (unreached m.0 i s.0))))
+      where
+        unreached : (names : ObjectId → List ObjectId) (i : ObjectId) → Reaches names [] i → ⊥
+        unreached names i (start s) = no_member i s
+        unreached names i (parent {child = c} r m) = unreached names c r
+
+        not_cut : (taken rest : List ObjectId) (i : ObjectId) → [] ≡ taken ++ i ∷ rest → ⊥
+        not_cut [] rest i e = cc
+        not_cut (x ∷ taken) rest i e = cc
+
+        none_next : (names : ObjectId → List ObjectId) (ts : ObjectId → ℤ) (name : List ℕ) → IsSimple name → (i : ObjectId) → IsNext other names ts [] hidden [] i name → ⊥
+        none_next names ts name plain i (breadth (before, after, is, none, p)) = no_member i p.0
+        none_next names ts name plain i (newest (before, after, is, none, p)) = no_member i p.0.0
+        none_next names ts name plain i (oldest (before, after, is, none, p)) = no_member i p.0.0
+        none_next names ts name plain i (date ready made f) = plain (1, omega arith, refl)
+        none_next names ts name plain i (topo ready made f) = plain (0, omega arith, refl)
+
+    -- `topo`, `date`
+    pub down_each : (ended : Bool) → IsDown by → option ≡ [] → Begins parents parents time tips hidden by ids → (HasEnded ended → IsWhole parents parents time tips hidden by ids)
+        → AreThere tips → AreThere hidden → EachLists ended
+    down_each ended falls plain begins whole above below other times another =
+        let up : (c : ObjectId) → Reaches parents tips c → parents c ≡ other c = (λ c r. same_parents objects rows parents other time times one another c (above c r)) in
+        let down : (c : ObjectId) → Reaches parents hidden c → parents c ≡ other c = (λ c r. same_parents objects rows parents other time times one another c (below c r)) in
+        let timed : (c : ObjectId) → Reaches parents tips c → time c ≡ times c = (λ c r. same_time objects rows parents other time times one another c (above c r)) in
+        lists option limit words named are some (subst (λ o. Follows other times tips by o other tips) (sym plain) all) there
+        (begins_down parents other time times tips hidden up down timed by falls ids begins) allows
+        (λ e more. whole_down parents other time times tips hidden up down timed by falls ids begins (whole (e, more)))
+
+  pub ahead_each : {a b : List ℕ} {left right : ObjectId} (n m : ℕ) → Spells (digits_in left) a left → Spells (digits_in right) b right
+      → AreThere (left ∷ []) → AreThere (right ∷ []) → IsNumberShown parents parents time (left ∷ []) (right ∷ []) n → IsNumberShown parents parents time (right ∷ []) (left ∷ []) m
+      → Appends old new (digits 10 false n ++ 32 ∷ (digits 10 false m ++ 10 ∷ [])) → Each (codes "ahead" ∷ a ∷ b ∷ [])
+  ahead_each {left = left} {right = right} n m a b there others ns ms written other times another =
+      ahead n m a b (there left (start (0, omega arith, refl))) (others right (start (0, omega arith, refl)))
+      (counted_there objects rows parents other time times one another (left ∷ []) (right ∷ []) there others n ns)
+      (counted_there objects rows parents other time times one another (right ∷ []) (left ∷ []) others there m ms) written
+
+  pub contains_each : {words : List (List ℕ)} {tip : ObjectId} {ids those : List ObjectId} → AreTips words (tip ∷ ids) [] → ids ≢ [] → AreThere (tip ∷ []) → All (IsThere objects rows) (tip ∷ ids)
+      → Keeps (λ before i after. Reaches parents (tip ∷ []) i) [] ids those → Appends old new (flat_map id_line those) → Each (codes "contains" ∷ words)
+  contains_each {tip = tip} {ids = ids} {those = those} are some there all_there keeps written other times another =
+      contains are some all_there (kept_there objects rows parents other time times one another (tip ∷ []) there [] ids those keeps) written
+
+  pub files_each : (option : List (List ℕ)) (a : List ℕ) {ending : ℕ} {tree : ObjectId} {entries : List Entry} {placed : List (List ℕ × Entry)}
+      → ((option ≡ []) × (ending ≡ 10)) ⊎ ((option ≡ codes "-z" ∷ []) × (ending ≡ 0)) → Spells (digits_in tree) a tree → IsTree objects tree entries → Unfolds objects [] entries placed
+      → Appends old new (flat_map (entry_line ending) placed) → Each (codes "files" ∷ (option ++ a ∷ []))
+  files_each option a ends spells is unfolds written other times another = files option a ends spells is unfolds written

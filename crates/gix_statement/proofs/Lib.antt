@@ -1,0 +1,27 @@
+-- Hex digits.
+pub mod WrittenHex
+-- Texts are read in one way, and a history exists.
+pub mod OneCommit
+pub mod HaveHistory
+-- What is right of some objects is right of all that have them.
+mod Carried
+-- From one history to each: lists that aren't topological, options and limits, topological lists, commands.
+mod Heart
+pub mod EachHistory
+pub mod Descents
+pub mod InEach
+-- One answer: of one history, of one input, of the files of a commit-graph, and from end to end.
+pub mod OneAnswer
+mod FedOnce
+mod LayersOnce
+mod OneOutput
+mod NamedClash
+-- Worked examples, and attacks that are refused.
+pub mod Tests
+mod OrderExamples
+mod RunExamples
+mod GraphExamples
+mod HoleExamples
+mod SinceExample
+mod Refused
+mod AttackExamples

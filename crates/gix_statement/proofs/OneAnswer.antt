@@ -1,0 +1,393 @@
+-- The page leaves no choice: in one history there is one right answer.
+use Rattle.std.proofs.Common.{None, ◌≡◌, ◌≢◌, ◌⊎◌, ◌≤◌, ◌≤ℤ◌, ◌<◌, ◌+◌, ℕ, Bool, suc, ℤ, pos, List, [], ◌∷◌, ◌++◌, length, reverse, flat_map, filter, not, int_lt, Some, true, false, All, AllPairs, Contains, codes, refl, sym, ap, subst, ◌∙◌, arith, ⊎_elim, inl, inr, append_assoc, append-nil, length-append}
+use Rattle.std.proofs.lemmas.List.Elements.{All-cons, All-nil, Contains-append_cases, Contains-append_left, Contains-append_right}
+use Rattle.std.specs.Str.Parse.{AllDigits, digits_value}
+use Rattle.gix_hash.proofs.Ids.Membership.{Contains-here, Contains-there, Contains-cons_cases, no_member}
+use Rattle.gix_hash.specs.declared.ObjectId.{ObjectId}
+use Rattle.gix_hash.specs.declared.ObjectId.TheVariants.{Sha1, Sha256}
+use Rattle.gix_statement.specs.WholeStatement.{Objects, Row, IsPending, IsReady, IsFirst, IsBest, Keeps, empty, kept, passed, IsNext, breadth, newest, oldest, date, topo, AreMadeReady, by_time, Begins, IsWhole, Allows, AreTips, Follows, all, first, since, Spells, digits_in, bytes_in, Lists, lists, HasBegun, IsCutOff, OneAnswer, Serves, commits, ahead, contains, files, Entry, Object, AreEntries, IsTree, Unfolds, whole, other, tree, Clash, Reaches, id_line, entry_line, IsNumberShown}
+use Rattle.gix_statement.proofs.OneCommit.{spelled_same, append_same, first_same, id_same}
+use Rattle.gix_statement.proofs.Carried.{same_object}
+use Rattle.gix_statement.proofs.Tests.{not_among, other_head}
+use Rattle.std.specs.Fmt.{digits}
+use Rattle.std.specs.Char.{digit_value}
+
+first_at : {I : Type 0} (P : I → Type 0) (i j : I) (before after another behind names : List I) → names ≡ before ++ i ∷ after → names ≡ another ++ j ∷ behind
+    → All (λ x. P x → ⊥) before → All (λ x. P x → ⊥) another → P i → P j → i ≡ j
+first_at P i j [] after [] behind names is same n m p q = let e : i ∷ after ≡ j ∷ behind = sym is ∙ same in cc
+first_at P i j [] after (y ∷ another) behind names is same n m p q =
+    let e : i ∷ after ≡ y ∷ (another ++ j ∷ behind) = sym is ∙ same in
+    let h : i ≡ y = cc in
+    absurd (m 0 y (omega arith) (subst P h p))
+first_at P i j (x ∷ before) after [] behind names is same n m p q =
+    let e : x ∷ (before ++ i ∷ after) ≡ j ∷ behind = sym is ∙ same in
+    let h : x ≡ j = cc in
+    absurd (n 0 x (omega arith) (subst P (sym h) q))
+first_at P i j (x ∷ before) after (y ∷ another) behind names is same n m p q =
+    let e : x ∷ (before ++ i ∷ after) ≡ y ∷ (another ++ j ∷ behind) = sym is ∙ same in
+    let h : before ++ i ∷ after ≡ another ++ j ∷ behind = cc in
+    first_at P i j before after another behind (before ++ i ∷ after) refl h (λ k d below. n (suc k) d (omega (arith, below))) (λ k d below. m (suc k) d (omega (arith, below))) p q
+
+first_once : {I : Type 0} (P : I → Type 0) (names : List I) (i j : I) → IsFirst P names i → IsFirst P names j → i ≡ j
+first_once P names i j (before, after, is, none, p) (another, behind, same, none_there, q) = first_at P i j before after another behind names is same none none_there p q
+
+keeps_once : {I : Type 0} (P : List I → I → List I → Type 0) {before names those others : List I} → Keeps P before names those → Keeps P before names others → those ≡ others
+keeps_once P empty empty = refl
+keeps_once P (kept {i = i} p k) (kept q l) = ap (λ xs. i ∷ xs) (keeps_once P k l)
+keeps_once P (kept p k) (passed n l) = absurd (n p)
+keeps_once P (passed n k) (kept p l) = absurd (n p)
+keeps_once P (passed n k) (passed m l) = keeps_once P k l
+
+module _ {I : Type 0} (parents followed : I → List I) (time : I → ℤ) (starts hidden : List I) where
+  pub ready_once : (taken r s : List I) → AreMadeReady parents followed time starts hidden taken r → AreMadeReady parents followed time starts hidden taken s → r ≡ s
+  ready_once [] r s (some, keeps, is) (others, keeps_too, same) = is ∙ ap (by_time parents followed time starts hidden) (keeps_once _ keeps keeps_too) ∙ sym same
+  ready_once (c ∷ taken) r s (old, more, made, is, keeps) (older, others, made_too, same, keeps_too) =
+      let o = ready_once taken old older made made_too in
+      let m = keeps_once _ keeps keeps_too in
+      is ∙ (λ k. o k ++ m k) ∙ sym same
+
+  abbrev Pending : List I → I → Type 0
+  Pending = IsPending parents followed time starts hidden
+
+  abbrev Ready : List I → I → Type 0
+  Ready = IsReady parents followed time starts hidden
+
+  abbrev Newest : (I → Type 0) → I → Type 0
+  Newest P = IsBest (λ a b. time b ≤ℤ time a) P
+
+  abbrev Oldest : (I → Type 0) → I → Type 0
+  Oldest P = IsBest (λ a b. time a ≤ℤ time b) P
+
+  next_once : (taken : List I) (i j : I) (by : List ℕ) → IsNext parents followed time starts hidden taken i by → IsNext parents followed time starts hidden taken j by → i ≡ j
+  next_once taken i j by (breadth f) (breadth g) = first_once (Pending taken) (starts ++ flat_map followed taken) i j f g
+  next_once taken i j by (newest f) (newest g) = first_once (Newest (Pending taken)) (starts ++ flat_map followed taken) i j f g
+  next_once taken i j by (oldest f) (oldest g) = first_once (Oldest (Pending taken)) (starts ++ flat_map followed taken) i j f g
+  next_once taken i j by (date ready made f) (date another made_too g) =
+      first_once (Newest (Ready taken)) ready i j f (subst (λ r. IsFirst (Newest (Ready taken)) r j) (ready_once (reverse taken) another ready made_too made) g)
+  next_once taken i j by (topo ready made f) (topo another made_too g) =
+      first_once (Ready taken) (reverse ready) i j f (subst (λ r. IsFirst (Ready taken) (reverse r) j) (ready_once (reverse taken) another ready made_too made) g)
+
+  -- two beginnings, each as long as it may be
+  abbrev Long : List ℕ → List (List ℕ) → List I → Type 0
+  Long by limit ids = Begins parents followed time starts hidden by ids × Allows limit (length ids) × (Allows limit (suc (length ids)) → IsWhole parents followed time starts hidden by ids)
+
+  allows_less : (limit : List (List ℕ)) (n m : ℕ) → n ≤ m → Allows limit m → Allows limit n
+  allows_less limit n m l (inl e) = inl e
+  allows_less limit n m l (inr (number, most, is, e, few)) = inr (number, most, is, e, omega (arith, l, few))
+
+  stops : (by : List ℕ) (limit : List (List ℕ)) (ids others taken : List I) (y : I) (ys : List I) → Long by limit ids → Begins parents followed time starts hidden by others → Allows limit (length others) → ids ≡ taken ++ [] → others ≡ taken ++ y ∷ ys → ⊥
+  stops by limit ids others taken y ys l m few is same =
+      let e : ids ≡ taken = is ∙ append-nil taken in
+      let longer : length others ≡ length taken + suc (length ys) = ap length same ∙ length-append taken (y ∷ ys) in
+      let short : length ids ≡ length taken = ap length e in
+      (l.2 (allows_less limit (suc (length ids)) (length others) (omega (arith, longer, short)) few)).0 y (subst (λ t. IsNext parents followed time starts hidden t y by) (sym e) (m.2 taken ys y same))
+
+  begun_once : (by : List ℕ) (limit : List (List ℕ)) (ids others taken xs ys : List I) → Long by limit ids → Long by limit others → ids ≡ taken ++ xs → others ≡ taken ++ ys → xs ≡ ys
+  begun_once by limit ids others taken [] [] l m is same = refl
+  begun_once by limit ids others taken (x ∷ xs) (y ∷ ys) l m is same =
+      let h : x ≡ y = next_once taken x y by (l.0.2 taken xs x is) (m.0.2 taken ys y same) in
+      let more = begun_once by limit ids others (taken ++ x ∷ []) xs ys l m (is ∙ sym (append_assoc taken (x ∷ []) xs)) (same ∙ ap (λ z. taken ++ z ∷ ys) (sym h) ∙ sym (append_assoc taken (x ∷ []) ys)) in
+      (λ k. h k ∷ more k)
+  begun_once by limit ids others taken [] (y ∷ ys) l m is same = absurd (stops by limit ids others taken y ys l m.0 m.1 is same)
+  begun_once by limit ids others taken (x ∷ xs) [] l m is same = absurd (stops by limit others ids taken x xs m l.0 l.1 same is)
+
+  -- a beginning, and one as long as it may be
+  begun_before : (by : List ℕ) (limit : List (List ℕ)) (ids others taken xs ys : List I) → Begins parents followed time starts hidden by ids → Allows limit (length ids) → Long by limit others
+      → ids ≡ taken ++ xs → others ≡ taken ++ ys → (more : List I) × (ys ≡ xs ++ more)
+  begun_before by limit ids others taken [] ys l few m is same = (ys, refl)
+  begun_before by limit ids others taken (x ∷ xs) (y ∷ ys) l few m is same =
+      let h : x ≡ y = next_once taken x y by (l.2 taken xs x is) (m.0.2 taken ys y same) in
+      let r = begun_before by limit ids others (taken ++ x ∷ []) xs ys l few m (is ∙ sym (append_assoc taken (x ∷ []) xs)) (same ∙ ap (λ z. taken ++ z ∷ ys) (sym h) ∙ sym (append_assoc taken (x ∷ []) ys)) in
+      (r.0, (λ k. sym h k ∷ r.1 k))
+  begun_before by limit ids others taken (x ∷ xs) [] l few m is same = absurd (stops by limit others ids taken x xs m l few same is)
+
+-- COUNTS: two lists without repeats that have the same members are as long as each another
+split : {I : Type 0} (ys : List I) (x : I) → Contains ys x → (before after : List I) × (ys ≡ before ++ x ∷ after)
+split [] x m = absurd (no_member x m)
+split (y ∷ ys) x m = ⊎_elim
+    (λ e. ([], ys, ap (λ z. z ∷ ys) e))
+    (λ n. let s = split ys x n in (y ∷ s.0, s.1, ap (λ zs. y ∷ zs) s.2))
+    (Contains-cons_cases x y ys m)
+
+apart_tail : {I : Type 0} (x : I) (xs : List I) → AllPairs (λ i j. i ≢ j) (x ∷ xs) → AllPairs (λ i j. i ≢ j) xs
+apart_tail x xs h i j d l below = h (suc i) (suc j) d (omega (arith, l)) (omega (arith, below))
+
+apart_head : {I : Type 0} (x y : I) (xs : List I) → AllPairs (λ i j. i ≢ j) (x ∷ xs) → Contains xs y → x ≢ y
+apart_head x y xs h (k, below, is) e = h 0 (suc k) y (omega arith) (omega (arith, below)) (e ∙ sym is)
+
+others : {I : Type 0} (x : I) (before after : List I) (i : I) → x ≢ i → Contains (before ++ x ∷ after) i → Contains (before ++ after) i
+others x before after i differ n = ⊎_elim
+    (Contains-append_left before after i)
+    (λ b. ⊎_elim (λ e. absurd (differ e)) (Contains-append_right before after i) (Contains-cons_cases i x after b))
+    (Contains-append_cases before (x ∷ after) i n)
+
+no_longer : {I : Type 0} (xs ys : List I) → AllPairs (λ i j. i ≢ j) xs → ((i : I) → Contains xs i → Contains ys i) → length xs ≤ length ys
+no_longer [] ys apart are = omega arith
+no_longer (x ∷ xs) ys apart are =
+    let s = split ys x (are x (Contains-here x xs)) in
+    let l : length ys ≡ length s.0 + suc (length s.1) = ap length s.2 ∙ length-append s.0 (x ∷ s.1) in
+    let m : length (s.0 ++ s.1) ≡ length s.0 + length s.1 = length-append s.0 s.1 in
+    let h = no_longer xs (s.0 ++ s.1) (apart_tail x xs apart) (λ i n. others x s.0 s.1 i (apart_head x i xs apart n) (subst (λ zs. Contains zs i) s.2 (are i (Contains-there i x xs n)))) in
+    omega (arith, l, m, h)
+
+counted_once : (parents followed : ObjectId → List ObjectId) (time : ObjectId → ℤ) (starts hidden : List ObjectId) (n m : ℕ) → IsNumberShown parents followed time starts hidden n → IsNumberShown parents followed time starts hidden m → n ≡ m
+counted_once parents followed time starts hidden n m (ids, apart, exact, many) (others, distinct, same, count) =
+    let up = no_longer ids others apart (λ i c. (same i).1 ((exact i).0 c)) in
+    let down = no_longer others ids distinct (λ i c. (exact i).1 ((same i).0 c)) in
+    omega (arith, up, down, many, count)
+
+-- WORDS
+width : ObjectId → Type 0
+width i = (digits_in i ≡ 40) ⊎ (digits_in i ≡ 64)
+
+is_wide : (i : ObjectId) → (digits_in i ≡ 40) ⊎ (digits_in i ≡ 64)
+is_wide (Sha1 x) = inl refl
+is_wide (Sha256 x) = inr refl
+
+pub spelled_once : (word : List ℕ) (i j : ObjectId) → Spells (digits_in i) word i → Spells (digits_in j) word j → i ≡ j
+spelled_once word i j s t = spelled_same (digits_in i) word word i j refl s (subst (λ w. Spells w word j) (sym t.0 ∙ s.0) t)
+
+no_id_behind : (word id : List ℕ) (i j : ObjectId) → Spells (digits_in i) word i → word ≡ 94 ∷ id → Spells (digits_in j) id j → ⊥
+no_id_behind word id i j s is t =
+    let l : digits_in i ≡ suc (digits_in j) = sym s.0 ∙ ap length is ∙ ap suc t.0 in
+    ⊎_elim (λ (a : digits_in i ≡ 40). ⊎_elim (λ (b : digits_in j ≡ 40). omega (arith, l, a, b)) (λ (b : digits_in j ≡ 64). omega (arith, l, a, b)) (is_wide j))
+    (λ (a : digits_in i ≡ 64). ⊎_elim (λ (b : digits_in j ≡ 40). omega (arith, l, a, b)) (λ (b : digits_in j ≡ 64). omega (arith, l, a, b)) (is_wide j)) (is_wide i)
+
+tips_once : (words : List (List ℕ)) (tips hidden others below : List ObjectId) → AreTips words tips hidden → AreTips words others below → (tips ≡ others) × (hidden ≡ below)
+tips_once [] tips hidden others below a b = (a.0 ∙ sym b.0, a.1 ∙ sym b.1)
+tips_once (word ∷ words) tips hidden others below (inl (i, more, is, s, a)) (inl (j, rest, same, t, b)) =
+    let h = tips_once words more hidden rest below a b in
+    let e = spelled_once word i j s t in
+    (is ∙ (λ k. e k ∷ h.0 k) ∙ sym same, h.1)
+tips_once (word ∷ words) tips hidden others below (inl (i, more, is, s, a)) (inr (j, rest, same, id, w, t, b)) = absurd (no_id_behind word id i j s w t)
+tips_once (word ∷ words) tips hidden others below (inr (j, rest, same, id, w, t, b)) (inl (i, more, is, s, a)) = absurd (no_id_behind word id i j s w t)
+tips_once (word ∷ words) tips hidden others below (inr (i, more, is, id, v, s, a)) (inr (j, rest, same, id2, w, t, b)) =
+    let h = tips_once words tips more others rest a b in
+    let both : 94 ∷ id ≡ 94 ∷ id2 = sym v ∙ w in
+    let one : id ≡ id2 = cc in
+    let e = spelled_once id i j s (subst (λ x. Spells (digits_in j) x j) (sym one) t) in
+    (h.0, is ∙ (λ k. e k ∷ h.1 k) ∙ sym same)
+
+-- a word of tips is long
+long_word : (word : List ℕ) (words : List (List ℕ)) (tips hidden : List ObjectId) → AreTips (word ∷ words) tips hidden → 40 ≤ length word
+long_word word words tips hidden (inl (i, more, is, s, a)) = ⊎_elim (λ (e : digits_in i ≡ 40). omega (arith, e, s.0)) (λ (e : digits_in i ≡ 64). omega (arith, e, s.0)) (is_wide i)
+long_word word words tips hidden (inr (i, more, is, id, w, s, a)) =
+    let l : length word ≡ suc (length id) = ap length w in
+    ⊎_elim (λ (e : digits_in i ≡ 40). omega (arith, e, s.0, l)) (λ (e : digits_in i ≡ 64). omega (arith, e, s.0, l)) (is_wide i)
+
+split_limit : (limit words another more : List (List ℕ)) (tips hidden those below : List ObjectId) (n m : ℕ) → Allows limit n → Allows another m → AreTips words tips hidden → AreTips more those below
+    → limit ++ words ≡ another ++ more → (limit ≡ another) × (words ≡ more)
+split_limit limit words another more tips hidden those below n m (inl e) (inl f) a b is = (e ∙ sym f, ap (λ l. l ++ words) (sym e) ∙ is ∙ ap (λ l. l ++ more) f)
+split_limit limit words another more tips hidden those below n m (inl e) (inr (number, most, num, f, few)) a b is =
+    let w : words ≡ codes "-n" ∷ number ∷ more = ap (λ l. l ++ words) (sym e) ∙ is ∙ ap (λ l. l ++ more) f in
+    absurd (omega (arith, long_word (codes "-n") (number ∷ more) tips hidden (subst (λ x. AreTips x tips hidden) w a)))
+split_limit limit words another more tips hidden those below n m (inr (number, most, num, f, few)) (inl e) a b is =
+    let w : more ≡ codes "-n" ∷ number ∷ words = ap (λ l. l ++ more) (sym e) ∙ sym is ∙ ap (λ l. l ++ words) f in
+    absurd (omega (arith, long_word (codes "-n") (number ∷ words) those below (subst (λ x. AreTips x those below) w b)))
+split_limit limit words another more tips hidden those below n m (inr (number, most, num, f, few)) (inr (digit, much, value, g, least)) a b is =
+    let w : codes "-n" ∷ number ∷ words ≡ codes "-n" ∷ digit ∷ more = ap (λ l. l ++ words) (sym f) ∙ is ∙ ap (λ l. l ++ more) g in
+    let one : number ≡ digit = cc in
+    let rest : words ≡ more = cc in
+    (f ∙ ap (λ x. codes "-n" ∷ x ∷ []) one ∙ sym g, rest)
+
+-- what is behind an option begins with no option
+abbrev NoOption : List (List ℕ) → Type 0
+NoOption rest = (word : List ℕ) (more : List (List ℕ)) → rest ≡ word ∷ more → (length word ≡ 14 → ⊥) × (length word ≡ 7 → ⊥)
+
+no_option : (limit words : List (List ℕ)) (tips hidden : List ObjectId) (n : ℕ) → Allows limit n → AreTips words tips hidden → NoOption (limit ++ words)
+no_option limit words tips hidden n (inl e) a word more is =
+    let w : words ≡ word ∷ more = ap (λ l. l ++ words) (sym e) ∙ is in
+    let l = long_word word more tips hidden (subst (λ x. AreTips x tips hidden) w a) in
+    (λ k. omega (arith, l, k), λ k. omega (arith, l, k))
+no_option limit words tips hidden n (inr (number, most, num, f, few)) a word more is =
+    let w : codes "-n" ∷ number ∷ words ≡ word ∷ more = ap (λ l. l ++ words) (sym f) ∙ is in
+    let head : codes "-n" ≡ word = cc in
+    let l : 2 ≡ length word = ap length head in
+    (λ k. omega (arith, l, k), λ k. omega (arith, l, k))
+
+module _ (parents : ObjectId → List ObjectId) (time : ObjectId → ℤ) where
+  split_option : {tips those : List ObjectId} {by name : List ℕ} (option another rest more : List (List ℕ)) {followed names : ObjectId → List ObjectId} {starts from : List ObjectId}
+      → Follows parents time tips by option followed starts → Follows parents time those name another names from → NoOption rest → NoOption more → option ++ rest ≡ another ++ more → (option ≡ another) × (rest ≡ more)
+  split_option option another rest more all all n m is = (refl, is)
+  split_option option another rest more all (first b) n m is = absurd ((n (codes "--first-parent") more is).0 refl)
+  split_option option another rest more all (since {number = number} k named num) n m is = absurd ((n (codes "--since") (number ∷ more) is).1 refl)
+  split_option option another rest more (first b) all n m is = absurd ((m (codes "--first-parent") rest (sym is)).0 refl)
+  split_option option another rest more (since {number = number} k named num) all n m is = absurd ((m (codes "--since") (number ∷ rest) (sym is)).1 refl)
+  split_option option another rest more (first b) (first c) n m is = let e : rest ≡ more = cc in (refl, e)
+  split_option option another rest more (first b) (since {number = number} k named num) n m is =
+      let head : codes "--first-parent" ≡ codes "--since" = cc in
+      let l : 14 ≡ 7 = ap length head in
+      absurd (omega (arith, l))
+  split_option option another rest more (since {number = number} k named num) (first b) n m is =
+      let head : codes "--first-parent" ≡ codes "--since" = cc in
+      let l : 14 ≡ 7 = ap length head in
+      absurd (omega (arith, l))
+  split_option option another rest more (since {number = number} k named num) (since {number = digit} j name counts) n m is =
+      let one : number ≡ digit = cc in
+      let e : rest ≡ more = cc in
+      (ap (λ x. codes "--since" ∷ x ∷ []) one, e)
+
+  follows_once : {tips : List ObjectId} {by : List ℕ} (option : List (List ℕ)) {followed names : ObjectId → List ObjectId} {starts from : List ObjectId}
+      → Follows parents time tips by option followed starts → Follows parents time tips by option names from → (followed ≡ names) × (starts ≡ from)
+  follows_once option all all = (refl, refl)
+  follows_once option (first b) (first c) = (refl, refl)
+  follows_once {tips = tips} option (since n named num) (since m name counts) =
+      let same : n ≡ m = num.3 ∙ sym counts.3 in
+      ((λ k i. filter (λ p. not (int_lt (time p) (pos (same k)))) (parents i)), (λ k. filter (λ i. not (int_lt (time i) (pos (same k)))) tips))
+
+  -- LISTS: the first is a beginning of the second; and if it has ended, it is the second
+  lists_before : (read objects : Objects) (rows more : List Row) (ids others : List ObjectId) (ended : Bool) (asked words : List (List ℕ)) → Lists read rows parents time ids ended asked
+      → Lists objects more parents time others true words → asked ≡ words → ((left : List ObjectId) × (others ≡ ids ++ left)) × (ended ≡ true → ids ≡ others)
+  lists_before read objects rows more ids others end asked words (lists {by = by} option limit ws {tips = tips} {hidden = hidden} {starts = starts} {followed = followed} named are some follows there begins allows ended)
+      (lists {by = name} choice most vs {tips = those} {hidden = below} {starts = from} {followed = names} called spell any goes are_there begun allowed stopped) is =
+      let first_word : by ≡ name = cc in
+      let others_too : option ++ (limit ++ ws) ≡ choice ++ (most ++ vs) = cc in
+      let o = split_option option choice (limit ++ ws) (most ++ vs) follows goes (no_option limit ws tips hidden _ allows are) (no_option most vs those below _ allowed spell) others_too in
+      let l = split_limit limit ws most vs tips hidden those below _ _ allows allowed are spell o.1 in
+      let t = tips_once ws tips hidden those below are (subst (λ x. AreTips x those below) (sym l.1) spell) in
+      let goes_too : Follows parents time tips by option names from = subst (λ (T : Type 0). T) (λ k. Follows parents time (sym t.0 k) (sym first_word k) (sym o.0 k) names from) goes in
+      let f = follows_once option follows goes_too in
+      let second : Long parents followed time starts hidden by limit others =
+      subst (λ (T : Type 0). T) (λ k. Long parents (sym f.0 k) time (sym f.1 k) (sym t.1 k) (sym first_word k) (sym l.0 k) others) (begun, allowed, stopped refl) in (
+        begun_before parents followed time starts hidden by limit ids others [] ids others begins allows second refl refl,
+        λ e. begun_once parents followed time starts hidden by limit ids others [] ids others (begins, allows, ended e) second refl refl,
+      )
+
+-- TREES
+no_space : (mode : List ℕ) → AllDigits 8 mode → All (λ x. x ≢ 32) mode
+no_space [] d = All-nil (λ x. x ≢ 32)
+no_space (c ∷ cs) d = All-cons (λ x. x ≢ 32) c cs (λ e. let h : digit_value 32 < 8 = subst (λ x. digit_value x < 8) e d.0 in omega (arith, h)) (no_space cs d.1)
+
+not_empty : (mode rest : List ℕ) → [] ≡ mode ++ 32 ∷ rest → ⊥
+not_empty [] rest e = cc
+not_empty (c ∷ mode) rest e = cc
+
+entries_once : (width : ℕ) (entries others : List Entry) (text : List ℕ) → AreEntries width entries text → AreEntries width others text → entries ≡ others
+entries_once width [] [] text a b = refl
+entries_once width [] (f ∷ others) text a (mode, rest, number, some, plain, digits, long, more, is) = absurd (not_empty mode _ (sym a ∙ is))
+entries_once width (e ∷ entries) [] text (mode, rest, number, some, plain, digits, long, more, is) b = absurd (not_empty mode _ (sym b ∙ is))
+entries_once width (e ∷ entries) (f ∷ others) text (mode, rest, number, some, plain, digits, long, more, is) (octal, left, value, given, bare, wide, size, others_too, same) =
+    let cut = first_same 32 mode octal (e.name ++ 0 ∷ (bytes_in e.id ++ rest)) (f.name ++ 0 ∷ (bytes_in f.id ++ left)) (no_space mode number.2) (no_space octal value.2) (sym is ∙ same) in
+    let name = first_same 0 e.name f.name (bytes_in e.id ++ rest) (bytes_in f.id ++ left) (λ k d below. (plain k d below).0) (λ k d below. (bare k d below).0) cut.1 in
+    let bytes = append_same (bytes_in e.id) (bytes_in f.id) rest left (omega (arith, long, size)) name.1 in
+    let tail = entries_once width entries others rest more (subst (AreEntries width others) (sym bytes.1) others_too) in
+    let m : e.mode ≡ f.mode = number.3 ∙ ap (digits_value 8) cut.0 ∙ sym value.3 in
+    let i : e.id ≡ f.id = id_same e.id f.id (digits ∙ sym wide) bytes.0 in
+    let one : e ≡ f = (λ k. record { mode = m k; name = name.0 k; id = i k }) in
+    (λ k. one k ∷ tail k)
+
+module _ (read objects : Objects) (clash : Clash read objects → ⊥) where
+  tree_once : (i : ObjectId) (entries others : List Entry) → IsTree read i entries → IsTree objects i others → entries ≡ others
+  tree_once i entries others (text, is, are) (another, same, too) =
+      let e : record { kind = codes "tree"; bytes = text } ≡ record { kind = codes "tree"; bytes = another } = same_object _ _ (λ differ. clash (i, _, _, is, same, differ)) in
+      let t : text ≡ another = ap (λ (o : Object). o.bytes) e in
+      entries_once (digits_in i) entries others text are (subst (AreEntries (digits_in i) others) (sym t) too)
+
+  unfolds_once : {path : List ℕ} {entries : List Entry} {placed those : List (List ℕ × Entry)} → Unfolds read path entries placed → Unfolds objects path entries those → placed ≡ those
+  unfolds_once whole whole = refl
+  unfolds_once (other {path = path} {e = e} n u) (other m v) = ap (λ xs. (path, e) ∷ xs) (unfolds_once u v)
+  unfolds_once (other n u) (tree m is ins v) = absurd (n m)
+  unfolds_once (tree m is ins v) (other n u) = absurd (n m)
+  unfolds_once (tree {path = path} {e = e} {inner = inner} m is ins u) (tree {inner = found} {inside = inside} n too inner_too v) =
+      let same : inner ≡ found = tree_once e.id inner found is too in
+      let one = unfolds_once ins (subst (λ x. Unfolds objects (path ++ e.name ++ 47 ∷ []) x inside) (sym same) inner_too) in
+      let two = unfolds_once u v in
+      (λ k. (path, e) ∷ (one k ++ two k))
+
+-- WHAT WAS WRITTEN
+other_size : (word by : List ℕ) → (length word ≡ 5 → ⊥) × (length word ≡ 8 → ⊥) → (length by ≡ 5) ⊎ (length by ≡ 8) → word ≡ by → ⊥
+other_size word by n h e = ⊎_elim (λ f. n.0 (ap length e ∙ f)) (λ f. n.1 (ap length e ∙ f)) h
+
+no_list : (by : List ℕ) → (length by ≡ 5) ⊎ (length by ≡ 8) → Contains (codes "breadth" ∷ codes "newest" ∷ codes "oldest" ∷ codes "topo" ∷ codes "date" ∷ []) by → ⊥
+no_list by h = not_among by (codes "breadth") (codes "newest" ∷ codes "oldest" ∷ codes "topo" ∷ codes "date" ∷ []) (other_size (codes "breadth") by (λ e. omega (arith, e), λ e. omega (arith, e)) h)
+    (not_among by (codes "newest") (codes "oldest" ∷ codes "topo" ∷ codes "date" ∷ []) (other_size (codes "newest") by (λ e. omega (arith, e), λ e. omega (arith, e)) h)
+    (not_among by (codes "oldest") (codes "topo" ∷ codes "date" ∷ []) (other_size (codes "oldest") by (λ e. omega (arith, e), λ e. omega (arith, e)) h)
+    (not_among by (codes "topo") (codes "date" ∷ []) (other_size (codes "topo") by (λ e. omega (arith, e), λ e. omega (arith, e)) h)
+    (not_among by (codes "date") [] (other_size (codes "date") by (λ e. omega (arith, e), λ e. omega (arith, e)) h) (no_member by)))))
+
+module _ (read objects : Objects) (rows more : List Row) (parents : ObjectId → List ObjectId) (time : ObjectId → ℤ) (clash : Clash read objects → ⊥) (old a b : List ℕ) where
+  abbrev One : List (List ℕ) → Type 0
+  One = Serves read rows parents time (Some old) (Some a)
+
+  abbrev Other : List (List ℕ) → Type 0
+  Other = Serves objects more parents time (Some old) (Some b)
+
+  not_listed : (by : List ℕ) (rest asked : List (List ℕ)) (ids : List ObjectId) (ended : Bool) (os : Objects) (rs : List Row) → (length by ≡ 5) ⊎ (length by ≡ 8) → Lists os rs parents time ids ended asked → asked ≡ by ∷ rest → ⊥
+  not_listed by rest asked ids end os rs h (lists {by = name} option limit ws named are some follows there begins allows ended) is =
+      let e : name ≡ by = cc in
+      no_list name (subst (λ x. (length x ≡ 5) ⊎ (length x ≡ 8)) (sym e) h) named
+
+  -- both are of one command
+  pub served_once : (asked words : List (List ℕ)) → One asked → Other words → asked ≡ words → a ≡ b
+  served_once asked words (commits ids l w) (commits others m v) is =
+      w ∙ ap (λ xs. old ++ flat_map id_line xs) ((lists_before parents time read objects rows more ids others true asked words l m is).1 refl) ∙ sym v
+  served_once asked words (commits ids l w) (ahead n m x y o p ns ms v) is = absurd (not_listed (codes "ahead") _ asked ids true read rows (inl refl) l is)
+  served_once asked words (commits ids l w) (contains are some there keeps v) is = absurd (not_listed (codes "contains") _ asked ids true read rows (inr refl) l is)
+  served_once asked words (commits ids l w) (files option x ends spells t u v) is = absurd (not_listed (codes "files") _ asked ids true read rows (inl refl) l is)
+  served_once asked words (ahead n m x y o p ns ms v) (commits ids l w) is = absurd (not_listed (codes "ahead") _ words ids true objects more (inl refl) l (sym is))
+  served_once asked words (contains are some there keeps v) (commits ids l w) is = absurd (not_listed (codes "contains") _ words ids true objects more (inr refl) l (sym is))
+  served_once asked words (files option x ends spells t u v) (commits ids l w) is = absurd (not_listed (codes "files") _ words ids true objects more (inl refl) l (sym is))
+  served_once asked words (ahead n m x y o p ns ms w) (contains are some there keeps v) is = let h : codes "ahead" ≡ codes "contains" = cc in let l : 5 ≡ 8 = ap length h in absurd (omega (arith, l))
+  served_once asked words (contains are some there keeps v) (ahead n m x y o p ns ms w) is = let h : codes "contains" ≡ codes "ahead" = cc in let l : 8 ≡ 5 = ap length h in absurd (omega (arith, l))
+  served_once asked words (files option x ends spells t u w) (contains are some there keeps v) is = let h : codes "files" ≡ codes "contains" = cc in let l : 5 ≡ 8 = ap length h in absurd (omega (arith, l))
+  served_once asked words (contains are some there keeps v) (files option x ends spells t u w) is = let h : codes "contains" ≡ codes "files" = cc in let l : 8 ≡ 5 = ap length h in absurd (omega (arith, l))
+  served_once asked words (ahead n m x y o p ns ms w) (files option z ends spells t u v) is = let h : codes "ahead" ≡ codes "files" = cc in absurd (other_head 97 102 _ _ refl h)
+  served_once asked words (files option z ends spells t u v) (ahead n m x y o p ns ms w) is = let h : codes "files" ≡ codes "ahead" = cc in absurd (other_head 102 97 _ _ refl h)
+  served_once asked words (ahead {a = x} {b = y} {one = one} {other = another} n m s t o p ns ms w) (ahead {a = u} {b = v} {one = left} {other = right} i j q r c d is js z) is_same =
+      let e : x ≡ u = cc in
+      let f : y ≡ v = cc in
+      let g = spelled_once x one left s (subst (λ k. Spells (digits_in left) k left) (sym e) q) in
+      let h = spelled_once y another right t (subst (λ k. Spells (digits_in right) k right) (sym f) r) in
+      let nn = counted_once parents parents time (one ∷ []) (another ∷ []) n i ns (subst (λ (T : Type 0). T) (λ k. IsNumberShown parents parents time (sym g k ∷ []) (sym h k ∷ []) i) is) in
+      let mm = counted_once parents parents time (another ∷ []) (one ∷ []) m j ms (subst (λ (T : Type 0). T) (λ k. IsNumberShown parents parents time (sym h k ∷ []) (sym g k ∷ []) j) js) in
+      w ∙ (λ k. old ++ (digits 10 false (nn k) ++ 32 ∷ (digits 10 false (mm k) ++ 10 ∷ []))) ∙ sym z
+  served_once asked words (contains {words = ws} {tip = tip} {ids = ids} are some there keeps w) (contains {words = vs} {tip = top} {ids = others} {those = those} too any all_there keeps_too v) is =
+      let e : ws ≡ vs = cc in
+      let t = (tips_once ws (tip ∷ ids) [] (top ∷ others) [] are (subst (λ x. AreTips x (top ∷ others) []) (sym e) too)).0 in
+      let f : tip ≡ top = cc in
+      let g : ids ≡ others = cc in
+      let k = keeps_once (λ before i after. Reaches parents (tip ∷ []) i) keeps (subst (λ (T : Type 0). T) (λ k. Keeps (λ before i after. Reaches parents (sym f k ∷ []) i) [] (sym g k) those) keeps_too) in
+      w ∙ ap (λ xs. old ++ flat_map id_line xs) k ∙ sym v
+  served_once asked words (files option x {ending = ending} {tree = t} {entries = entries} {placed = placed} ends spells is_tree u w) (files choice y {ending = end} {tree = s} {entries = others} {placed = those} finish spell too v z) is =
+      let e : option ++ x ∷ [] ≡ choice ++ y ∷ [] = cc in
+      let h = endings option choice x y ending end ends finish e in
+      let g = spelled_once x t s spells (subst (λ k. Spells (digits_in s) k s) (sym h.0) spell) in
+      let same : entries ≡ others = tree_once read objects clash t entries others is_tree (subst (λ i. IsTree objects i others) (sym g) too) in
+      let p = unfolds_once read objects clash u (subst (λ xs. Unfolds objects [] xs those) (sym same) v) in
+      w ∙ (λ k. old ++ flat_map (entry_line (h.1 k)) (p k)) ∙ sym z
+    where
+      endings : (option choice : List (List ℕ)) (x y : List ℕ) (ending end : ℕ) → ((option ≡ []) × (ending ≡ 10)) ⊎ ((option ≡ codes "-z" ∷ []) × (ending ≡ 0)) → ((choice ≡ []) × (end ≡ 10)) ⊎ ((choice ≡ codes "-z" ∷ []) × (end ≡ 0))
+          → option ++ x ∷ [] ≡ choice ++ y ∷ [] → (x ≡ y) × (ending ≡ end)
+      endings option choice x y ending end (inl e) (inl f) is = let h : x ∷ [] ≡ y ∷ [] = ap (λ o. o ++ x ∷ []) (sym e.0) ∙ is ∙ ap (λ o. o ++ y ∷ []) f.0 in let g : x ≡ y = cc in (g, e.1 ∙ sym f.1)
+      endings option choice x y ending end (inr e) (inr f) is = let h : codes "-z" ∷ x ∷ [] ≡ codes "-z" ∷ y ∷ [] = ap (λ o. o ++ x ∷ []) (sym e.0) ∙ is ∙ ap (λ o. o ++ y ∷ []) f.0 in let g : x ≡ y = cc in (g, e.1 ∙ sym f.1)
+      endings option choice x y ending end (inl e) (inr f) is = let h : x ∷ [] ≡ codes "-z" ∷ y ∷ [] = ap (λ o. o ++ x ∷ []) (sym e.0) ∙ is ∙ ap (λ o. o ++ y ∷ []) f.0 in let l : 1 ≡ 2 = ap length h in absurd (omega (arith, l))
+      endings option choice x y ending end (inr e) (inl f) is = let h : codes "-z" ∷ x ∷ [] ≡ y ∷ [] = ap (λ o. o ++ x ∷ []) (sym e.0) ∙ is ∙ ap (λ o. o ++ y ∷ []) f.0 in let l : 2 ≡ 1 = ap length h in absurd (omega (arith, l))
+
+  flat_more : (ids left : List ObjectId) → flat_map id_line (ids ++ left) ≡ flat_map id_line ids ++ flat_map id_line left
+  flat_more [] left = refl
+  flat_more (i ∷ ids) left = ap (λ xs. id_line i ++ xs) (flat_more ids left) ∙ sym (append_assoc (id_line i) (flat_map id_line ids) (flat_map id_line left))
+
+  pub begun_of : (asked words : List (List ℕ)) → HasBegun read rows parents time (Some old) (Some a) asked → Other words → asked ≡ words → (left : List ℕ) × (b ≡ a ++ left)
+  begun_of asked words (ids, l, w) (commits others m v) is =
+      let h = (lists_before parents time read objects rows more ids others false asked words l m is).0 in
+      (flat_map id_line h.0, v ∙ ap (λ xs. old ++ flat_map id_line xs) h.1 ∙ ap (λ xs. old ++ xs) (flat_more ids h.0) ∙ sym (append_assoc old (flat_map id_line ids) (flat_map id_line h.0)) ∙ ap (λ xs. xs ++ flat_map id_line h.0) (sym w))
+  begun_of asked words (ids, l, w) (ahead n m x y o p ns ms v) is = absurd (not_listed (codes "ahead") _ asked ids false read rows (inl refl) l is)
+  begun_of asked words (ids, l, w) (contains are some there keeps v) is = absurd (not_listed (codes "contains") _ asked ids false read rows (inr refl) l is)
+  begun_of asked words (ids, l, w) (files option x ends spells t u v) is = absurd (not_listed (codes "files") _ asked ids false read rows (inl refl) l is)
+
+begun_or_cut : (read objects : Objects) (rows others : List Row) (parents : ObjectId → List ObjectId) (time : ObjectId → ℤ) (words : List (List ℕ)) (old a b : List ℕ) → (Clash read objects → ⊥)
+    → Serves objects others parents time (Some old) (Some b) words → HasBegun read rows parents time (Some old) (Some a) words ⊎ IsCutOff read rows parents time (Some old) (Some a) words
+    → (more : List ℕ) × (b ≡ a ++ more)
+begun_or_cut read objects rows others parents time words old a b clash served (inl begun) = begun_of read objects rows others parents time clash old a b words words begun served refl
+begun_or_cut read objects rows others parents time words old a b clash served (inr (None, some, more, is, never, wrote)) = absurd never
+begun_or_cut read objects rows others parents time words old a b clash served (inr (Some full, some, more, is, appends, inl wrote)) =
+    (more, sym (served_once read objects rows others parents time clash old full b words words wrote served refl) ∙ appends)
+begun_or_cut read objects rows others parents time words old a b clash served (inr (Some full, some, more, is, appends, inr begun)) =
+    let r = begun_of read objects rows others parents time clash old full b words words begun served refl in
+    (more ++ r.0, r.1 ∙ ap (λ xs. xs ++ r.0) appends ∙ append_assoc a more r.0)
+
+pub one_answer : OneAnswer
+one_answer read objects rows others words old a b parents time history too clash right = (
+  λ one. served_once read objects rows others parents time clash old a b words words (one parents time history) (right parents time too) refl,
+  λ begun. begun_or_cut read objects rows others parents time words old a b clash (right parents time too) (begun parents time history),
+)

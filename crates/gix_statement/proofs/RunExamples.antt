@@ -1,0 +1,301 @@
+-- Worked runs, and texts.
+use Rattle.std.proofs.Common.{◌≡◌, ◌≢◌, ℕ, ℤ, pos, List, [], ◌∷◌, ◌++◌, replicate, take, Bool, true, false, Some, None, Ok, Err, All, Contains, codes, flat_map, refl, sym, ap, subst, ◌∙◌, arith, inl, inr, ⊎_elim, suc, cond, append_assoc}
+use Rattle.std.proofs.lemmas.Bool.{false≢true}
+use Rattle.std.proofs.lemmas.List.Elements.{All-cons, All-nil}
+use Rattle.std.proofs.lemmas.List.Kept.{AllPairs-cons}
+use Rattle.std.specs.Fmt.{digits}
+use Rattle.std.specs.Str.Parse.{digits_value}
+use Rattle.hex.specs.Hex.{encode_lower}
+use Rattle.hex.proofs.OnLiterals.{hex_on_literals}
+use Rattle.gix_hash.proofs.Ids.Membership.{no_member, same_from, same_is}
+use Rattle.gix_hash.specs.declared.ObjectId.{ObjectId}
+use Rattle.gix_hash.specs.declared.ObjectId.TheVariants.{Sha1}
+use Rattle.gix_hash.specs.Id.{is_same}
+use Rattle.gix_statement.specs.WholeStatement as page
+use Rattle.gix_statement.specs.WholeStatement.{Object, Objects, Row, AreNamed, Agree, Allows, AreFed, AreRecords, IsLast, positive, AreEntries, AreParentLines, Clash, Entry, Follows, IsCommit, IsThere, IsHistory, IsHash, IsNumber, IsTime, IsText, Promises, Serves, commits, Lists, lists, Spells, bytes_in, Begins, IsWhole, id_line, entry_line, Reaches, start, parent, HasBegun, InEach, HaveHistory}
+use Rattle.gix_statement.proofs.Tests.{all_digits, is_hex, without, not_among, not_alone, other_head}
+use Rattle.gix_statement.proofs.OrderExamples.{begun_one, newest_begun, newest_whole}
+
+-- the id that is one byte twenty times
+abbrev pub id_of : ℕ → ObjectId
+id_of byte = Sha1 (replicate 20 byte)
+
+abbrev pub child : ObjectId
+child = id_of 0x22
+
+abbrev pub root : ObjectId
+root = id_of 0x11
+
+differ : root ≢ child
+differ e = false≢true (same_from root child e)
+
+-- either case is read, and nothing shorter
+lower : Spells 40 (codes "abababababababababababababababababababab") (id_of 0xab)
+unfolding hex_on_literals
+lower = (refl, refl, is_hex (codes "abababababababababababababababababababab") refl)
+
+upper : Spells 40 (codes "ABababababababababababababababababababAB") (id_of 0xab)
+unfolding hex_on_literals
+upper = (refl, refl, is_hex (codes "ABababababababababababababababababababAB") refl)
+
+too_short : (i : ObjectId) → Spells 40 (codes "abab") i → ⊥
+too_short i s = omega (arith, s.0)
+
+-- A GRAPH RUN: there are no objects at all, but rows of a child and its parent, which is newer.
+abbrev nothing : Objects
+nothing i = None
+
+abbrev row : ObjectId → List ObjectId → ℤ → Row
+row i parents time = record { id = i; tree = id_of 0xab; parents = parents; time = time }
+
+abbrev rows : List Row
+rows = row child (root ∷ []) (pos 5) ∷ row root [] (pos 9) ∷ []
+
+child_row : IsCommit nothing rows (row child (root ∷ []) (pos 5))
+child_row = inr (refl, (0, omega arith, refl))
+
+root_row : IsCommit nothing rows (row root [] (pos 9))
+root_row = inr (refl, (1, omega arith, refl))
+
+agree : Agree nothing rows
+agree = (
+  AllPairs-cons (λ r s. r.id ≢ s.id) (row child (root ∷ []) (pos 5)) (row root [] (pos 9) ∷ [])
+      (All-cons (λ s. child ≢ s.id) (row root [] (pos 9)) [] (λ e. differ (sym e)) (All-nil _))
+      (AllPairs-cons (λ r s. r.id ≢ s.id) (row root [] (pos 9)) [] (All-nil _) (λ i j d l m. absurd (omega (arith, m)))),
+  λ r c n. absurd (n refl),
+)
+
+pub spelled : Spells 40 (codes "2222222222222222222222222222222222222222") child
+unfolding hex_on_literals
+spelled = (refl, refl, is_hex (codes "2222222222222222222222222222222222222222") refl)
+
+-- of both lines, and of the first alone
+abbrev pub both_lines : List ℕ
+both_lines = codes "2222222222222222222222222222222222222222\n1111111111111111111111111111111111111111\n"
+
+abbrev pub one_line : List ℕ
+one_line = codes "2222222222222222222222222222222222222222\n"
+
+are_both : flat_map id_line (child ∷ root ∷ []) ≡ both_lines
+unfolding hex_on_literals
+are_both = refl
+
+is_one : flat_map id_line (child ∷ []) ≡ one_line
+unfolding hex_on_literals
+is_one = refl
+
+abbrev Given : Objects → List Row → Type 0
+Given objects those = AreNamed objects × (those ≡ rows)
+
+is_newest : Contains (codes "breadth" ∷ codes "newest" ∷ codes "oldest" ∷ codes "topo" ∷ codes "date" ∷ []) (codes "newest")
+is_newest = (1, omega arith, refl)
+
+named : AreNamed nothing
+named i o e = let no : None ≡ Some o = e in cc
+
+module _ (objects : Objects) (rows : List Row) (child_time root_time : ℤ) (is_child : IsCommit objects rows (row child (root ∷ []) child_time)) (is_root : IsCommit objects rows (row root [] root_time)) (parents : ObjectId → List ObjectId) (time : ObjectId → ℤ) (history : IsHistory objects rows parents time) where
+  child_names : parents child ≡ root ∷ []
+  child_names = (history (row child (root ∷ []) child_time) is_child).0
+
+  root_names : parents root ≡ []
+  root_names = (history (row root [] root_time) is_root).0
+
+  child_there : IsThere objects rows child
+  child_there = (row child (root ∷ []) child_time, refl, is_child)
+
+  root_there : IsThere objects rows root
+  root_there = (row root [] root_time, refl, is_root)
+
+  are_there : All (IsThere objects rows) (child ∷ root ∷ [])
+  are_there = All-cons (IsThere objects rows) child (root ∷ []) child_there (All-cons (IsThere objects rows) root [] root_there (All-nil _))
+
+  is_there : All (IsThere objects rows) (child ∷ [])
+  is_there = All-cons (IsThere objects rows) child [] child_there (All-nil _)
+
+  newest_served : Serves objects rows parents time (Some []) (Some both_lines) (codes "newest" ∷ codes "2222222222222222222222222222222222222222" ∷ [])
+  newest_served = commits (child ∷ root ∷ [])
+      (lists [] [] (codes "2222222222222222222222222222222222222222" ∷ []) {hidden = []} is_newest
+      (inl (child, [], refl, spelled, (refl, refl))) (λ e. cc) page.all are_there (newest_begun child root differ parents parents time child_names root_names) (inl refl)
+      (λ ended more. newest_whole child root differ parents parents time child_names root_names))
+      (sym are_both)
+
+  -- WITH -n 1 the first line is all
+  one_served : Serves objects rows parents time (Some []) (Some one_line) (codes "newest" ∷ codes "-n" ∷ codes "1" ∷ codes "2222222222222222222222222222222222222222" ∷ [])
+  one_served = commits (child ∷ [])
+      (lists [] (codes "-n" ∷ codes "1" ∷ []) (codes "2222222222222222222222222222222222222222" ∷ []) {hidden = []} is_newest
+      (inl (child, [], refl, spelled, (refl, refl))) (λ e. cc) page.all is_there (begun_one child root differ parents parents time child_names root_names) (inr (codes "1", 1, number_one, refl, omega arith))
+      (λ ended more. absurd (no_two more)))
+      (sym is_one)
+    where
+      number_one : IsNumber 10 9 (codes "1") 1
+      number_one = (omega arith, omega arith, all_digits 10 (codes "1") refl, refl)
+
+      no_two : Allows (codes "-n" ∷ codes "1" ∷ []) 2 → ⊥
+      no_two (inl e) = cc
+      no_two (inr (number, most, is, e, few)) =
+          let same : codes "1" ≡ number = cc in
+          let value : most ≡ 1 = is.3 ∙ ap (digits_value 10) (sym same) in
+          omega (arith, few, value)
+
+  -- A FAULT may come behind the first line
+  one_begun : HasBegun objects rows parents time (Some []) (Some one_line) (codes "newest" ∷ codes "2222222222222222222222222222222222222222" ∷ [])
+  one_begun = (
+    child ∷ [],
+    lists [] [] (codes "2222222222222222222222222222222222222222" ∷ []) {hidden = []} is_newest
+        (inl (child, [], refl, spelled, (refl, refl))) (λ e. cc) page.all is_there (begun_one child root differ parents parents time child_names root_names) (inl refl) (λ ended. let no : false ≡ true = ended in cc),
+    sym is_one,
+  )
+
+newest_of_rows : {E : Type 0} (e : E) → Promises e (codes "newest" ∷ codes "2222222222222222222222222222222222222222" ∷ []) Given (Some []) (Ok tt) (Some both_lines)
+newest_of_rows e = (nothing, rows, (named, refl), agree, newest_served nothing rows (pos 5) (pos 9) child_row root_row)
+
+first_of_rows : {E : Type 0} (e : E) → Promises e (codes "newest" ∷ codes "-n" ∷ codes "1" ∷ codes "2222222222222222222222222222222222222222" ∷ []) Given (Some []) (Ok tt) (Some one_line)
+first_of_rows e = (nothing, rows, (named, refl), agree, one_served nothing rows (pos 5) (pos 9) child_row root_row)
+
+-- AN ERR leaves nothing, or a beginning
+err_without_a_line : {E : Type 0} (writer_failed e : E) → Promises writer_failed (codes "newest" ∷ codes "2222222222222222222222222222222222222222" ∷ []) Given (Some []) (Err e) (Some [])
+err_without_a_line writer_failed e = inl refl
+
+err_behind_a_line : {E : Type 0} (writer_failed e : E) → Promises writer_failed (codes "newest" ∷ codes "2222222222222222222222222222222222222222" ∷ []) Given (Some []) (Err e) (Some one_line)
+err_behind_a_line writer_failed e = inr (nothing, rows, (named, refl), agree, λ parents time is. inl (one_begun nothing rows (pos 5) (pos 9) child_row root_row parents time is))
+
+-- but no half of a line, unless the writer failed
+half_a_line : {E : Type 0} (writer_failed e : E) (words : List (List ℕ)) → e ≢ writer_failed → HaveHistory → Promises writer_failed words Given (Some []) (Err e) (Some (codes "2222")) → ⊥
+half_a_line writer_failed e words other have (inl same) = let no : codes "2222" ≡ [] = cc in cc
+half_a_line writer_failed e words other have (inr (objects, those, given, agreeing, each)) =
+    ⊎_elim (go history.0 history.1) (λ h. absurd (other h.0)) (each history.0 history.1 history.2)
+  where
+    history : (parents : ObjectId → List ObjectId) × (time : ObjectId → ℤ) × IsHistory objects those parents time
+    history = have objects those agreeing
+
+    ended : (before after : List ℕ) → All (λ b. b ≢ 10) (before ++ 10 ∷ after) → ⊥
+    ended [] after h = h 0 10 (omega arith) refl
+    ended (b ∷ before) after h = ended before after (λ k d below. h (suc k) d (omega (arith, below)))
+
+    lines : (ids : List ObjectId) → codes "2222" ≡ flat_map id_line ids → ⊥
+    lines [] e = cc
+    lines (i ∷ ids) e = ended (encode_lower (bytes_in i)) (flat_map id_line ids) (subst (All (λ b. b ≢ 10)) (e ∙ append_assoc (encode_lower (bytes_in i)) (10 ∷ []) (flat_map id_line ids)) (without 10 (codes "2222") refl))
+
+    go : (parents : ObjectId → List ObjectId) (time : ObjectId → ℤ) → HasBegun objects those parents time (Some []) (Some (codes "2222")) words → ⊥
+    go parents time (ids, listed, appends) = lines ids appends
+
+-- A COLLIDING PAIR: two objects of one id are a clash, of which the law says nothing
+abbrev one_object : List ℕ → Objects
+one_object bytes i = Some (record { kind = codes "blob"; bytes = bytes })
+
+they_clash : Clash (one_object []) (one_object (codes "b"))
+they_clash = (
+  child,
+  record { kind = codes "blob"; bytes = [] },
+  record { kind = codes "blob"; bytes = codes "b" },
+  refl,
+  refl,
+  λ e. let other : [] ≡ codes "b" = ap (λ o. o.bytes) e in cc,
+)
+
+-- a name with a slash is no name
+no_slash : (e : Entry) (text : List ℕ) → e.name ≡ codes "x/y" → AreEntries 40 (e ∷ []) text → ⊥
+no_slash e text is (mode, rest, number, some, all, width, bytes, more, same) = (subst (All (λ b. (b ≢ 0) × (b ≢ 47))) is all 1 0 (omega arith)).1 refl
+
+-- a line that begins like one for a parent, and is none, makes a text no commit's
+no_broken_parent : (rest : List ℕ) → AreParentLines 40 [] (codes "parent zz\nauthor") rest → ⊥
+no_broken_parent rest (is, other) = other (ap (take 7) (sym is))
+
+line_of_entry : entry_line 10 (codes "d/", record { mode = 0o644; name = codes "x"; id = id_of 0xab }) ≡ codes "000644 abababababababababababababababababababab d/x\n"
+unfolding digits hex_on_literals
+line_of_entry = refl
+
+-- FROM BYTES TO BYTES: two records
+abbrev root_text : List ℕ
+root_text = codes "tree abababababababababababababababababababab\nauthor A <a> 0\ncommitter A <a> 5\n"
+
+abbrev child_text : List ℕ
+child_text = codes "tree abababababababababababababababababababab\nparent 1111111111111111111111111111111111111111\nauthor A <a> 0\ncommitter A <a> 7 +0000\n"
+
+abbrev commit : List ℕ → Object
+commit bytes = record { kind = codes "commit"; bytes = bytes }
+
+abbrev records : List (ObjectId × Object)
+records = (root, commit root_text) ∷ (child, commit child_text) ∷ []
+
+abbrev pub input : List ℕ
+input = codes "commit 1111111111111111111111111111111111111111 79\n" ++ root_text ++ codes "\ncommit 2222222222222222222222222222222222222222 133\n" ++ child_text ++ 10 ∷ []
+
+root_spelled : Spells 40 (codes "1111111111111111111111111111111111111111") root
+unfolding hex_on_literals
+root_spelled = (refl, refl, is_hex (codes "1111111111111111111111111111111111111111") refl)
+
+are_kinds : Contains (codes "tree" ∷ codes "blob" ∷ codes "commit" ∷ codes "tag" ∷ []) (codes "commit")
+are_kinds = (2, omega arith, refl)
+
+are_records : AreRecords records input
+are_records = (
+  codes "1111111111111111111111111111111111111111",
+  codes "79",
+  codes "commit 2222222222222222222222222222222222222222 133\n" ++ child_text ++ 10 ∷ [],
+  are_kinds,
+  root_spelled,
+  (omega arith, omega arith, all_digits 10 (codes "79") refl, refl),
+  (codes "2222222222222222222222222222222222222222", codes "133", [], are_kinds, spelled, (omega arith, omega arith, all_digits 10 (codes "133") refl, refl), refl, refl),
+  refl,
+)
+
+abbrev read_in : Objects
+read_in i = cond (is_same child i) (Some (commit child_text)) (cond (is_same root i) (Some (commit root_text)) None)
+
+are_last : (i : ObjectId) → IsLast records i (read_in i)
+are_last i = go (is_same child i) (is_same root i) refl refl
+  where
+    go : (c r : Bool) → is_same child i ≡ c → is_same root i ≡ r → IsLast records i (cond c (Some (commit child_text)) (cond r (Some (commit root_text)) None))
+    go true r e f = subst (λ j. IsLast records j (Some (commit child_text))) (same_is child i e) ((root, commit root_text) ∷ [], [], refl, λ o. no_member _)
+    go false true e f = subst (λ j. IsLast records j (Some (commit root_text))) (same_is root i f)
+        ([], (child, commit child_text) ∷ [], refl, λ o. not_among (root, o) (child, commit child_text) [] (λ s. differ (sym (ap (λ p. p.0) s))) (no_member _))
+    go false false e f = λ o. not_among (i, o) (root, commit root_text) ((child, commit child_text) ∷ []) (λ s. false≢true (sym f ∙ same_from root i (ap (λ p. p.0) s)))
+        (not_among (i, o) (child, commit child_text) [] (λ s. false≢true (sym e ∙ same_from child i (ap (λ p. p.0) s))) (no_member _))
+
+fed : AreFed (Some input) read_in
+fed = (input, inr refl, records, are_records, are_last)
+
+tree_spelled : Spells 40 (codes "abababababababababababababababababababab") (id_of 0xab)
+tree_spelled = lower
+
+root_time : IsTime (codes "author A <a> 0\ncommitter A <a> 5\n") (pos 5)
+root_time = positive (codes "A <a") (codes "5") 1 5
+    (codes "A <a> 0", [], without 10 (codes "A <a> 0") refl, without 10 (codes "A <a> 5") refl, refl)
+    (without 62 (codes "5") refl) (codes "5", [], refl, all_digits 10 (codes "5") refl, (λ d. refl), refl) (not_alone 32 (codes "5") refl) (not_alone 45 (codes "5") refl)
+
+child_time : IsTime (codes "author A <a> 0\ncommitter A <a> 7 +0000\n") (pos 7)
+child_time = positive (codes "A <a") (codes "7 +0000") 1 7
+    (codes "A <a> 0", [], without 10 (codes "A <a> 0") refl, without 10 (codes "A <a> 7 +0000") refl, refl)
+    (without 62 (codes "7 +0000") refl) (codes "7", codes " +0000", refl, all_digits 10 (codes "7") refl, (λ d. absurd (omega (arith, d.0))), refl) (not_alone 32 (codes "7") refl) (not_alone 45 (codes "7") refl)
+
+root_is_text : IsText read_in (row root [] (pos 5))
+root_is_text = (
+  codes "abababababababababababababababababababab",
+  codes "author A <a> 0\ncommitter A <a> 5\n",
+  codes "author A <a> 0\ncommitter A <a> 5\n",
+  tree_spelled,
+  (refl, other_head 97 112 (codes "uthor ") (codes "arent ") refl),
+  root_time,
+  refl,
+)
+
+child_is_text : IsText read_in (row child (root ∷ []) (pos 7))
+child_is_text = (
+  codes "abababababababababababababababababababab",
+  codes "parent 1111111111111111111111111111111111111111\nauthor A <a> 0\ncommitter A <a> 7 +0000\n",
+  codes "author A <a> 0\ncommitter A <a> 7 +0000\n",
+  tree_spelled,
+  (codes "1111111111111111111111111111111111111111", codes "author A <a> 0\ncommitter A <a> 7 +0000\n", root_spelled, (refl, other_head 97 112 (codes "uthor ") (codes "arent ") refl), refl),
+  child_time,
+  refl,
+)
+
+pub newest_of_records : {E : Type 0} (e : E) → Promises e (codes "newest" ∷ codes "2222222222222222222222222222222222222222" ∷ []) (λ objects rows. AreFed (Some input) objects × (rows ≡ [])) (Some []) (Ok tt) (Some both_lines)
+newest_of_records e = (
+  read_in,
+  [],
+  (fed, refl),
+  ((λ i j d l m. absurd (omega (arith, m))), λ r c n. absurd (no_member r c)),
+  newest_served read_in [] (pos 7) (pos 5) (inl child_is_text) (inl root_is_text),
+)

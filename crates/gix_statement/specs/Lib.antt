@@ -1,0 +1,4 @@
+-- What a run has done, from lists of bytes up.
+pub mod WholeStatement
+-- Which rows the files of a commit-graph have.
+pub mod CommitGraph
