@@ -36,7 +36,7 @@ use Rattle.gix_commands.proofs.LostParents.{all_there}
 use Rattle.gix_commands.proofs.MemoryFaults.{failed_so}
 use Rattle.gix_commands.proofs.SimpleRuns.{each_id, is_tip, same}
 use Rattle.gix_paint.proofs.Invariant.{own_history}
-use Rattle.gix_simple.proofs.Treated.{Contains-holds}
+use Rattle.gix_simple.proofs.Treated.{best_moved}
 
 in_ids : (ps : List Pending) (p : Pending) → Contains ps p → Contains (ids_of ps) p.id
 in_ids [] p c = absurd (no_member p c)
@@ -68,17 +68,17 @@ module _ (objects : Objects) (tips hiders : List ObjectId) (whole : AreWhole obj
   no_fault_at i (hidden_by.ObjectDecode e) reads f =
       let n : None ≡ Some reads.commit = sym (ap (commit_of_object i) f.1 ∙ fault_unread (commit_items (kind_of i) f.0) e f.2) ∙ reads.stored in cc
 
-  joined : (w : Walk) (i : ObjectId) (time : ℤ) (pending : List Pending) (o : Option CommitTimeOrder) (limit : Option ℤ) → Stands w → IsMet i → Enqueues objects_of never_faulty accepts_all o limit w.pending i time pending → (p : Pending) → Contains pending p → IsMet p.id
-  joined w i time pending o limit s m (dropped old) p c = s.met p c
-  joined w i time pending o limit s m (enqueued new holds) p c =
-      ⊎_elim (s.met p) (λ n. subst IsMet (ap (λ x. x.id) (only_member _ p n)) m) (Contains-append_cases w.pending _ p (Contains-holds o _ pending holds p c))
+  joined : (w : Walk) (i : ObjectId) (time : ℤ) (pending : List Pending) (limit : Option ℤ) → Stands w → IsMet i → Enqueues objects_of never_faulty accepts_all limit w.pending i time pending → (p : Pending) → Contains pending p → IsMet p.id
+  joined w i time pending limit s m (dropped old) p c = s.met p c
+  joined w i time pending limit s m (enqueued new last) p c =
+      ⊎_elim (s.met p) (λ n. subst IsMet (ap (λ x. x.id) (only_member _ p n)) m) (Contains-append_cases w.pending _ p (subst (λ ps. Contains ps p) last c))
 
   -- one parent is treated, and all of them
   treated : {w : Walk} {told : Bool} {i : ObjectId} {how : Treated} {v : Walk} → Treats objects_of never_faulty accepts_all w told i how v → Stands w → IsMet i → Stands v
   treated (hidden h) s m = s
   treated (known h) s m = s
   treated (refused n a) s m = record { store = s.store; rows = s.rows; behind = s.behind; met = s.met }
-  treated {w} {i} (accepted {time = time} {pending = pending} n a r q) s m = record { store = s.store; rows = s.rows; behind = s.behind; met = joined w i time pending _ _ s m q }
+  treated {w} {i} (accepted {time = time} {pending = pending} n a r q) s m = record { store = s.store; rows = s.rows; behind = s.behind; met = joined w i time pending _ s m q }
   treated (store_fails n a r) s m = record { store = s.store; rows = s.rows; behind = s.behind; met = s.met }
   treated no_memory s m = s
   treated (no_memory_after n a p) s m = record { store = s.store; rows = s.rows; behind = s.behind; met = λ q c. ⊎_elim (λ e. s.met q (subst (λ ps. Contains ps q) e c)) (λ e. absurd (no_member q (subst (λ ps. Contains ps q) e c))) p }
@@ -121,7 +121,7 @@ module _ (objects : Objects) (tips hiders : List ObjectId) (whole : AreWhole obj
 
   chosen : {w : Walk} {p : Pending} {others : List Pending} → Chooses objects_of never_faulty accepts_all w p others → (q : Pending) → Contains (p ∷ others) q → Contains w.pending q
   chosen (first t is) q c = subst (λ ps. Contains ps q) (sym is) c
-  chosen {w} {p} {others} (best t perm no_worse) q c = Contains-permutation (p ∷ others) w.pending q (IsPermutation-sym w.pending (p ∷ others) perm) c
+  chosen {w} {p} {others} (best t those) q c = Contains-permutation (p ∷ others) w.pending q (IsPermutation-sym w.pending (p ∷ others) (best_moved those)) c
 
   stepped : {w : Walk} {o : Option (Result Info Error)} {new : Walk} → Steps objects_of never_faulty accepts_all w o new → Stands w → IsGood o new
   stepped (ended e) s = tt

@@ -15,8 +15,8 @@ pub enum Damage {
     /// It has so many bytes, more than are read of such a file.
     #[error("it is too large: {0} bytes")]
     FileTooLarge(u64),
-    /// An entry of it has a name that isn't UTF-8.
-    #[error("a name in it isn't UTF-8")]
+    /// Its path, or the name of an entry of it, isn't UTF-8.
+    #[error("its path or a name in it isn't UTF-8")]
     NotText,
     /// It has more entries than are read of a folder.
     #[error("it has too many entries")]

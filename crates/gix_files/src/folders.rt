@@ -102,12 +102,11 @@ pub fn link_text<R: Files + AllocGlobal>(rt: &R, path: &str) -> Result<Option<St
     }
 }
 
-/// The one path of a folder, which begins with `/` and goes through no symbolic link. None where there is no folder, or its path is no
-/// text.
+/// The one path of a folder, which begins with `/` and goes through no symbolic link. None where there is no folder.
 ///
 /// # Errors
 ///
-/// `Memory`.
+/// `NotText` where that path isn't UTF-8. `Memory`.
 pub fn real_folder<R: Files + AllocGlobal>(rt: &R, path: &str) -> Result<Option<String>, Damage> {
     if !is_folder(rt, path)? {
         return Ok(None);
@@ -123,7 +122,7 @@ pub fn real_folder<R: Files + AllocGlobal>(rt: &R, path: &str) -> Result<Option<
     };
     match real.as_path().to_str() {
         Some(text) => Ok(Some(String::from_str(rt.alloc(), text)?)),
-        None => Ok(None),
+        None => Err(Damage::NotText),
     }
 }
 

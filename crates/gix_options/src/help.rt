@@ -114,9 +114,10 @@ A revision is an id, the first 4 digits of one or more, a ref by git's rules, HE
 ^{tag} and ^{}; for files also :PATH. In the first five commands ^A excludes all commits that A reaches, A..B stands for ^A B, and
 A...B for A and B without what both reach. For ahead A...B stands for A B.
 
-All objects are compared with their ids. What is missing or broken is a fault. The first five commands then have listed the commits
-before it, and the others nothing. newest and oldest look whether each parent of a commit that they have listed is there, except behind
-the last line that -n allows. files refuses a tree with a name that is empty or holds a slash.
+All objects are compared with their ids. An object that is damaged is a fault, and nothing is listed. Where one is missing, or no commit,
+the first five commands have listed the commits before it, and the others nothing. newest and oldest look whether each parent of a commit
+that they have listed is there, except behind the last line that -n allows. files refuses a tree with a name that is empty or holds a
+slash.
 
   -C FOLDER    takes the repository of this folder, or of the nearest one above it that has one; no variable names another
   --git-dir FOLDER

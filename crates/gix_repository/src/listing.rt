@@ -76,7 +76,7 @@ where
         self.list(prefix, false)
     }
 
-    /// The same, where a packed ref whose name isn't UTF-8 may be passed over, or is a fault.
+    /// The same, where a packed ref of a name that can't be one may be passed over, or is a fault.
     pub(crate) fn list(&mut self, prefix: &str, passes_over: bool) -> Result<Listed, Fault> {
         let alloc = self.rt.alloc();
         let mut listed = Listed {
@@ -229,8 +229,7 @@ where
         Ok(())
     }
 
-    /// The packed refs. A name that can't be that of a ref is passed over, as by git. One that isn't UTF-8 is a ref for git: it is passed over
-    /// where that is said, and else a fault.
+    /// The packed refs. A name that can't be that of a ref, or isn't UTF-8, is passed over where that is said, and else a fault.
     pub(crate) fn all_packed(&self, passes_over: bool) -> Result<Packed, Fault> {
         let alloc = self.rt.alloc();
         let text = self.read_packed()?;
@@ -240,9 +239,9 @@ where
                 Ok(packed) => {
                     all.insert(String::from_str(alloc, packed.name)?, packed.id)?;
                 }
-                Err(RefFault::Name) => {}
                 Err(fault) => {
-                    if fault != RefFault::NotText || !passes_over {
+                    let is_name = matches!(fault, RefFault::Name | RefFault::NotText);
+                    if !is_name || !passes_over {
                         return Err(fault_of(self.path_of("packed-refs")?, Damage::Ref(fault)));
                     }
                 }
@@ -312,8 +311,8 @@ where
         }
     }
 
-    /// Whether a path is a folder, and None where it is neither a folder nor a file. A symbolic link is what it leads to, as in git: one that
-    /// leads to nothing isn't listed, even if it can be read as a symbolic ref.
+    /// Whether a path is a folder. What is neither a folder nor a file, as a pipe, is listed as a file is, and is damaged. A symbolic link is
+    /// what it leads to, as in git: one that leads to nothing isn't listed, even if it can be read as a symbolic ref. None of such a link.
     fn is_folder_of_refs(&self, loose: &mut Loose, path: &str) -> Result<Option<bool>, Damage> {
         match entry_of(&self.rt, path)? {
             Some(Entry::Folder) => Ok(Some(true)),
@@ -332,7 +331,8 @@ where
                 loose.links += 1;
                 Ok(Some(true))
             }
-            _ => Ok(None),
+            Some(Entry::Other) => Ok(Some(false)),
+            None => Ok(None),
         }
     }
 
