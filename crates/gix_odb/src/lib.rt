@@ -159,7 +159,7 @@ where
     pub fn ids_from(&mut self, front: &Front, most: usize) -> Result<Vec<ObjectId>, Fault> {
         let mut found = Beginning::new(self.rt.alloc(), *front, most);
         self.add_packed(0, &mut found)?;
-        for folder in self.folders.iter() {
+        for folder in self.folders.all.iter() {
             let path = folder.path.as_str();
             match short::add_loose(&self.rt, path, self.kind, &mut found) {
                 Ok(()) => {}
