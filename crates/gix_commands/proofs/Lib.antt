@@ -51,4 +51,11 @@ mod SameWords
 mod SameContained
 mod SameLists
 mod WholeRuns
+mod FedCommits
+mod FedTexts
+mod FedLists
+mod FedNames
+mod FedSimple
+mod FedTopo
+mod FedRuns
 mod WholeExamples

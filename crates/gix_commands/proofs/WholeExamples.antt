@@ -9,11 +9,12 @@ use Rattle.hex.proofs.OnLiterals.{hex_on_literals}
 use Rattle.gix_hash.specs.declared.ObjectId.TheVariants.{Sha1}
 use Rattle.gix_object.specs.declared.Kind.TheVariants as kind
 use Rattle.gix_records.specs.Records as records
-use Rattle.gix_commands.specs.WholeStatement.{AreRecords, IsBest, IsPending, Lists, Reaches, Serves, first, parent, start}
-use Rattle.gix_commands.proofs.SameCommits.{are_records, get_put, is_time, worded}
+use Rattle.gix_commands.specs.WholeStatement.{IsBest, IsPending, Lists, Reaches, Serves, first, parent, start}
+use Rattle.gix_commands.proofs.SameCommits.{are_fed, fed, get_put, is_time}
 use Rattle.gix_commands.proofs.SameHistory.{history}
 use Rattle.gix_commands.proofs.SameWords.{is_number}
 use Rattle.gix_commands.proofs.SameOrders.{Throughout, are_distinct}
+use Rattle.gix_statement.proofs.Tests.{is_hex}
 
 -- the id that is one byte twenty times
 abbrev id_of : ℕ → ObjectId
@@ -21,12 +22,10 @@ id_of byte = Sha1 (replicate 20 byte)
 
 -- either case is read
 lower : Spells 40 (codes "abababababababababababababababababababab") (id_of 0xab)
-unfolding hex_on_literals
-lower = (refl, refl, refl)
+lower = (refl, refl, is_hex (codes "abababababababababababababababababababab") refl)
 
 upper : Spells 40 (codes "ABababababababababababababababababababAB") (id_of 0xab)
-unfolding hex_on_literals
-upper = (refl, refl, refl)
+upper = (refl, refl, is_hex (codes "ABababababababababababababababababababAB") refl)
 
 -- an id has no fewer digits
 too_short : (i : ObjectId) → Spells 40 (codes "abab") i → ⊥
@@ -56,6 +55,9 @@ child = id_of 0x22
 
 abbrev root : ObjectId
 root = id_of 0x11
+
+child_spelled : Spells 40 (codes "2222222222222222222222222222222222222222") child
+child_spelled = (refl, refl, is_hex (codes "2222222222222222222222222222222222222222") refl)
 
 abbrev root_text : List ℕ
 root_text = codes "tree abababababababababababababababababababab\nauthor A <a> 0\ncommitter A <a> 5\n"
@@ -208,26 +210,26 @@ module _ (text : List ℕ) (child_names : next_in child (Some (record { kind = k
   root_named : parents root ≡ []
   root_named = ap (next_in root) (root_stored text) ∙ root_names_none
 
-  served_newest : Serves (map worded (read text)) parents time (Some []) (Some output) (codes "newest" ∷ codes "2222222222222222222222222222222222222222" ∷ [])
+  served_newest : Serves (fed (read text)) parents time (Some []) (Some output) (codes "newest" ∷ codes "2222222222222222222222222222222222222222" ∷ [])
   unfolding hex_on_literals
   served_newest =
-      commits [] [] (codes "2222222222222222222222222222222222222222" ∷ []) {hidden = []} (inl (child, [], refl, (refl, refl, refl), (refl, refl))) (λ e. cc) all (inl (refl, refl)) (is_listed parents parents time child_named root_named (codes "newest") (λ taken rest e. newest (in_order parents parents time child_named root_named taken rest e))) refl
+      commits [] [] (codes "2222222222222222222222222222222222222222" ∷ []) {hidden = []} (inl (child, [], refl, child_spelled, (refl, refl))) (λ e. cc) all (inl (refl, refl)) (is_listed parents parents time child_named root_named (codes "newest") (λ taken rest e. newest (in_order parents parents time child_named root_named taken rest e))) refl
 
-  served_breadth : Serves (map worded (read text)) parents time (Some []) (Some output) (codes "breadth" ∷ codes "2222222222222222222222222222222222222222" ∷ [])
+  served_breadth : Serves (fed (read text)) parents time (Some []) (Some output) (codes "breadth" ∷ codes "2222222222222222222222222222222222222222" ∷ [])
   unfolding hex_on_literals
   served_breadth =
-      commits [] [] (codes "2222222222222222222222222222222222222222" ∷ []) {hidden = []} (inl (child, [], refl, (refl, refl, refl), (refl, refl))) (λ e. cc) all (inl (refl, refl)) (is_listed parents parents time child_named root_named (codes "breadth") (λ taken rest e. breadth (in_breadth parents parents time child_named root_named taken rest e))) refl
+      commits [] [] (codes "2222222222222222222222222222222222222222" ∷ []) {hidden = []} (inl (child, [], refl, child_spelled, (refl, refl))) (λ e. cc) all (inl (refl, refl)) (is_listed parents parents time child_named root_named (codes "breadth") (λ taken rest e. breadth (in_breadth parents parents time child_named root_named taken rest e))) refl
 
   -- by first parents alone
   abbrev first_parents : ObjectId → List ObjectId
   first_parents i = take 1 (parents i)
 
-  served_first : Serves (map worded (read text)) parents time (Some []) (Some output) (codes "breadth" ∷ codes "--first-parent" ∷ codes "2222222222222222222222222222222222222222" ∷ [])
+  served_first : Serves (fed (read text)) parents time (Some []) (Some output) (codes "breadth" ∷ codes "--first-parent" ∷ codes "2222222222222222222222222222222222222222" ∷ [])
   unfolding hex_on_literals
   served_first =
       let child_first : first_parents child ≡ root ∷ [] = ap (take 1) child_named in
       let root_first : first_parents root ≡ [] = ap (take 1) root_named in
-      commits (codes "--first-parent" ∷ []) [] (codes "2222222222222222222222222222222222222222" ∷ []) {hidden = []} (inl (child, [], refl, (refl, refl, refl), (refl, refl))) (λ e. cc) first (inl (refl, refl))
+      commits (codes "--first-parent" ∷ []) [] (codes "2222222222222222222222222222222222222222" ∷ []) {hidden = []} (inl (child, [], refl, child_spelled, (refl, refl))) (λ e. cc) (first refl) (inl (refl, refl))
       (is_listed parents first_parents time child_first root_first (codes "breadth") (λ taken rest e. breadth (in_breadth parents first_parents time child_first root_first taken rest e))) refl
 
   -- without what is older than the parent, which has the time 5
@@ -238,13 +240,13 @@ module _ (text : List ℕ) (child_names : next_in child (Some (record { kind = k
   recent ids = filter (λ i. not (int_lt (time i) (pos 5))) ids
 
   served_since : int_lt (time child) (pos 5) ≡ false
-      → Serves (map worded (read text)) parents time (Some []) (Some output) (codes "newest" ∷ codes "--since" ∷ codes "5" ∷ codes "2222222222222222222222222222222222222222" ∷ [])
+      → Serves (fed (read text)) parents time (Some []) (Some output) (codes "newest" ∷ codes "--since" ∷ codes "5" ∷ codes "2222222222222222222222222222222222222222" ∷ [])
   unfolding hex_on_literals
   served_since young =
       let child_recent : recent (parents child) ≡ root ∷ [] = ap recent child_named ∙ (λ k. cond (not (int_lt (root_time k) (pos 5))) (root ∷ []) []) in
       let root_recent : recent (parents root) ≡ [] = ap recent root_named in
       let tip_recent : recent (child ∷ []) ≡ child ∷ [] = (λ k. cond (not (young k)) (child ∷ []) []) in
-      commits (codes "--since" ∷ codes "5" ∷ []) [] (codes "2222222222222222222222222222222222222222" ∷ []) {hidden = []} (inl (child, [], refl, (refl, refl, refl), (refl, refl))) (λ e. cc)
+      commits (codes "--since" ∷ codes "5" ∷ []) [] (codes "2222222222222222222222222222222222222222" ∷ []) {hidden = []} (inl (child, [], refl, child_spelled, (refl, refl))) (λ e. cc)
       (since 5 (0, omega arith, refl) (is_number 10 (codes "5") 5 refl)) (inl (refl, refl))
       (subst (λ from. Lists parents (λ i. recent (parents i)) time from [] (codes "newest") (child ∷ root ∷ [])) (sym tip_recent)
       (is_listed parents (λ i. recent (parents i)) time child_recent root_recent (codes "newest") (λ taken rest e. newest (in_order parents (λ i. recent (parents i)) time child_recent root_recent taken rest e)))) refl
@@ -271,10 +273,10 @@ whole_read = (
 
 promised : Promises {E = Fault} (codes "newest" ∷ codes "2222222222222222222222222222222222222222" ∷ []) (Some whole_input) (Some []) (Ok tt) (Some output)
 promised given known well = (
-  map worded (read child_text),
+  fed (read child_text),
   parents child_text child_names_root,
   time child_text child_names_root,
-  subst (AreRecords (map worded (read child_text))) (same_Some whole_input given known) (are_records (read child_text) whole_input whole_read),
+  are_fed (read child_text) (Some given) whole_input (same_Some whole_input given known) whole_read,
   history (read child_text),
   served_newest child_text child_names_root,
 )
@@ -305,10 +307,10 @@ broken_read = (
 
 walked_through : Promises {E = Fault} (codes "breadth" ∷ codes "2222222222222222222222222222222222222222" ∷ []) (Some broken_input) (Some []) (Ok tt) (Some output)
 walked_through given known well = (
-  map worded (read broken_text),
+  fed (read broken_text),
   parents broken_text broken_names_root,
   time broken_text broken_names_root,
-  subst (AreRecords (map worded (read broken_text))) (same_Some broken_input given known) (are_records (read broken_text) broken_input broken_read),
+  are_fed (read broken_text) (Some given) broken_input (same_Some broken_input given known) broken_read,
   history (read broken_text),
   served_breadth broken_text broken_names_root,
 )
