@@ -7,6 +7,7 @@ use Rattle.gix_simple.specs.declared.Sorting.{Sorting}
 use Rattle.gix_simple.specs.declared.Sorting.TheVariants as sorting
 use Rattle.gix_topo.specs.declared.Sorting.{Sorting as TopoSorting}
 use Rattle.gix_topo.specs.declared.Sorting.TheVariants as topo
+use Rattle.gix_statement.proofs.Descents.{IsDown}
 use Rattle.gix_statement.proofs.Heart.{IsSimple}
 use Rattle.gix_commands.proofs.SameWords.{IsNameOf, IsOptionOf}
 
@@ -41,6 +42,13 @@ all_parents mode.First sorting.BreadthFirst option chosen other = absurd (other 
 all_parents mode.First (sorting.ByCommitTime order) option chosen other = absurd chosen
 all_parents mode.First (sorting.ByCommitTimeCutoff order seconds) option chosen other = absurd chosen
 
-pub down_name : (name : List ℕ) (by : TopoSorting) → IsNameOf name (Topo by) → Contains (codes "topo" ∷ codes "date" ∷ []) name
-down_name name topo.TopoOrder e = (0, omega arith, sym e)
-down_name name topo.DateOrder e = (1, omega arith, sym e)
+four : (name : List ℕ) → length name ≡ 4 → IsDown name
+four name e = (
+  λ s. let h : length name ≡ 7 = ap length s in omega (arith, e, h),
+  λ s. let h : length name ≡ 6 = ap length s in omega (arith, e, h),
+  λ s. let h : length name ≡ 6 = ap length s in omega (arith, e, h),
+)
+
+pub down_name : (name : List ℕ) (by : TopoSorting) → IsNameOf name (Topo by) → IsDown name
+down_name name topo.TopoOrder e = four name (ap length e)
+down_name name topo.DateOrder e = four name (ap length e)

@@ -29,7 +29,7 @@ use Rattle.gix_commands.proofs.WholeRuns.{tree_written}
 
 -- what asks for no list is no request for one
 no_list : (words : List (List ℕ)) → AskForNoList words → (by : Order) (limit : Option ℕ) (tips hidden : List ObjectId) → AreWordsOf words (Ok (Commits by limit tips hidden)) → ⊥
-no_list words none by limit tips hidden (name, option, rest, those, is, named, others) = none name (option ++ rest) is (is_order name by named)
+no_list words none by limit tips hidden w = none w.0 (w.1 ++ w.2) w.4 (is_order w.0 by w.5)
 
 module _ (rs : List Record) (old new : Option (List ℕ)) where
   abbrev EachSo : List (List ℕ) → Type 0
@@ -112,22 +112,22 @@ module _ (rs : List Record) (old new : Option (List ℕ)) where
 -- what the clause `runs` of a run says is enough
 pub everywhere : {words : List (List ℕ)} {has old : Option (List ℕ)} {result : Result (Unit {0}) Fault} {new : Option (List ℕ)} → Runs words has old result new → AskForNoList words → result ≢ Err fault.Write
     → Promises fault.Write words (λ (objects : Objects) (rows : List Row). AreFed has objects × (rows ≡ [])) old result new
-everywhere {words} {has} {old} {Err e} {new} runs none written =
+everywhere {words = words} {has = has} {old = old} {result = Err e} {new = new} runs none written =
     inl (fails_silently words has old new e runs (λ is. written (ap (λ f. Err f) is)) (λ by limit tips hidden asked. no_list words none by limit tips hidden (subst (AreWordsOf words) asked (are_words words))))
-everywhere {words} {has} {old} {Ok tt} {new} (served request input rs asked told are s) none written =
+everywhere {words = words} {has = has} {old = old} {result = Ok tt} {new = new} (served request input rs asked told are s) none written =
     (fed rs, [], (are_fed rs has input told are, refl), agree rs, in_each rs old new words none request s (subst (AreWordsOf words) asked (are_words words)))
 
 -- and so it is of lists
 pub lists_everywhere : {words : List (List ℕ)} {has old : Option (List ℕ)} {result : Result (Unit {0}) Fault} {new : Option (List ℕ)} → Runs words has old result new → AskForNoTimes words → HasTexts words has → result ≢ Err fault.Write
     → Promises fault.Write words (λ (objects : Objects) (rows : List Row). AreFed has objects × (rows ≡ [])) old result new
-lists_everywhere {words} {has} {old} {Ok tt} {new} (served request input rs asked told given s) untimed are other =
+lists_everywhere {words = words} {has = has} {old = old} {result = Ok tt} {new = new} (served request input rs asked told given s) untimed are other =
     let fed_so : AreFed has (fed rs) = are_fed rs has input told given in
     (fed rs, [], (fed_so, refl), agree rs, listed_each rs old new words (are (fed rs) fed_so) untimed request s (subst (AreWordsOf words) asked (are_words words)))
-lists_everywhere {words} {has} {old} {Err e} {new} without_memory untimed are other = inl refl
-lists_everywhere {words} {has} {old} {Err e} {new} (no_command t) untimed are other = inl refl
-lists_everywhere {words} {has} {old} {Err e} {new} (not_read request t) untimed are other = inl refl
-lists_everywhere {words} {has} {old} {Err e} {new} (bad_record request input n t h b) untimed are other = inl refl
-lists_everywhere {words} {has} {old} {Err e} {new} (served request input rs asked told given s) untimed are other =
+lists_everywhere {words = words} {has = has} {old = old} {result = Err e} {new = new} without_memory untimed are other = inl refl
+lists_everywhere {words = words} {has = has} {old = old} {result = Err e} {new = new} (no_command t) untimed are other = inl refl
+lists_everywhere {words = words} {has = has} {old = old} {result = Err e} {new = new} (not_read request t) untimed are other = inl refl
+lists_everywhere {words = words} {has = has} {old = old} {result = Err e} {new = new} (bad_record request input n t h b) untimed are other = inl refl
+lists_everywhere {words = words} {has = has} {old = old} {result = Err e} {new = new} (served request input rs asked told given s) untimed are other =
     let fed_so : AreFed has (fed rs) = are_fed rs has input told given in
     ⊎_elim inl (λ b. inr (fed rs, [], (fed_so, refl), agree rs, λ ps ts h. inl (b ps ts h)))
     (begun_each rs old new words (are (fed rs) fed_so) untimed request e (λ is. other (ap (λ f. Err f) is)) s (subst (AreWordsOf words) asked (are_words words)))

@@ -256,14 +256,17 @@ module _ (rs : List Record) (m : Parents) (by : Sorting) (tips hidden : List Obj
     failed_each limit rest same walk starts infos (failed why f last h is) fails more parents written = begun_each limit rest same walk starts infos h.0 h.1 more (λ other. fewer_parents (length infos - 1) infos (parents other)) written
     failed_each limit rest same walk starts infos (cut_short info last h) fails more parents written = begun_each limit rest same walk starts infos h.0 h.1 more (λ other. fewer_parents (length infos - 1) infos (parents other)) written
 
-    pub simple_fails : (limit : Option ℕ) (rest : List (List ℕ)) → AreBehind limit rest words → (e : Fault) → e ≢ fault.Write → Serves (stored rs) [] old (Commits (Simple m by) limit tips hidden) (Err e) new → (new ≡ old) ⊎ IsWritten false (name ∷ (option ++ rest))
-    simple_fails None rest same e other (walked walk infos starts ends parents written) = inr (failed_each None rest same walk starts infos ends (λ s. cc) tt parents written)
-    simple_fails (Some n) rest same e other (walked walk infos starts (before ends less) parents written) =
-        inr (failed_each (Some n) rest same walk starts infos ends (λ s. cc) less (λ late. subst (HaveParents (stored rs) []) (take_all (n - 1) infos (omega (arith, less))) (parents late)) written)
-    simple_fails limit rest same e other (lost walk at infos late starts drawn more lacks written) =
+    fails_so : (left : Option (List ℕ)) → left ≡ new → (limit : Option ℕ) (rest : List (List ℕ)) → AreBehind limit rest words → (e : Fault) → e ≢ fault.Write → Serves (stored rs) [] old (Commits (Simple m by) limit tips hidden) (Err e) left → (new ≡ old) ⊎ IsWritten false (name ∷ (option ++ rest))
+    fails_so left is None rest same e other (walked walk infos starts ends parents written) = inr (failed_each None rest same walk starts infos ends (λ s. cc) tt parents (subst (λ x. Appends old x (lines_of infos)) is written))
+    fails_so left is (Some n) rest same e other (walked walk infos starts (before ends less) parents written) =
+        inr (failed_each (Some n) rest same walk starts infos ends (λ s. cc) less (λ late. subst (HaveParents (stored rs) []) (take_all (n - 1) infos (omega (arith, less))) (parents late)) (subst (λ x. Appends old x (lines_of infos)) is written))
+    fails_so left is limit rest same e other (lost walk at infos late starts drawn more lacks written) =
         let place : take (length infos - 1) infos ≡ lacks.before =
         ap (take (length infos - 1)) lacks.place ∙ take_at lacks.before (lacks.last ∷ []) (length infos - 1) (omega (arith, ap length lacks.place, length-append lacks.before (lacks.last ∷ []))) in
-        inr (begun_each limit rest same walk starts infos at drawn more (λ l. subst (HaveParents (stored rs) []) (sym place) lacks.whole) written)
-    simple_fails limit rest same e other (not_walked why f) = inl refl
-    simple_fails limit rest same e other unserved = inl refl
-    simple_fails limit rest same e other not_written = absurd (other refl)
+        inr (begun_each limit rest same walk starts infos at drawn more (λ l. subst (HaveParents (stored rs) []) (sym place) lacks.whole) (subst (λ x. Appends old x (lines_of infos)) is written))
+    fails_so left is limit rest same e other (not_walked why f) = inl (sym is)
+    fails_so left is limit rest same e other unserved = inl (sym is)
+    fails_so left is limit rest same e other not_written = absurd (other refl)
+
+    pub simple_fails : (limit : Option ℕ) (rest : List (List ℕ)) → AreBehind limit rest words → (e : Fault) → e ≢ fault.Write → Serves (stored rs) [] old (Commits (Simple m by) limit tips hidden) (Err e) new → (new ≡ old) ⊎ IsWritten false (name ∷ (option ++ rest))
+    simple_fails = fails_so new refl

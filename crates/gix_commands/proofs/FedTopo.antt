@@ -108,8 +108,11 @@ module _ (rs : List Record) (by : Sorting) (tips ends : List ObjectId) (some : t
     pub topo_run : Serves (stored rs) [] old (Commits (Topo by) limit tips ends) (Ok tt) new → InEach (fed rs) [] (λ ps ts. page.Serves (fed rs) [] ps ts old new (name ∷ (option ++ rest)))
     topo_run (walked_down walk infos built drawn written) = ended_run walk built old new name option words named untimed plain are limit rest same infos drawn written
 
+    fails_so : (left : Option (List ℕ)) → left ≡ new → (e : Fault) → e ≢ fault.Write → Serves (stored rs) [] old (Commits (Topo by) limit tips ends) (Err e) left → (new ≡ old) ⊎ InEach (fed rs) [] (λ ps ts. page.HasBegun (fed rs) [] ps ts old new (name ∷ (option ++ rest)))
+    fails_so left is e other (walked_down walk infos built drawn written) = inr (stopped_run walk built old new name option words named untimed plain are limit rest same infos e drawn (subst (λ x. Appends old x (lines_of infos)) is written))
+    fails_so left is e other (not_built why h) = inl (sym is)
+    fails_so left is e other unserved = inl (sym is)
+    fails_so left is e other not_written = absurd (other refl)
+
     pub topo_fails : (e : Fault) → e ≢ fault.Write → Serves (stored rs) [] old (Commits (Topo by) limit tips ends) (Err e) new → (new ≡ old) ⊎ InEach (fed rs) [] (λ ps ts. page.HasBegun (fed rs) [] ps ts old new (name ∷ (option ++ rest)))
-    topo_fails e other (walked_down walk infos built drawn written) = inr (stopped_run walk built old new name option words named untimed plain are limit rest same infos e drawn written)
-    topo_fails e other (not_built why h) = inl refl
-    topo_fails e other unserved = inl refl
-    topo_fails e other not_written = absurd (other refl)
+    topo_fails = fails_so new refl

@@ -4,7 +4,6 @@ use Rattle.std.specs.Prelude.{◌≡◌, ◌≢◌, ◌⊎◌, ℕ, ◌^◌, nat
 use Rattle.std.specs.Fmt.{digits}
 use Rattle.std.specs.Io.KnownBytes.{Appends}
 use Rattle.gix_hash.specs.declared.ObjectId.{ObjectId}
-
 -- These words are those of the page of `gix_statement`.
 pub use Rattle.gix_statement.specs.WholeStatement.{IsNumber, bytes_in, digits_in, Spells, Counts, Reaches, start, parent, Keeps, empty, kept, passed, Follows, all, first, since}
 pub use Rattle.gix_statement.specs.WholeStatement.{IsShown, IsPending, IsReady, by_time, AreMadeReady, IsNumberShown, Entry, AreEntries, IsTree, Unfolds, whole, other, tree, id_line, entry_line, AreTips, Object, Objects, AreFed}
