@@ -3,8 +3,8 @@ use Rattle.std.proofs.Common.{◌≡◌, ◌≢◌, ◌⊎◌, ◌≤◌, ◌+�
 use Rattle.std.proofs.Common.{◌∙◌, arith, length-append, le_refl, le_trans}
 use Rattle.std.specs.FinMap as map_of
 use Rattle.std.specs.FinSet as set
-use Rattle.gix_simple.proofs.Common.{or_right, or_left, map-append, length_permutation, ObjectId, is_same, is_among, kind_of, Item, commit_items, Objects, GraphRow, row_of, CommitTimeOrder, Info, Parents, by_mode, ids_of, Pending}
-use Rattle.gix_simple.proofs.Common.{ids_at, scanned, text_parents, Error, named_in, SimpleWalk, Treated, StoreFails, GoesOn, time_order, unrowed, asked, Asks, IsNew, Treats, hidden, refused, accepted, dropped, enqueued}
+use Rattle.gix_simple.proofs.Common.{or_right, or_left, map-append, length_permutation, ObjectId, is_same, is_among, kind_of, Item, commit_items, Objects, GraphRow, row_of, Info, Parents, by_mode, ids_of, Pending}
+use Rattle.gix_simple.proofs.Common.{ids_at, scanned, text_parents, Error, named_in, SimpleWalk, Treated, StoreFails, GoesOn, unrowed, asked, Asks, IsNew, Treats, hidden, refused, accepted, dropped, enqueued}
 use Rattle.gix_simple.proofs.Common.{store_fails, no_memory_after, TreatsAll, stops, Concludes, given, broken, Takes, by_row, by_store, not_found, Chooses, first, best, Steps, took, FirstStep, unhidden, Next, initial, later}
 use Rattle.gix_simple.proofs.Common.{among-append, among_from, among_is, Contains-here, Contains-there, times-append, among_times, times_is_among, among_flat, walked_within}
 use Rattle.gix_object.specs.declared.Kind.TheVariants as object

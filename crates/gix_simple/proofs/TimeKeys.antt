@@ -1,5 +1,5 @@
 -- The keys of pending commits in an order by time.
-use Rattle.std.proofs.Common.{◌≡◌, ◌<ℤ◌, ◌≤ℤ◌, ℤ, List, [], ◌∷◌, ◌++◌, Contains, Option, Some, All, sym, ap, subst, ⊎_elim, ◌∙◌, arith}
+use Rattle.std.proofs.Common.{◌≡◌, ◌<ℤ◌, ◌≤ℤ◌, ℤ, List, [], ◌∷◌, ◌++◌, Contains, Option, Some, sym, ap, subst, ⊎_elim, ◌∙◌, arith}
 use Rattle.std.proofs.lemmas.Int.{ints}
 use Rattle.std.proofs.lemmas.List.Elements.{All-append, All-contains, All-contains_itself, All-weaker}
 use Rattle.gix_simple.proofs.Common.{All-cons, All-nil, map-append, values, Contains-here, Contains-there, Contains-cons_cases, Contains-append_cases, Contains-append_left, Contains-append_right, no_member, CommitTimeOrder, Pending, time_key, AreKeyed, TakesBest, TakesOut}

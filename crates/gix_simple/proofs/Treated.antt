@@ -1,9 +1,9 @@
 -- The parents of a commit, treated in order: what becomes pending and seen.
-use Rattle.std.proofs.Common.{ℕ, ◌≡◌, ◌⊎◌, ◌+◌, ℤ, pos, List, [], ◌∷◌, ◌++◌, filter, Bool, true, false, not, ◌&&◌, ◌||◌, Option, Some, None, Ok, Contains, IsPermutation, refl, sym, ap, subst, ⊎_elim, ◌∙◌, append_assoc, append-nil, arith}
+use Rattle.std.proofs.Common.{ℕ, ◌≡◌, ◌⊎◌, ℤ, pos, List, [], ◌∷◌, ◌++◌, filter, Bool, true, false, not, ◌&&◌, ◌||◌, Option, Some, None, Ok, Contains, IsPermutation, refl, sym, ap, subst, ⊎_elim, ◌∙◌, append_assoc, append-nil, arith}
 use Rattle.gix_simple.proofs.Common.{map-append, IsPermutation-map, IsPermutation-middle, filter-append, Contains-append_cases, and_left, and_right, and_parts, not_from_true, ObjectId, id_cmp, is_same, is_among}
 use Rattle.gix_simple.proofs.Common.{Objects, GraphRow, row_of, Parents, CommitTimeOrder, Sorting, IsAgreeing, time_of, Pending, SimpleWalk, Treated, GoesOn, TakesBest, time_order, cutoff, is_older, row_time, Asks, remembers, ReadsTime}
 use Rattle.gix_simple.proofs.Common.{unasked, from_row, from_store, Enqueues, dropped, enqueued, Treats, hidden, refused, accepted, TreatsAll, stops, ids_of, Becomes, further, AnswersBy, is_kept, id_total, same_is, among-one}
-use Rattle.gix_simple.proofs.Common.{Contains-here, Contains-there, no_member, fresh, fresh_agree, fresh-append, times-append, times_moved, among-filter, row_says_time, only_member}
+use Rattle.gix_simple.proofs.Common.{Contains-here, Contains-there, no_member, fresh, fresh_agree, fresh-append, times_moved, among-filter, row_says_time, only_member}
 use Rattle.std.specs.FinSet as set
 use Rattle.gix_simple.specs.Walk.{asks, asked as asked_walk, known, none, more}
 use Rattle.gix_revwalk.proofs.NewIds.{times}

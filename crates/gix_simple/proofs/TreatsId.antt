@@ -1,5 +1,5 @@
 -- How a walk treats the ids that tips or a parent list name, one after the other.
-use Rattle.std.proofs.Common.{◌≡◌, ℤ, List, [], ◌∷◌, ◌++◌, Bool, true, false, not, ◌||◌, Option, Some, Result, Ok, Err, IfOk, IfErr, refl, sym, ap, subst, inl, inr, ◌∙◌, arith, ⊎_elim, true≢false}
+use Rattle.std.proofs.Common.{◌≡◌, ℤ, List, [], ◌∷◌, ◌++◌, Bool, true, false, not, ◌||◌, Some, Result, Ok, Err, IfOk, IfErr, refl, sym, ap, subst, inl, inr, ◌∙◌, arith, ⊎_elim, true≢false}
 use Rattle.gix_simple.proofs.Common.{false≢true, ObjectId, id_cmp, is_same, Objects, id_total, id_apart, same_is, CommitTimeOrder, Pending, time_of, Meets, TimeIs, SimpleWalk, bare, asked, Treated, GoesOn, NoMemory, StoreFails, Asks}
 use Rattle.gix_simple.proofs.Common.{remembers, ReadsTime, unasked, from_row, from_store, store_fails, Enqueues, enqueued, is_older, time_order, cutoff, IsNew, Treats, hidden, refused, accepted, no_memory_after, TreatsAll, stops}
 use Rattle.gix_simple.proofs.Common.{IsMade, how_ended}

@@ -28,7 +28,7 @@ pub fn tables() -> &'static [Table<'static>] {
     &TABLES
 }
 
-static TABLES: [Table<'static>; 16] = [
+static TABLES: [Table<'static>; 17] = [
     Table {
         cases: &[
             (&[8], [BREADTH, OLDEST], &[], "8 6 5 3 1 7 4 2"),

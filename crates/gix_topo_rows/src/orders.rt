@@ -45,7 +45,7 @@ pub fn tables() -> &'static [Table<'static>] {
     &TABLES
 }
 
-static TABLES: [Table<'static>; 25] = [
+static TABLES: [Table<'static>; 26] = [
     Table {
         cases: &[
             (&[8], &[], "8 7 4 2 6 5 3 1"),
