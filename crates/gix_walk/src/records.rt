@@ -102,7 +102,10 @@ fn read_layers<'a>(
     layers: &mut Vec<Vec<u8>>,
 ) -> Result<&'a [String], Failure> {
     let mut left = words;
-    while let [option, file, rest @ ..] = left {
+    for _ in 0..words.len() {
+        let [option, file, rest @ ..] = left else {
+            break;
+        };
         if option.as_str() != "--commit-graph" {
             break;
         }
