@@ -217,13 +217,13 @@ impl Asking<'_> {
         for _ in 0..MOST_READINGS {
             gathering.read_more(&mut repository.odb, graph, count)?;
             let mut lines = Vec::new(alloc);
-            let ended = run_stored(
+            let ended = in_memory(run_stored(
                 alloc,
                 words.as_slice(),
                 &gathering.store(),
                 graph,
                 &mut lines,
-            );
+            ));
             if let Err(Fault::Missing(id)) = &ended {
                 if gathering.waits(id) {
                     self.progress.show(self.rt, gathering.len());
@@ -272,7 +272,7 @@ impl Asking<'_> {
             Name::Resolve => self.write_ids(output),
             Name::Contains => {
                 let mut lines = Vec::new(alloc);
-                run_stored(alloc, words.as_slice(), store, graph, &mut lines)?;
+                in_memory(run_stored(alloc, words.as_slice(), store, graph, &mut lines))?;
                 write(output, lines.as_slice())?;
                 let contained = lines.iter().filter(|byte| **byte == b'\n').count();
                 if contained.saturating_add(1) < self.chosen.tips.len() {
@@ -286,6 +286,14 @@ impl Asking<'_> {
                 Ok(0)
             }
         }
+    }
+}
+
+/// How a run into memory ended: it can't be written where memory ran out.
+fn in_memory(ended: Result<(), Fault>) -> Result<(), Fault> {
+    match ended {
+        Err(Fault::Write) => Err(Fault::Memory),
+        ended => ended,
     }
 }
 
