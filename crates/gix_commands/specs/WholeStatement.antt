@@ -128,7 +128,8 @@ module _ {I : Type 0} (parents followed : I → List I) (time : I → ℤ) (star
     breadth : IsFirst (IsPending taken) (starts ++ flat_map followed taken) rest → Comes taken rest (codes "breadth")
     newest : IsFirstBest (λ i other. time other ≤ℤ time i) (IsPending taken) (starts ++ flat_map followed taken) rest → Comes taken rest (codes "newest")
     oldest : IsFirstBest (λ i other. time i ≤ℤ time other) (IsPending taken) (starts ++ flat_map followed taken) rest → Comes taken rest (codes "oldest")
-    date : (ready : List I) → AreMadeReady (reverse taken) ready → IsFirstBest (λ i other. time other ≤ℤ time i) (IsReady taken) ready rest → Comes taken rest (codes "date")
+    date : (ready : List I) → AreMadeReady (reverse taken) ready → IsFirstBest (λ i other. time other ≤ℤ time i) (IsReady taken) ready rest
+        → Comes taken rest (codes "date")
     topo : (ready : List I) → AreMadeReady (reverse taken) ready → IsFirst (λ i. Contains taken i → ⊥) (reverse ready) rest → Comes taken rest (codes "topo")
 
   -- What is shown is listed once and in order. In a topological order all of it is listed where no commit shown is its own ancestor.
