@@ -66,5 +66,5 @@ pub use Rattle.gix_commands.specs.Run.{bad_record, counted, disagrees, no_comman
 pub use Rattle.gix_commands.specs.Run.{without_memory}
 pub use Rattle.gix_commands.specs.TopoWalked.{IsBuiltFrom, plan_from}
 pub use Rattle.gix_commands.specs.Walked.{accepts_all, before, cut_short, Ends, EndsBy, EndsWithin, enough, FailsAtStart, finished, IsMadeOf, IsStartFault, line_of, lines_of, never_faulty, objects_of, StartsFrom}
-pub use Rattle.gix_commands.specs.WholeStatement.{all, AreEntries, AreHistory, AreMadeReady, AreParentLines, AreTips, breadth, bytes_in, Comes, commits, digits_in, Entry, entry_line, Follows, Holds, IsFirst, IsNumber, IsNumberShown}
+pub use Rattle.gix_commands.specs.WholeStatement.{all, AreEntries, AreHistory, AreMadeReady, AreParentLines, AreTips, breadth, bytes_in, Comes, commits, digits_in, Entry, entry_line, Follows, IsFirst, IsNumber, IsNumberShown}
 pub use Rattle.gix_commands.specs.WholeStatement.{IsSigned, IsTime, IsTree, Names, negative, newest, positive, Promises, since, Spells, unsigned}

@@ -57,7 +57,7 @@ module _ (objects : Objects) (rows : List GraphRow) (agreeing : IsAgreeing objec
   begins n old new (walked walk infos starts ends parents written) = written_up_to (IsSimpleList objects m by tips hidden) n infos old new (up_to n walk infos starts ends) written
 
 module _ (objects : Objects) (rows : List GraphRow) (agree : IsAgreeing objects rows) (by : TopoSorting) (tips ends : List ObjectId) where
-  up_to_down : (n : ℕ) (walk : topo.Walk) (infos : List Info) → topo.IsBuiltFrom objects rows by tips ends (Ok walk) → EndsWithin topo.Answers topo.IsWalkFault n walk infos (Ok tt) → AreUpTo (ListsRead objects by tips ends) n infos
+  pub up_to_down : (n : ℕ) (walk : topo.Walk) (infos : List Info) → topo.IsBuiltFrom objects rows by tips ends (Ok walk) → EndsWithin topo.Answers topo.IsWalkFault n walk infos (Ok tt) → AreUpTo (ListsRead objects by tips ends) n infos
   up_to_down n walk infos built (enough at drawn e) = as_many (ListsRead objects by tips ends) n infos e (first_given_down objects rows agree by tips ends walk built infos at drawn)
   up_to_down n walk infos built (before drawn less) =
       fewer (ListsRead objects by tips ends) n infos less

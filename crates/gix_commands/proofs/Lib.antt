@@ -52,4 +52,10 @@ mod SameWords
 mod SameContained
 mod SameLists
 mod WholeRuns
-mod WholeExamples
+mod FedCommits
+mod FedTexts
+mod FedLists
+mod FedNames
+mod FedSimple
+mod FedTopo
+mod FedRuns

@@ -6,7 +6,7 @@ use Rattle.gix_revwalk.specs.TimeOrder.{IsFirstBest, IsPending}
 use Rattle.gix_commands.proofs.Parts.{retimed, left_pending}
 
 -- the first of a list are among more of the first
-take_less : (k n : ℕ) (xs : List ObjectId) (i : ObjectId) → k ≤ n → Contains (take k xs) i → Contains (take n xs) i
+pub take_less : (k n : ℕ) (xs : List ObjectId) (i : ObjectId) → k ≤ n → Contains (take k xs) i → Contains (take n xs) i
 take_less zero n xs i less c = absurd (no_member i c)
 take_less (suc k) zero xs i less c = absurd (omega arith)
 take_less (suc k) (suc n) [] i less c = c

@@ -3,37 +3,40 @@ use Rattle.std.proofs.Common.{◌≡◌, ◌≢◌, ◌⊎◌, ◌==◌, ℕ, su
 use Rattle.std.proofs.Common.{append_assoc, get_or, eqb-true, eq-eqb}
 use Rattle.std.specs.FinMap as map_of
 use Rattle.gix_commands.proofs.Common.{get, cond-true, cond-false, false≢true, All-nil, All-cons, All-contains, Contains-append_right, same_Some, none-some, ObjectId, id_cmp, is_same, id_total, same_is, same_from, Contains-here}
-use Rattle.gix_commands.proofs.Common.{Contains-there, Contains-cons_cases, no_member, behind_last, without_spaces, digits_from, signed_seconds, seconds_behind, seconds_of, Object, Objects, kind_word, put_in, stored, Holds, Spells}
+use Rattle.gix_commands.proofs.Common.{Contains-there, Contains-cons_cases, no_member, behind_last, without_spaces, digits_from, signed_seconds, seconds_behind, seconds_of, Object, Objects, kind_word, put_in, stored, Spells}
 use Rattle.gix_commands.proofs.Common.{AreParentLines, IsTime, unsigned, positive, negative}
 use Rattle.gix_hash.specs.declared.Kind.{Kind}
 use Rattle.gix_object.specs.declared.Kind.{Kind as ObjectKind}
 use Rattle.gix_object.specs.declared.Kind.TheVariants as kind
 use Rattle.gix_object.specs.CommitText as text
 use Rattle.gix_records.specs.Records as records
-use Rattle.gix_commands.specs.WholeStatement.{Record, AreRecords}
+use Rattle.std.specs.Option.{option_map}
+use Rattle.gix_records.specs.Input.{Tells}
+use Rattle.gix_statement.specs.WholeStatement as page
+use Rattle.gix_statement.specs.WholeStatement.{AreFed, AreRecords, IsLast, kinds}
 use Rattle.gix_commands.proofs.SameNumbers.{hex_spelled, spelled, spells_again, is_decimal, counts, width_of}
 
 -- a record, with the word of its kind
-abbrev pub worded : records.Record → Record
-worded r = record { kind = kind_word r.kind; id = r.id; bytes = r.bytes }
+abbrev pub worded : records.Record → ObjectId × page.Object
+worded r = (r.id, record { kind = kind_word r.kind; bytes = r.bytes })
 
-is_kind : (k : ObjectKind) → Contains (codes "tree" ∷ codes "blob" ∷ codes "commit" ∷ codes "tag" ∷ []) (kind_word k)
+is_kind : (k : ObjectKind) → Contains kinds (kind_word k)
 is_kind kind.Tree = (0, omega arith, refl)
 is_kind kind.Blob = (1, omega arith, refl)
 is_kind kind.Commit = (2, omega arith, refl)
 is_kind kind.Tag = (3, omega arith, refl)
 
-pub are_records : (rs : List records.Record) (input : List ℕ) → records.AreRecords rs input → AreRecords (map worded rs) input
+are_records : (rs : List records.Record) (input : List ℕ) → records.AreRecords rs input → AreRecords (map worded rs) input
 are_records [] input h = h
 are_records (r ∷ rs) input (rest, is, more) =
     (is.id_digits, is.length_digits, rest, is_kind r.kind, hex_spelled is.id_digits r.id is.is_id, is_decimal is.length_digits (length r.bytes) is.is_length, are_records rs rest more, is.whole)
 
 -- no record has this id
 abbrev HasNone : List records.Record → ObjectId → Type 0
-HasNone rs i = (r : Record) → Contains (map worded rs) r → r.id ≢ i
+HasNone rs i = (o : page.Object) → Contains (map worded rs) (i, o) → ⊥
 
 none_more : (r : records.Record) (rs : List records.Record) (i : ObjectId) → r.id ≢ i → HasNone rs i → HasNone (r ∷ rs) i
-none_more r rs i other none q c = ⊎_elim (λ e s. other (ap (λ (x : Record). x.id) e ∙ s)) (λ t. none q t) (Contains-cons_cases q (worded r) (map worded rs) c)
+none_more r rs i other none o c = ⊎_elim (λ e. other (ap (λ p. p.0) e)) (none o) (Contains-cons_cases (i, o) (worded r) (map worded rs) c)
 
 abbrev object_of : records.Record → Object
 object_of r = record { kind = r.kind; bytes = r.bytes }
@@ -44,51 +47,69 @@ put objects r = map_of.insert objects r.id (object_of r)
 pub get_put : (objects : Objects) (r : records.Record) (i : ObjectId) → get (put objects r) i ≡ cond (is_same i r.id) (Some (object_of r)) (get objects i)
 get_put objects r i = map_of.get-insert id_total objects r.id (object_of r) i
 
--- what was in a store before stays there where no record has its id
-kept : (rs : List records.Record) (objects : Objects) (i : ObjectId) → HasNone rs i → get (put_in objects rs) i ≡ get objects i
-kept [] objects i none = refl
-kept (r ∷ rs) objects i none =
-    kept rs (put objects r) i (λ q c. none q (Contains-there q (worded r) (map worded rs) c)) ∙ get_put objects r i
-    ∙ other (is_same i r.id) refl
-  where
-    other : (t : Bool) → is_same i r.id ≡ t → cond t (Some (object_of r)) (get objects i) ≡ get objects i
-    other true s = absurd (none (worded r) (Contains-here (worded r) (map worded rs)) (sym (same_is i r.id s)))
-    other false s = refl
+-- an object, with the word of its kind
+abbrev pub as_object : Object → page.Object
+as_object o = record { kind = kind_word o.kind; bytes = o.bytes }
 
--- an object is of a record, or was there before
-of_record : (rs : List records.Record) (objects : Objects) (i : ObjectId) (o : Object) → get (put_in objects rs) i ≡ Some o → Holds (map worded rs) i (kind_word o.kind) o.bytes ⊎ ((get objects i ≡ Some o) × HasNone rs i)
-of_record [] objects i o e = inr (e, λ q c. absurd (no_member q c))
+-- an object is that of the last record of its id, or was there before
+of_record : (rs : List records.Record) (objects : Objects) (i : ObjectId) (o : Object) → get (put_in objects rs) i ≡ Some o → IsLast (map worded rs) i (Some (as_object o)) ⊎ ((get objects i ≡ Some o) × HasNone rs i)
+of_record [] objects i o e = inr (e, λ q c. absurd (no_member (i, q) c))
 of_record (r ∷ rs) objects i o e = ⊎_elim (λ h. inl (worded r ∷ h.0, h.1, ap (λ xs. worded r ∷ xs) h.2, h.3)) (λ h. go (is_same i r.id) refl (sym (get_put objects r i) ∙ h.0) h.1) (of_record rs (put objects r) i o e)
   where
-    go : (t : Bool) → is_same i r.id ≡ t → cond t (Some (object_of r)) (get objects i) ≡ Some o → HasNone rs i → Holds (map worded (r ∷ rs)) i (kind_word o.kind) o.bytes ⊎ ((get objects i ≡ Some o) × HasNone (r ∷ rs) i)
+    go : (t : Bool) → is_same i r.id ≡ t → cond t (Some (object_of r)) (get objects i) ≡ Some o → HasNone rs i → IsLast (map worded (r ∷ rs)) i (Some (as_object o)) ⊎ ((get objects i ≡ Some o) × HasNone (r ∷ rs) i)
     go true s e none =
         let same : object_of r ≡ o = same_Some (object_of r) o e in
-        let whole : worded r ≡ record { kind = kind_word o.kind; id = i; bytes = o.bytes } = (λ k. record { kind = kind_word (same k).kind; id = sym (same_is i r.id s) k; bytes = (same k).bytes }) in
-        inl ([], map worded rs, ap (λ x. x ∷ map worded rs) whole, none)
+        inl ([], map worded rs, (λ k. (sym (same_is i r.id s) k, as_object (same k)) ∷ map worded rs), none)
     go false s e none = inr (e, none_more r rs i (λ same. false≢true (sym s ∙ same_from i r.id (sym same))) none)
 
-pub held : (rs : List records.Record) (i : ObjectId) (o : Object) → get (stored rs) i ≡ Some o → Holds (map worded rs) i (kind_word o.kind) o.bytes
-held rs i o e = ⊎_elim (λ h. h) (λ h. let no : None ≡ Some o = sym (map_of.get-empty id_cmp i) ∙ h.0 in absurd (none-some o no)) (of_record rs map_of.empty i o e)
+-- once an id has an object it keeps one
+some_stays : (rs : List records.Record) (objects : Objects) (i : ObjectId) (o : Object) → get objects i ≡ Some o → (p : Object) × (get (put_in objects rs) i ≡ Some p)
+some_stays [] objects i o e = (o, e)
+some_stays (r ∷ rs) objects i o e = go (some_stays rs (put objects r) i) (is_same i r.id) refl
+  where
+    go : ((p : Object) → get (put objects r) i ≡ Some p → (q : Object) × (get (put_in (put objects r) rs) i ≡ Some q)) → (t : Bool) → is_same i r.id ≡ t → (p : Object) × (get (put_in (put objects r) rs) i ≡ Some p)
+    go more true s = more (object_of r) (get_put objects r i ∙ cond-true (is_same i r.id) _ _ s)
+    go more false s = more o (get_put objects r i ∙ cond-false (is_same i r.id) _ _ s ∙ e)
 
--- and back: what the last record of an id has is in the store
-back : (rs : List records.Record) (objects : Objects) (before after : List Record) (i : ObjectId) (word bytes : List ℕ) → map worded rs ≡ before ++ record { kind = word; id = i; bytes = bytes } ∷ after → ((r : Record) → Contains after r → r.id ≢ i)
-    → (o : Object) × (get (put_in objects rs) i ≡ Some o) × (kind_word o.kind ≡ word) × (o.bytes ≡ bytes)
-back [] objects [] after i word bytes e none = cc
-back [] objects (b ∷ before) after i word bytes e none = cc
-back (r ∷ rs) objects [] after i word bytes e none =
-    let first : worded r ≡ record { kind = word; id = i; bytes = bytes } = cc in
-    let others : map worded rs ≡ after = cc in
-    let stays : get (put_in (put objects r) rs) i ≡ get (put objects r) i = kept rs (put objects r) i (subst (λ xs. (q : Record) → Contains xs q → q.id ≢ i) (sym others) none) in
-    let is : is_same i r.id ≡ true = same_from i r.id (sym (ap (λ (x : Record). x.id) first)) in (
-      object_of r,
-      stays ∙ get_put objects r i ∙ cond-true (is_same i r.id) _ _ is,
-      ap (λ (x : Record). x.kind) first,
-      ap (λ (x : Record). x.bytes) first,
-    )
-back (r ∷ rs) objects (b ∷ before) after i word bytes e none = back rs (put objects r) before after i word bytes (let t : map worded rs ≡ before ++ record { kind = word; id = i; bytes = bytes } ∷ after = cc in t) none
+is_stored : (rs : List records.Record) (objects : Objects) (i : ObjectId) (o : page.Object) → Contains (map worded rs) (i, o) → (p : Object) × (get (put_in objects rs) i ≡ Some p)
+is_stored [] objects i o c = absurd (no_member (i, o) c)
+is_stored (r ∷ rs) objects i o c =
+    ⊎_elim
+    (λ e. some_stays rs (put objects r) i (object_of r) (get_put objects r i ∙ cond-true (is_same i r.id) _ _ (same_from i r.id (sym (ap (λ p. p.0) e)))))
+    (is_stored rs (put objects r) i o)
+    (Contains-cons_cases (i, o) (worded r) (map worded rs) c)
 
-pub held_back : (rs : List records.Record) (i : ObjectId) (word bytes : List ℕ) → Holds (map worded rs) i word bytes → (o : Object) × (get (stored rs) i ≡ Some o) × (kind_word o.kind ≡ word) × (o.bytes ≡ bytes)
-held_back rs i word bytes h = back rs map_of.empty h.0 h.1 i word bytes h.2 h.3
+-- the objects of records, as the statement has them
+abbrev pub fed : List records.Record → page.Objects
+fed rs i = option_map as_object (get (stored rs) i)
+
+is_last : (rs : List records.Record) (i : ObjectId) → IsLast (map worded rs) i (fed rs i)
+is_last rs i = go (get (stored rs) i) refl
+  where
+    go : (o : Option Object) → get (stored rs) i ≡ o → IsLast (map worded rs) i (option_map as_object o)
+    go None e = λ o c. let s = is_stored rs map_of.empty i o c in none-some s.0 (sym e ∙ s.1)
+    go (Some o) e = ⊎_elim (λ h. h) (λ h. let no : None ≡ Some o = sym (map_of.get-empty id_cmp i) ∙ h.0 in absurd (none-some o no)) (of_record rs map_of.empty i o e)
+
+pub are_fed : (rs : List records.Record) (has : Option (List ℕ)) (input : List ℕ) → Tells has input → records.AreRecords rs input → AreFed has (fed rs)
+are_fed rs None input h are = (input, inl refl, map worded rs, are_records rs input are, is_last rs)
+are_fed rs (Some bytes) input h are = (input, inr (ap Some (sym h)), map worded rs, are_records rs input are, is_last rs)
+
+-- the object of an id has this kind and these bytes
+abbrev pub IsFed : List records.Record → ObjectId → List ℕ → List ℕ → Type 0
+IsFed rs i word bytes = fed rs i ≡ Some (record { kind = word; bytes = bytes })
+
+pub held : (rs : List records.Record) (i : ObjectId) (o : Object) → get (stored rs) i ≡ Some o → IsFed rs i (kind_word o.kind) o.bytes
+held rs i o e = ap (option_map as_object) e
+
+-- and back: it is in the store
+pub held_back : (rs : List records.Record) (i : ObjectId) (word bytes : List ℕ) → IsFed rs i word bytes → (o : Object) × (get (stored rs) i ≡ Some o) × (kind_word o.kind ≡ word) × (o.bytes ≡ bytes)
+held_back rs i word bytes h = go (get (stored rs) i) refl h
+  where
+    go : (found : Option Object) → get (stored rs) i ≡ found → option_map as_object found ≡ Some (record { kind = word; bytes = bytes }) → (o : Object) × (get (stored rs) i ≡ Some o) × (kind_word o.kind ≡ word) × (o.bytes ≡ bytes)
+    go None at e = absurd (none-some _ e)
+    go (Some o) at e =
+        let same : as_object o ≡ record { kind = word; bytes = bytes } = same_Some _ _ e in
+        (o, at, ap (λ (x : page.Object). x.kind) same, ap (λ (x : page.Object). x.bytes) same)
 
 -- lines
 one_more : (word content lines tail : List ℕ) → ((word ++ content ++ 10 ∷ []) ++ lines) ++ tail ≡ word ++ content ++ 10 ∷ (lines ++ tail)
@@ -123,18 +144,20 @@ no_parent : (width : ℕ) (author signature rest : List ℕ) → HasNoMore width
 no_parent width author signature rest p id more spells e = absurd (omega (arith, ap (λ xs. get_or xs 0 0) e))
 
 -- what the statement says of the text of a commit
-abbrev pub IsText : ℕ → List ℕ → List ObjectId → List ℕ → Type 0
-IsText width bytes parents signature =
-    (tree : ObjectId) × (id lines author rest : List ℕ) × Spells width id tree × All (λ b. b ≢ 10) author × All (λ b. b ≢ 10) signature
+abbrev pub IsTextOf : ObjectId → ℕ → List ℕ → List ObjectId → List ℕ → Type 0
+IsTextOf tree width bytes parents signature =
+    (id lines author rest : List ℕ) × Spells width id tree × All (λ b. b ≢ 10) author × All (λ b. b ≢ 10) signature
     × AreParentLines width parents lines (signed_rest author signature rest) × (bytes ≡ codes "tree " ++ id ++ 10 ∷ lines)
+
+abbrev pub IsText : ℕ → List ℕ → List ObjectId → List ℕ → Type 0
+IsText width bytes parents signature = (tree : ObjectId) × IsTextOf tree width bytes parents signature
 
 -- four lines, one after the other
 four_lines : (a b lines c d e f rest : List ℕ) → (a ++ b ++ 10 ∷ []) ++ lines ++ (c ++ d ++ 10 ∷ []) ++ (e ++ f ++ 10 ∷ []) ++ rest ≡ a ++ b ++ 10 ∷ (lines ++ (c ++ d ++ 10 ∷ (e ++ f ++ 10 ∷ rest)))
 four_lines a b lines c d e f rest = simp append_assoc refl
 
-pub commit_text : (k : Kind) (bytes : List ℕ) (tree : ObjectId) (parents : List ObjectId) (signature : List ℕ) → text.IsCommitText k bytes tree parents signature → IsText (width_of k) bytes parents signature
+pub commit_text : (k : Kind) (bytes : List ℕ) (tree : ObjectId) (parents : List ObjectId) (signature : List ℕ) → text.IsCommitText k bytes tree parents signature → IsTextOf tree (width_of k) bytes parents signature
 commit_text k bytes tree parents signature t = (
-  tree,
   t.is_tree_line.0,
   t.parent_lines ++ signed_rest t.author signature t.rest,
   t.author,
@@ -148,7 +171,7 @@ commit_text k bytes tree parents signature t = (
 )
 
 pub commit_text_back : (k : Kind) (bytes : List ℕ) (parents : List ObjectId) (signature : List ℕ) → IsText (width_of k) bytes parents signature → (tree : ObjectId) × text.IsCommitText k bytes tree parents signature
-commit_text_back k bytes parents signature (tree, id, lines, author, rest, spells, named, signed, are, whole) =
+commit_text_back k bytes parents signature (tree, (id, lines, author, rest, spells, named, signed, are, whole)) =
     let h = parent_lines_back k parents lines (signed_rest author signature rest) are in (
       tree,
       record {

@@ -1,41 +1,41 @@
 -- The parents and the times that a store has are those that the statement says its records have.
 use Rattle.std.proofs.Common.{◌≡◌, ◌≢◌, ◌⊎◌, ◌++◌, ℕ, ℤ, pos, List, [], ◌∷◌, map, Option, Some, None, codes, refl, sym, ap, subst, ◌∙◌, inl, inr, ⊎_elim}
 use Rattle.gix_commands.proofs.Common.{get, same_Some, none-some, ObjectId, kind_of, Commit, seconds_of, read_commit, Object, kind_word, stored, commit_at, commit_of_kind, commit_of_object, time_of, time_in, next_in, text_next}
-use Rattle.gix_commands.proofs.Common.{text_parents_of_kind, Holds, IsSigned, IsTime, Names, AreHistory, digits_in}
+use Rattle.gix_commands.proofs.Common.{text_parents_of_kind, IsSigned, IsTime, Names, AreHistory, digits_in}
 use Rattle.gix_hash.specs.declared.ObjectId.TheVariants as id
 use Rattle.gix_object.specs.declared.Kind.{Kind as ObjectKind}
 use Rattle.gix_object.specs.declared.Kind.TheVariants as kind
 use Rattle.gix_object.proofs.Commits.Texts.{reads_texts}
 use Rattle.gix_records.specs.Records.{Record}
-use Rattle.gix_commands.specs.WholeStatement.{Record as PageRecord}
+use Rattle.gix_statement.specs.WholeStatement.{Objects}
 use Rattle.gix_commands.proofs.SameNumbers.{width_of}
-use Rattle.gix_commands.proofs.SameCommits.{worded, held, held_back, IsText, commit_text, commit_text_back, is_time}
+use Rattle.gix_commands.proofs.SameCommits.{IsFed, fed, held, held_back, IsText, commit_text, commit_text_back, is_time}
 use Rattle.gix_commands.proofs.SameTexts.{AreNamed, IsNaming, texts}
 
 pub own_width : (i : ObjectId) → width_of (kind_of i) ≡ digits_in i
 own_width (id.Sha1 bytes) = refl
 own_width (id.Sha256 bytes) = refl
 
-is_commit_kind : (k : ObjectKind) → kind_word k ≡ codes "commit" → k ≡ kind.Commit
+pub is_commit_kind : (k : ObjectKind) → kind_word k ≡ codes "commit" → k ≡ kind.Commit
 is_commit_kind kind.Commit e = refl
 is_commit_kind kind.Tree e = cc
 is_commit_kind kind.Blob e = cc
 is_commit_kind kind.Tag e = cc
 
 module _ (rs : List Record) (i : ObjectId) where
-  abbrev all : List PageRecord
-  all = map worded rs
+  abbrev all : Objects
+  all = fed rs
 
   -- the committer
-  of_text : (bytes : List ℕ) (parents : List ObjectId) (signature : List ℕ) (time : ℤ) → Holds all i (codes "commit") bytes → IsText (digits_in i) bytes parents signature → IsTime signature time → IsSigned all i time
-  of_text bytes parents signature time holds (tree, digits, lines, author, rest, spells, named, signed, are, whole) timed =
-      (parents, author, signature, rest, named, signed, timed, (tree, digits, lines, spells, are, subst (Holds all i (codes "commit")) whole holds))
+  of_text : (bytes : List ℕ) (parents : List ObjectId) (signature : List ℕ) (time : ℤ) → IsFed rs i (codes "commit") bytes → IsText (digits_in i) bytes parents signature → IsTime signature time → IsSigned all i time
+  of_text bytes parents signature time holds (tree, (digits, lines, author, rest, spells, named, signed, are, whole)) timed =
+      (parents, author, signature, rest, named, signed, timed, (tree, digits, lines, spells, are, subst (IsFed rs i (codes "commit")) whole holds))
 
   of_object : (o : Object) → get (stored rs) i ≡ Some o → (c : Commit) (k : ObjectKind) → o.kind ≡ k → commit_of_kind i k o.bytes ≡ Some c → IsSigned all i c.time
   of_object o at c kind.Commit is e =
       let t = (reads_texts (kind_of i) o.bytes c).0 e in
-      let holds : Holds all i (codes "commit") o.bytes = subst (λ word. Holds all i word o.bytes) (ap kind_word is) (held rs i o at) in
-      of_text o.bytes c.parents t.0 c.time holds (subst (λ width. IsText width o.bytes c.parents t.0) (own_width i) (commit_text (kind_of i) o.bytes c.tree c.parents t.0 t.1)) (subst (IsTime t.0) (sym t.2) (is_time t.0))
+      let holds : IsFed rs i (codes "commit") o.bytes = subst (λ word. IsFed rs i word o.bytes) (ap kind_word is) (held rs i o at) in
+      of_text o.bytes c.parents t.0 c.time holds (subst (λ width. IsText width o.bytes c.parents t.0) (own_width i) (c.tree, commit_text (kind_of i) o.bytes c.tree c.parents t.0 t.1)) (subst (IsTime t.0) (sym t.2) (is_time t.0))
   of_object o at c kind.Tree is e = absurd (none-some c e)
   of_object o at c kind.Blob is e = absurd (none-some c e)
   of_object o at c kind.Tag is e = absurd (none-some c e)
@@ -50,7 +50,7 @@ module _ (rs : List Record) (i : ObjectId) where
   is_signed_back : (time : ℤ) → IsSigned all i time → (c : Commit) × (commit_at (stored rs) i ≡ Some c)
   is_signed_back time (parents, author, signature, rest, named, signed, timed, (tree, digits, lines, spells, are, holds)) =
       let text : List ℕ = codes "tree " ++ digits ++ 10 ∷ lines in
-      let is : IsText (digits_in i) text parents signature = (tree, digits, lines, author, rest, spells, named, signed, are, refl) in
+      let is : IsText (digits_in i) text parents signature = (tree, (digits, lines, author, rest, spells, named, signed, are, refl)) in
       let h = held_back rs i (codes "commit") text holds in
       let t = commit_text_back (kind_of i) text parents signature (subst (λ width. IsText width text parents signature) (sym (own_width i)) is) in
       let c : Commit = record { tree = t.0; parents = parents; time = seconds_of signature } in
@@ -85,7 +85,7 @@ module _ (rs : List Record) (i : ObjectId) where
 
       naming : (parents : List ObjectId) (rest : List ℕ) → o.kind ≡ kind.Commit → IsNaming (digits_in i) o.bytes parents rest → Names all i parents rest
       naming parents rest is (tree, digits, lines, spells, are, whole) =
-          (tree, digits, lines, spells, are, subst (λ word. Holds all i word (codes "tree " ++ digits ++ 10 ∷ lines)) (ap kind_word is) (subst (Holds all i (kind_word o.kind)) whole (held rs i o at)))
+          (tree, digits, lines, spells, are, subst (λ word. IsFed rs i word (codes "tree " ++ digits ++ 10 ∷ lines)) (ap kind_word is) (subst (IsFed rs i (kind_word o.kind)) whole (held rs i o at)))
 
       no_commit : o.kind ≢ kind.Commit → (ps : List ObjectId) (rest : List ℕ) → Names all i ps rest → ⊥
       no_commit other ps rest h = let b = named_back ps rest h in other (sym (ap (λ (x : Object). x.kind) (same b.0 b.1)) ∙ b.2)
@@ -106,5 +106,5 @@ module _ (rs : List Record) (i : ObjectId) where
       go None at = inr (λ ps rest h. let b = named_back ps rest h in none-some b.0 (sym at ∙ b.1), ap (next_in i) at)
       go (Some o) at = subst (λ x. AreParents (next_in i x)) (sym at) (parents_of_object o at o.kind refl)
 
-pub history : (rs : List Record) → AreHistory (map worded rs) (text_next (stored rs)) (time_of (stored rs))
+pub history : (rs : List Record) → AreHistory (fed rs) (text_next (stored rs)) (time_of (stored rs))
 history rs i = (parents_at rs i, time_at rs i)

@@ -2,6 +2,7 @@
 use Rattle.std.proofs.Common.{◌≡◌, ℕ, ℤ, List, [], ◌∷◌, ◌++◌, map, take, Contains, Option, Some, None, codes, flat_map, refl, sym, subst, arith}
 use Rattle.gix_commands.proofs.Common.{transport, ObjectId, Objects, CommitTimeOrder, Parents, by_mode, time_of, cutoff, time_order, IsNumberOf, IsInWalk, Visit, Simple, Topo, file_lines, six_octal_digits, IsShownBy, IsListedBy, ListsBy}
 use Rattle.gix_commands.proofs.Common.{ListsDown, followed, kept_tips, lines_of_ids, Comes, Follows, IsNumberShown, bytes_in, entry_line}
+use Rattle.gix_commands.specs.WholeStatement.{id_line}
 use Rattle.hex.specs.Hex.{encode_lower}
 use Rattle.gix_revwalk.specs.declared.CommitTimeOrder.TheVariants as order
 use Rattle.gix_revwalk.specs.declared.Parents.TheVariants as mode
@@ -82,7 +83,7 @@ module _ (objects : Objects) (parents : ObjectId → List ObjectId) where
   is_followed name option tips mode.First sorting.BreadthFirst named chosen =
       transport (λ k. IsFollowed (sym named k) option tips mode.First sorting.BreadthFirst)
       (plain mode.First sorting.BreadthFirst refl (codes "breadth") option (codes "--first-parent" ∷ []) tips chosen
-      (subst (λ next. Follows parents time tips (codes "breadth") (codes "--first-parent" ∷ []) next tips) (λ k c. first_is (parents c) k) page.first))
+      (subst (λ next. Follows parents time tips (codes "breadth") (codes "--first-parent" ∷ []) next tips) (λ k c. first_is (parents c) k) (page.first refl)))
   is_followed name option tips mode.All (sorting.ByCommitTime by) named chosen = plain mode.All (sorting.ByCommitTime by) refl name option [] tips chosen page.all
   is_followed name option tips mode.All (sorting.ByCommitTimeCutoff order.NewestFirst seconds) named chosen = since name option tips order.NewestFirst seconds (0, omega arith, sym named) chosen
   is_followed name option tips mode.All (sorting.ByCommitTimeCutoff order.OldestFirst seconds) named chosen = since name option tips order.OldestFirst seconds (1, omega arith, sym named) chosen
@@ -119,10 +120,6 @@ module _ (objects : Objects) (parents : ObjectId → List ObjectId) where
     λ i. (λ m. let s = c.each i m in shown parents (tip ∷ []) (hidden ∷ []) i (record { reached = s.0; outside = s.1 }), λ s. c.all i (let k = shown_back parents (tip ∷ []) (hidden ∷ []) i s in (k.reached, k.outside))),
     c.number,
   )
-
--- the line of an id
-abbrev pub id_line : ObjectId → List ℕ
-id_line i = encode_lower (bytes_in i) ++ 10 ∷ []
 
 pub id_lines : (ids : List ObjectId) → lines_of_ids ids ≡ flat_map id_line ids
 id_lines [] = refl

@@ -14,6 +14,7 @@ use Rattle.gix_hash.specs.declared.Kind.TheVariants as kind
 use Rattle.gix_hash.specs.declared.ObjectId.TheVariants as id
 use Rattle.gix_object.specs.TreeItems.{is_octal, octal_from, mode_of}
 use Rattle.gix_records.specs.Decimal.{digits_behind, decimal}
+use Rattle.gix_statement.proofs.WrittenHex.{decoded, written}
 use Rattle.gix_commands.specs.WholeStatement.{Counts}
 
 -- how many digits an id of a kind has
@@ -30,7 +31,7 @@ pub spelled : (k : Kind) (text : List ℕ) (i : ObjectId) → id_of_hex k text �
 spelled k text i e = go (length text == width_of k) refl e
   where
     go : (t : Bool) → (length text == width_of k) ≡ t → cond t (id_of_decoded k (decode_of text)) None ≡ Some i → Spells (width_of k) text i × (kind_of i ≡ k)
-    go true l e = let d = decoded_id k text (decode_of text) i refl e in ((eqb-true (length text) (width_of k) l, d.0, d.1), d.2)
+    go true l e = let d = decoded_id k text (decode_of text) i refl e in ((eqb-true (length text) (width_of k) l, d.0, written text (bytes_in i) d.1), d.2)
     go false l e = cc
 
 id_again : (k : Kind) (i : ObjectId) → digits_in i ≡ width_of k → id_of_decoded k (Ok (bytes_in i)) ≡ Some i
@@ -41,7 +42,7 @@ id_again kind.Sha256 (id.Sha1 bytes) e = absurd (omega (arith, e))
 
 -- and back
 pub spells_again : (k : Kind) (text : List ℕ) (i : ObjectId) → Spells (width_of k) text i → id_of_hex k text ≡ Some i
-spells_again k text i s = cond-true (length text == width_of k) _ _ (eq-eqb (length text) (width_of k) s.0) ∙ ap (id_of_decoded k) s.2 ∙ id_again k i s.1
+spells_again k text i s = cond-true (length text == width_of k) _ _ (eq-eqb (length text) (width_of k) s.0) ∙ ap (id_of_decoded k) (decoded text (bytes_in i) s.2) ∙ id_again k i s.1
 
 from_digits : (o : Option ObjectId) (i : ObjectId) → or_digit o ≡ Ok i → o ≡ Some i
 from_digits None i e = cc

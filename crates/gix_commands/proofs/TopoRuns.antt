@@ -171,7 +171,7 @@ from_either next xs ys i (step {c = c} r n) = ⊎_elim (λ r. inl (step r n)) (�
 
 module _ (some all : Objects) (part : IsPartOf some all) (by : Sorting) (tips ends : List ObjectId) where
   -- a walk that was built without rows has read all that tips and ends reach
-  was_read : (walk : Walk) → IsBuiltFrom some [] by tips ends (Ok walk) → (i : ObjectId) → IsReached objects_of (plan_from some [] by tips ends) i → IsCommitRead some i
+  pub was_read : (walk : Walk) → IsBuiltFrom some [] by tips ends (Ok walk) → (i : ObjectId) → IsReached objects_of (plan_from some [] by tips ends) i → IsCommitRead some i
   was_read walk built = subst (λ plan. plan.rows ≡ [] → (i : ObjectId) → IsReached objects_of plan i → IsCommitRead plan.store i) built.0.plan built.1.read refl
 
   read_stored : (i : ObjectId) → IsCommitRead some i → (object : Object) × (get some i ≡ Some object)

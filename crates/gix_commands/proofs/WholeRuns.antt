@@ -14,7 +14,7 @@ use Rattle.gix_commands.proofs.ContainedRuns.{contains_ids}
 use Rattle.gix_commands.proofs.FirstCommits.{simple_begins, topo_begins}
 use Rattle.gix_commands.proofs.FileRuns.{unfolds}
 use Rattle.gix_commands.proofs.TopoRuns.{topo_lists}
-use Rattle.gix_commands.proofs.SameCommits.{worded, are_records}
+use Rattle.gix_commands.proofs.SameCommits.{are_fed, fed}
 use Rattle.gix_commands.proofs.SameContained.{contained_kept}
 use Rattle.gix_commands.proofs.SameHistory.{history}
 use Rattle.gix_commands.proofs.SameLists.{listed as is_list, is_followed, is_name_in, listed_down, number_shown, id_lines, entry_lines}
@@ -27,21 +27,10 @@ whole_end Whole w b = refl
 whole_end Broken w b = cc
 whole_end (Failed why) w b = absurd w
 
-module _ (words : List (List ℕ)) (input : List ℕ) (rs : List Record) (old new : Option (List ℕ)) (are : AreRecords rs input) (runs : Runs words (Some input) old (Ok tt) new) where
-  abbrev all : List page.Record
-  all = map worded rs
-
-  abbrev parents : ObjectId → List ObjectId
-  parents = text_next (stored rs)
-
-  abbrev time : ObjectId → ℤ
-  time = time_of (stored rs)
-
-  abbrev ServesSo : List (List ℕ) → Type 0
-  ServesSo = page.Serves all parents time old new
-
-  tree_written : (ending : ℕ) (tree : ObjectId) → Serves (stored rs) [] old (Files ending tree) (Ok tt) new
-      → (entries : List Entry) × (placed : List (List ℕ × Entry)) × IsTree all tree entries × Unfolds all [] entries placed × Appends old new (flat_map (entry_line ending) placed)
+-- what `files` wrote
+module _ (rs : List Record) (old new : Option (List ℕ)) where
+  pub tree_written : (ending : ℕ) (tree : ObjectId) → Serves (stored rs) [] old (Files ending tree) (Ok tt) new
+      → (entries : List Entry) × (placed : List (List ℕ × Entry)) × IsTree (fed rs) tree entries × Unfolds (fed rs) [] entries placed × Appends old new (flat_map (entry_line ending) placed)
   tree_written ending tree (listed recorder walk names written) =
       let u = unfolds (stored rs) ending tree recorder walk in
       let order = depth_is_in_order (stored rs) (never_faulty (stored rs)) Tracks tree fresh_recorder recorder (Ok tt) walk (depth_ok walk.end walk.answered) in
@@ -53,6 +42,16 @@ module _ (words : List (List ℕ)) (input : List ℕ) (rs : List Record) (old ne
         t.2,
         subst (Appends old new) (ap (file_lines ending) (depth_is_recorded (stored rs) (never_faulty (stored rs)) tree recorder (Ok tt) walk (λ e. cc) names) ∙ entry_lines ending walk.visits) written,
       )
+
+module _ (words : List (List ℕ)) (input : List ℕ) (rs : List Record) (old new : Option (List ℕ)) (are : AreRecords rs input) (runs : Runs words (Some input) old (Ok tt) new) where
+  abbrev parents : ObjectId → List ObjectId
+  parents = text_next (stored rs)
+
+  abbrev time : ObjectId → ℤ
+  time = time_of (stored rs)
+
+  abbrev ServesSo : List (List ℕ) → Type 0
+  ServesSo = page.Serves (fed rs) parents time old new
 
   serves : (request : Request) → request_of words ≡ Ok request → AreWordsOf words (Ok request) → ServesSo words
   serves (Commits (Simple m by) None tips hidden) asked (name, option, rest, those, is, named, chosen, same, ids, some) =
@@ -76,7 +75,7 @@ module _ (words : List (List ℕ)) (input : List ℕ) (rs : List Record) (old ne
       subst ServesSo (sym (is ∙ (λ k. name ∷ (chosen k ++ same k))))
       (page.commits [] (codes "-n" ∷ number ∷ []) those ids some page.all (inr (number, n, limits, refl, refl)) (listed_down (stored rs) parents name by named tips ends l.0 l.1.read) (subst (Appends old new) (id_lines (take n l.0)) l.2))
   serves (Files ending tree) asked (option, text, ends, is, spells) =
-      let t = tree_written ending tree (served_so words input rs (Files ending tree) old new asked are runs) in
+      let t = tree_written rs old new ending tree (served_so words input rs (Files ending tree) old new asked are runs) in
       subst ServesSo (sym is) (page.files option text ends spells t.2 t.3 t.4)
   serves (Ahead one other) asked (a, b, is, spells, spells_other) =
       let n = ahead_counts words input rs one other old new asked are runs in
@@ -94,11 +93,11 @@ module _ (words : List (List ℕ)) (input : List ℕ) (rs : List Record) (old ne
       subst ServesSo (sym is) (page.contains tips some (contained_kept (stored rs) tip ids c.0 c.2 c.1) (subst (Appends old new) (id_lines c.0) c.3))
 
   promised : (request : Request) → request_of words ≡ Ok request
-      → (records : List page.Record) × (ps : ObjectId → List ObjectId) × (ts : ObjectId → ℤ) × page.AreRecords records input × page.AreHistory records ps ts × page.Serves records ps ts old new words
-  promised request asked = (all, parents, time, are_records rs input are, history rs, serves request asked (subst (AreWordsOf words) asked (are_words words)))
+      → (objects : page.Objects) × (ps : ObjectId → List ObjectId) × (ts : ObjectId → ℤ) × page.AreFed (Some input) objects × page.AreHistory objects ps ts × page.Serves objects ps ts old new words
+  promised request asked = (fed rs, parents, time, are_fed rs (Some input) input refl are, history rs, serves request asked (subst (AreWordsOf words) asked (are_words words)))
 
 of_run : (words : List (List ℕ)) (input : List ℕ) (old new : Option (List ℕ)) → Runs words (Some input) old (Ok tt) new
-    → (records : List page.Record) × (ps : ObjectId → List ObjectId) × (ts : ObjectId → ℤ) × page.AreRecords records input × page.AreHistory records ps ts × page.Serves records ps ts old new words
+    → (objects : page.Objects) × (ps : ObjectId → List ObjectId) × (ts : ObjectId → ℤ) × page.AreFed (Some input) objects × page.AreHistory objects ps ts × page.Serves objects ps ts old new words
 of_run words input old new (served request there rs asked same is s) = promised words input rs old new (subst (AreRecords rs) same is) (served request there rs asked same is s) request asked
 
 -- what the clause `runs` of a run says is enough for the statement

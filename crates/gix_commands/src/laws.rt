@@ -1,5 +1,6 @@
 //! What a run of the program writes, as laws over the definitions: functions that do nothing, and whose contracts are proved.
 
+ghost use Rattle.gix_commands.specs.Everywhere.{RightEverywhere};
 ghost use Rattle.gix_commands.specs.Histories.{AheadCounts, AheadCountsOfPart, AheadSucceeds, DrawsDifference, FailsSilently};
 ghost use Rattle.gix_commands.specs.Histories.{ContainsIds, ContainsIdsOfPart, ContainsSucceeds, ToldContainsIds};
 ghost use Rattle.gix_commands.specs.Histories.{SimpleBegins, SimpleBeginsOfPart, SimpleLists, SimpleListsOfPart, SimpleSucceeds};
@@ -166,4 +167,10 @@ pub fn told_contains_ids()
 /// A run that fails, and not by the writer, writes nothing, unless the words ask for a list of commits.
 pub fn fails_silently()
     ensures { FailsSilently }
+{}
+
+/// What a run has written is right in each history that has what was read, by the page of gix_statement: for words that ask for no list of
+/// commits, and for lists that don't go by times, where no record of a commit is empty, and with `--first-parent` each has the text of one.
+pub fn right_everywhere()
+    ensures { RightEverywhere }
 {}

@@ -11,7 +11,7 @@ use Rattle.gix_statement.proofs.EachHistory.{counted_there, kept_there, moved, s
 use Rattle.gix_statement.proofs.Descents.{IsDown, begins_down, whole_down}
 
 module _ (objects : Objects) (rows : List Row) (parents : ObjectId → List ObjectId) (time : ObjectId → ℤ) (one : IsHistory objects rows parents time) (old new : Option (List ℕ)) where
-  abbrev Each : List (List ℕ) → Type 0
+  abbrev pub Each : List (List ℕ) → Type 0
   Each words = InEach objects rows (λ ps ts. Serves objects rows ps ts old new words)
 
   abbrev AreThere : List ObjectId → Type 0

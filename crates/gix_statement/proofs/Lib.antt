@@ -6,7 +6,7 @@ pub mod HaveHistory
 -- What is right of some objects is right of all that have them.
 mod Carried
 -- From one history to each: lists that aren't topological, options and limits, topological lists, commands.
-mod Heart
+pub mod Heart
 pub mod EachHistory
 pub mod Descents
 pub mod InEach

@@ -1,0 +1,118 @@
+-- What a run of `topo` or `date` over records has written is right in each history that has what was read, where what was read are commits.
+use Rattle.std.proofs.Common.{◌≡◌, ◌≢◌, ◌⊎◌, ℕ, suc, List, [], ◌∷◌, ◌++◌, length, drop, flat_map, Option, Some, None, Ok, All, Contains, codes, refl, sym, ap, subst, inl, inr, ◌∙◌, Bool, true, false, Result, Err, arith, append-nil, take-append-drop}
+use Rattle.gix_commands.proofs.Common.{Appends, Contains-get_or, Contains-append_left, ObjectId, Info, Topo, Commits, ListsDown, IsBuiltFrom, stored, text_next, time_of, none_agree, objects_of, IsCommitRead, IsReached, plan_from, walked_down, not_built, unserved, lines_of, false≢true, Fault, ListsRead, Yields, EndsBy, Ends, before, cut_short, finished}
+use Rattle.std.proofs.Math.ListN.{get_or}
+use Rattle.std.proofs.lemmas.List.{length-map}
+use Rattle.gix_words.specs.declared.fault.Fault.TheVariants as fault
+use Rattle.gix_records.specs.Records.{Record}
+use Rattle.gix_topo.specs.declared.Sorting.{Sorting}
+use Rattle.gix_statement.proofs.InEach.{down_each}
+use Rattle.gix_statement.specs.WholeStatement as page
+use Rattle.gix_statement.specs.WholeStatement.{Allows, InEach, AreTips, IsThere, Reaches, id_line}
+use Rattle.gix_commands.specs.Checked.{AsksForMore}
+use Rattle.gix_commands.specs.Run.{Serves, not_written}
+use Rattle.gix_commands.specs.TopoWalked.{Walk, Answers, IsWalkFault}
+use Rattle.gix_commands.specs.Walked.{failed, given}
+use Rattle.gix_commands.specs.WholeStatement.{Lists}
+use Rattle.gix_commands.proofs.CommitRuns.{ids_in, lines_by_ids}
+use Rattle.gix_commands.proofs.FedSimple.{allowed}
+use Rattle.gix_commands.proofs.FedCommits.{fed_history}
+use Rattle.gix_commands.proofs.FedLists.{IsUntimed, at_most, begins_so, first_cut, no_rest, whole_so}
+use Rattle.gix_commands.proofs.FedNames.{down_name, is_order}
+use Rattle.gix_commands.proofs.FirstCommits.{up_to_down}
+use Rattle.gix_commands.proofs.SameCommits.{fed}
+use Rattle.gix_commands.proofs.SameLists.{id_lines, listed_down}
+use Rattle.gix_commands.proofs.SameOrders.{reaches_back}
+use Rattle.gix_commands.proofs.SameWords.{AreBehind, IsNameOf}
+use Rattle.gix_commands.proofs.SimpleBegins.{AreFirstOf}
+use Rattle.gix_commands.proofs.TopoBegins.{first_given_down}
+use Rattle.gix_commands.proofs.TopoRuns.{listed_read, was_read}
+
+module _ (rs : List Record) (by : Sorting) (tips ends : List ObjectId) (some : tips ≢ []) (read_is : (i : ObjectId) → IsCommitRead (stored rs) i → IsThere (fed rs) [] i) where
+  abbrev IsList : List ObjectId → Type 0
+  IsList = ListsDown (stored rs) (text_next (stored rs)) by tips ends
+
+  module _ (walk : Walk) (built : IsBuiltFrom (stored rs) [] by tips ends (Ok walk)) where
+    -- all that tips and ends reach was read
+    read_there : (i : ObjectId) → IsReached objects_of (plan_from (stored rs) [] by tips ends) i → IsThere (fed rs) [] i
+    read_there i r = read_is i (was_read (stored rs) (stored rs) (λ j o e. e) by tips ends walk built i r)
+
+    module _ (old new : Option (List ℕ)) (name : List ℕ) (option words : List (List ℕ)) (named : IsNameOf name (Topo by)) (untimed : IsUntimed name) (plain : option ≡ []) (are : AreTips words tips ends) where
+      -- in each history the list was written, or so far a beginning of it
+      abbrev pub IsWritten : Bool → List (List ℕ) → Type 0
+      IsWritten true asked = InEach (fed rs) [] (λ ps ts. page.Serves (fed rs) [] ps ts old new asked)
+      IsWritten false asked = InEach (fed rs) [] (λ ps ts. page.HasBegun (fed rs) [] ps ts old new asked)
+
+      written_so : (ended : Bool) (ids : List ObjectId) (asked : List (List ℕ)) → InEach (fed rs) [] (λ ps ts. page.Lists (fed rs) [] ps ts ids ended asked) → Appends old new (flat_map id_line ids) → IsWritten ended asked
+      written_so true ids asked each written = λ ps ts h. page.commits ids (each ps ts h) written
+      written_so false ids asked each written = λ ps ts h. (ids, each ps ts h, written)
+
+      abbrev ListsSo : List ObjectId → Type 0
+      ListsSo = Lists (text_next (stored rs)) (text_next (stored rs)) (time_of (stored rs)) tips ends name
+
+      -- the first of a list were written
+      down_so : (ended : Bool) (limit : List (List ℕ)) (ids more : List ObjectId) → IsList (ids ++ more) → Allows limit (length ids) → ((ended ≡ true) × Allows limit (suc (length ids)) → more ≡ []) → Appends old new (flat_map id_line ids) → IsWritten ended (name ∷ (option ++ (limit ++ words)))
+      down_so ended limit ids more l allows all written =
+          let those : ListsSo (ids ++ more) = listed_down (stored rs) (text_next (stored rs)) name by named tips ends (ids ++ more) l in
+          written_so ended ids (name ∷ (option ++ (limit ++ words)))
+          (down_each (fed rs) [] (text_next (stored rs)) (time_of (stored rs)) (fed_history rs) old new name option limit words tips ends ids (is_order name (Topo by) named) are some
+          (λ k d few. let i = get_or ids k d in read_there i (inl (l.shown i (Contains-append_left ids more i (Contains-get_or ids k d few))).0)) allows written ended (down_name name by named) plain
+          (begins_so (text_next (stored rs)) (text_next (stored rs)) (time_of (stored rs)) tips ends name untimed (ids ++ more) those ids more refl)
+          (λ one_more. let same : ids ++ more ≡ ids = ap (λ xs. ids ++ xs) (all one_more) ∙ append-nil ids in whole_so (text_next (stored rs)) (text_next (stored rs)) (time_of (stored rs)) tips ends name untimed ids (subst ListsSo same those))
+          (λ i r. read_there i (inl (reaches_back (text_next (stored rs)) tips i r))) (λ i r. read_there i (inr (reaches_back (text_next (stored rs)) ends i r))))
+          written
+
+      lines : (infos : List Info) → Appends old new (lines_of infos) → Appends old new (flat_map id_line (ids_in infos))
+      lines infos written = subst (Appends old new) (lines_by_ids infos ∙ id_lines (ids_in infos)) written
+
+      -- a run of it that ends well
+      ended_run : (limit : Option ℕ) (rest : List (List ℕ)) → AreBehind limit rest words → (infos : List Info) → EndsBy Answers IsWalkFault limit walk infos (Ok tt) → Appends old new (lines_of infos) → IsWritten true (name ∷ (option ++ rest))
+      ended_run None rest same infos drawn written =
+          let l = listed_read (stored rs) [] (none_agree (stored rs) [] refl) by tips ends walk built infos drawn in
+          subst (λ w. IsWritten true (name ∷ (option ++ w))) (sym same) (down_so true [] (ids_in infos) [] (subst IsList (sym (append-nil (ids_in infos))) l) (inl refl) (λ one_more. refl) (lines infos written))
+      ended_run (Some n) rest (number, is, same) infos drawn written =
+          let f = up_to_down (stored rs) [] (none_agree (stored rs) [] refl) by tips ends n walk infos built drawn in
+          subst (λ w. IsWritten true (name ∷ (option ++ w))) (sym same)
+          (down_so true (codes "-n" ∷ number ∷ []) (ids_in infos) (drop n f.0) (subst IsList (first_cut n f.0 (ids_in infos) f.2) f.1.read) (inr (number, n, is, refl, at_most n f.0 (ids_in infos) f.2))
+          (λ one_more. no_rest n f.0 (ids_in infos) f.2 (allowed number n (suc (length (ids_in infos))) is one_more.1)) (lines infos written))
+
+      -- and one that fails
+      begun_run : (limit : Option ℕ) (rest : List (List ℕ)) → AreBehind limit rest words → (infos : List Info) (last : Walk) → Yields Answers walk (given infos) last → AsksForMore limit infos → Appends old new (lines_of infos) → IsWritten false (name ∷ (option ++ rest))
+      begun_run limit rest same infos last drawn more written = go limit same more
+        where
+          ids : List ObjectId
+          ids = ids_in infos
+
+          f : AreFirstOf (ListsRead (stored rs) by tips ends) ids
+          f = first_given_down (stored rs) [] (none_agree (stored rs) [] refl) by tips ends walk built infos last drawn
+
+          l : IsList (ids ++ drop (length ids) f.0)
+          l = subst IsList (sym (take-append-drop (length ids) f.0) ∙ ap (λ xs. xs ++ drop (length ids) f.0) f.2) f.1.read
+
+          go : (limit : Option ℕ) → AreBehind limit rest words → AsksForMore limit infos → IsWritten false (name ∷ (option ++ rest))
+          go None same more = subst (λ w. IsWritten false (name ∷ (option ++ w))) (sym same) (down_so false [] ids (drop (length ids) f.0) l (inl refl) (λ e. absurd (false≢true e.0)) (lines infos written))
+          go (Some n) (number, is, same) more =
+              let many : length ids ≡ length infos = length-map infos (λ (info : Info). info.id) in
+              subst (λ w. IsWritten false (name ∷ (option ++ w))) (sym same) (down_so false (codes "-n" ∷ number ∷ []) ids (drop (length ids) f.0) l (inr (number, n, is, refl, omega (arith, many, more))) (λ e. absurd (false≢true e.0)) (lines infos written))
+
+      failed_run : (limit : Option ℕ) (rest : List (List ℕ)) → AreBehind limit rest words → (infos : List Info) {answer : Result (Unit {0}) Fault} → Ends Answers IsWalkFault walk infos answer → answer ≢ Ok tt → AsksForMore limit infos → Appends old new (lines_of infos) → IsWritten false (name ∷ (option ++ rest))
+      failed_run limit rest same infos (finished last h) fails more written = absurd (fails refl)
+      failed_run limit rest same infos (failed why f last h is) fails more written = begun_run limit rest same infos h.0 h.1 more written
+      failed_run limit rest same infos (cut_short info last h) fails more written = begun_run limit rest same infos h.0 h.1 more written
+
+      stopped_run : (limit : Option ℕ) (rest : List (List ℕ)) → AreBehind limit rest words → (infos : List Info) (e : Fault) → EndsBy Answers IsWalkFault limit walk infos (Err e) → Appends old new (lines_of infos) → IsWritten false (name ∷ (option ++ rest))
+      stopped_run None rest same infos e drawn written = failed_run None rest same infos drawn (λ s. cc) tt written
+      stopped_run (Some n) rest same infos e (before drawn less) written = failed_run (Some n) rest same infos drawn (λ s. cc) less written
+
+  module _ (old new : Option (List ℕ)) (name : List ℕ) (option words : List (List ℕ)) (named : IsNameOf name (Topo by)) (untimed : IsUntimed name) (plain : option ≡ []) (are : AreTips words tips ends) (limit : Option ℕ) (rest : List (List ℕ)) (same : AreBehind limit rest words) where
+    pub topo_run : Serves (stored rs) [] old (Commits (Topo by) limit tips ends) (Ok tt) new → InEach (fed rs) [] (λ ps ts. page.Serves (fed rs) [] ps ts old new (name ∷ (option ++ rest)))
+    topo_run (walked_down walk infos built drawn written) = ended_run walk built old new name option words named untimed plain are limit rest same infos drawn written
+
+    fails_so : (left : Option (List ℕ)) → left ≡ new → (e : Fault) → e ≢ fault.Write → Serves (stored rs) [] old (Commits (Topo by) limit tips ends) (Err e) left → (new ≡ old) ⊎ InEach (fed rs) [] (λ ps ts. page.HasBegun (fed rs) [] ps ts old new (name ∷ (option ++ rest)))
+    fails_so left is e other (walked_down walk infos built drawn written) = inr (stopped_run walk built old new name option words named untimed plain are limit rest same infos e drawn (subst (λ x. Appends old x (lines_of infos)) is written))
+    fails_so left is e other (not_built why h) = inl (sym is)
+    fails_so left is e other unserved = inl (sym is)
+    fails_so left is e other not_written = absurd (other refl)
+
+    pub topo_fails : (e : Fault) → e ≢ fault.Write → Serves (stored rs) [] old (Commits (Topo by) limit tips ends) (Err e) new → (new ≡ old) ⊎ InEach (fed rs) [] (λ ps ts. page.HasBegun (fed rs) [] ps ts old new (name ∷ (option ++ rest)))
+    topo_fails = fails_so new refl
