@@ -59,3 +59,6 @@ mod FedNames
 mod FedSimple
 mod FedTopo
 mod FedRuns
+mod ReachedIsRead
+mod SameCommitsThere
+mod RowsAsTexts
