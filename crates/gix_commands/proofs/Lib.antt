@@ -62,3 +62,5 @@ mod FedRuns
 mod ReachedIsRead
 mod SameCommitsThere
 mod RowsAsTexts
+mod NamedOnes
+mod Promised
