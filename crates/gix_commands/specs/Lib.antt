@@ -5,6 +5,7 @@ pub mod Opening
 pub mod Files
 pub mod Lister
 pub mod Ahead
+pub mod Pages
 pub mod Run
 pub mod StoredRuns
 pub mod Histories

@@ -1,0 +1,31 @@
+-- The objects of a store, as the page of what a run promises has them.
+use Rattle.std.specs.Prelude.{◌≡◌, ◌≢◌, ℕ, List, [], Option, Some, codes}
+use Rattle.std.specs.FinMap.{get}
+use Rattle.std.specs.Option.{option_map}
+use Rattle.gix_hash.specs.declared.ObjectId.{ObjectId}
+use Rattle.gix_object.specs.Object.{Object, Objects}
+use Rattle.gix_records.specs.Records.{kind_word}
+use Rattle.gix_revwalk.specs.declared.Parents.TheVariants as mode
+use Rattle.gix_simple.specs.declared.Sorting.{Sorting}
+use Rattle.gix_statement.specs.WholeStatement as page
+use Rattle.gix_words.specs.Words.{Commits, Request}
+use Rattle.gix_words.specs.declared.words.Order.TheVariants.{Simple}
+
+-- an object, with the word of its kind
+abbrev pub as_page : Object → page.Object
+as_page o = record { kind = kind_word o.kind; bytes = o.bytes }
+
+abbrev pub page_objects : Objects → page.Objects
+page_objects objects i = option_map as_page (get objects i)
+
+-- each object that is said to be a commit has the text of one, as far as its parents
+abbrev pub AreCommits : page.Objects → Type 0
+AreCommits objects =
+    (i : ObjectId) (bytes : List ℕ) → objects i ≡ Some (record { kind = codes "commit"; bytes = bytes }) → page.IsThere objects [] i
+
+-- No object that is said to be a commit is empty, and where a request follows first parents each has the text of one as far as its parents.
+abbrev pub HaveTexts : Request → page.Objects → Type 0
+HaveTexts request objects =
+    ((i : ObjectId) → objects i ≢ Some (record { kind = codes "commit"; bytes = [] }))
+    × ((by : Sorting) (limit : Option ℕ) (tips hidden : List ObjectId) → request ≡ Commits (Simple mode.First by) limit tips hidden
+    → AreCommits objects)
