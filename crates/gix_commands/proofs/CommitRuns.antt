@@ -186,7 +186,7 @@ module _ (some all : Objects) (part : IsPartOf some all) (m : Parents) (by : Sor
   -- what was read of a part is right of the whole
   pub in_all : (infos : List Info) → GoesOnWhole some [] by None infos → IsRead some [] (none_agree some [] refl) m by tips hidden tip infos → SimpleListsRead all m by tips hidden (ids_in infos)
   in_all infos parents l =
-      let found = l.1 (λ other info c i n. whole_all some info.parent_ids.items (parents other info c) i n) in
+      let found = l.1 (λ other info c i n. whole_all some [] (none_agree some [] refl) info.parent_ids.items (parents other info c) i n) in
       let kept : kept_tips some by tips ≡ kept_tips all by tips = same_kept some all part m by tips hidden found.tips_found in
       let list = of_all some all part m by tips hidden found (ids_in infos) l.0.read in
       record {

@@ -7,7 +7,7 @@ use Rattle.gix_contained.specs.Contained.{AreContained, Selects}
 use Rattle.gix_contained.proofs.Faultless.{store_alone}
 use Rattle.gix_paint.specs.Painting.{IsHistory}
 use Rattle.gix_paint.proofs.Invariant.{own_history}
-use Rattle.gix_commands.specs.Run.{Serves, not_written}
+use Rattle.gix_commands.specs.Run.{Serves, cut_off}
 use Rattle.gix_commands.proofs.CommitRuns.{ends_well, served_so}
 use Rattle.gix_commands.proofs.InternalFacts.{contained_sound}
 use Rattle.gix_commands.proofs.NamedTips.{some_ids}
@@ -50,7 +50,7 @@ module _ (tip : ObjectId) (ids : List ObjectId) where
         (contained_sound objects rows (tip ∷ []) ids e f
         (ap fault_of_contained (store_alone objects (never_faulty objects) rows (tip ∷ []) ids e agreeing (λ i r. whole_from objects i (whole i (reach_more (parents_of objects) (ids ++ tip ∷ []) (tip ∷ ids) among_back i r))) f)))
     selects_well whole answer new old unserved = tt
-    selects_well whole answer new old not_written = tt
+    selects_well whole answer new old (cut_off some more s a b) = tt
 
 -- what a part of a store reads as a commit is that commit in the whole store
 read_in_all : (objects all : Objects) → IsPartOf objects all → (i : ObjectId) (commit : Commit) → commit_at objects i ≡ Some commit → commit_at all i ≡ Some commit

@@ -1,18 +1,18 @@
 -- What is stored as a whole commit is a commit of the statement, and what is stored is one history.
 use Rattle.std.proofs.Common.{◌≡◌, ◌≢◌, ◌++◌, ℕ, ℤ, pos, List, [], ◌∷◌, take, Option, Some, None, All, Contains, codes, refl, sym, ap, subst, ◌∙◌, inl, inr, ⊎_elim, arith}
-use Rattle.gix_commands.proofs.Common.{get, same_Some, none-some, All-contains, Contains-get_or, ObjectId, kind_of, Commit, seconds_of, read_commit, Object, kind_word, stored, commit_at, commit_of_kind, commit_of_object, time_of, time_in, next_in, text_next, no_member}
+use Rattle.gix_commands.proofs.Common.{get, same_Some, none-some, All-contains, Contains-get_or, ObjectId, kind_of, Commit, seconds_of, read_commit, Object, Objects, kind_word, commit_at, commit_of_kind, commit_of_object, time_of, time_in, next_in, text_next, no_member}
 use Rattle.gix_commands.proofs.Common.{parents_of, ReadsWhole, commit_stored, whole_from, scanned, text_parents_of_kind, Contains-here, reach_more, Contains-cons_cases, AreWhole, Spells, IsTime, unsigned, positive, negative, digits_in}
 use Rattle.gix_object.specs.CommitItems.{commit_items}
 use Rattle.gix_object.specs.declared.Kind.TheVariants as kind
 use Rattle.gix_object.proofs.Commits.Texts.{reads_texts}
-use Rattle.gix_records.specs.Records.{Record}
 use Rattle.gix_revwalk.specs.declared.Parents.TheVariants as mode
 use Rattle.gix_statement.proofs.OneCommit.{drop_word, line_same, one_commit, signed_same}
 use Rattle.gix_statement.specs.WholeStatement as page
 use Rattle.gix_statement.specs.WholeStatement.{Agree, IsCommit, IsHistory, IsText, IsThere, Reaches, Row}
+use Rattle.gix_commands.specs.Pages.{page_objects}
 use Rattle.gix_commands.specs.WholeStatement as named
 use Rattle.gix_commands.proofs.SameNumbers.{width_of}
-use Rattle.gix_commands.proofs.SameCommits.{IsTextOf, commit_text, commit_text_back, fed, held, held_back, is_time, signed_rest}
+use Rattle.gix_commands.proofs.SameCommits.{IsTextOf, commit_text, commit_text_back, held, held_back, is_time, signed_rest}
 use Rattle.gix_commands.proofs.SameHistory.{is_commit_kind, own_width}
 use Rattle.gix_commands.proofs.SameOrders.{reaches_back}
 use Rattle.gix_commands.proofs.SameTexts.{texts}
@@ -58,18 +58,18 @@ no_time rest time none (page.negative before text spaces n s plain counts) = abs
 no_parent_line : (author signature rest : List ℕ) → take 7 (signed_rest author signature rest) ≢ codes "parent "
 no_parent_line author signature rest e = let same : ◌≡◌ {A = ℕ} 97 112 = cc in omega (arith, same)
 
-module _ (rs : List Record) where
+module _ (objects : Objects) where
   -- a commit that is stored
   abbrev pub row_at : ObjectId → Commit → Row
   row_at i c = record { id = i; tree = c.tree; parents = c.parents; time = c.time }
 
-  whole_text : (i : ObjectId) (c : Commit) → commit_at (stored rs) i ≡ Some c → IsText (fed rs) (row_at i c)
+  whole_text : (i : ObjectId) (c : Commit) → commit_at objects i ≡ Some c → IsText (page_objects objects) (row_at i c)
   whole_text i c e =
-      let at = commit_stored (stored rs) i (record { commit = c; stored = e }) in
+      let at = commit_stored objects i (record { commit = c; stored = e }) in
       let t = (reads_texts (kind_of i) at.0 c).0 at.2 in
       of_text at.0 at.1 t.0 t.2 (commit_text (kind_of i) at.0 c.tree c.parents t.0 t.1)
     where
-      of_text : (bytes : List ℕ) → get (stored rs) i ≡ Some (record { kind = kind.Commit; bytes = bytes }) → (signature : List ℕ) → c.time ≡ seconds_of signature → IsTextOf c.tree (width_of (kind_of i)) bytes c.parents signature → IsText (fed rs) (row_at i c)
+      of_text : (bytes : List ℕ) → get objects i ≡ Some (record { kind = kind.Commit; bytes = bytes }) → (signature : List ℕ) → c.time ≡ seconds_of signature → IsTextOf c.tree (width_of (kind_of i)) bytes c.parents signature → IsText (page_objects objects) (row_at i c)
       of_text bytes at signature timed (id, lines, author, rest, spells, a, s, are, whole) = (
         id,
         lines,
@@ -77,27 +77,27 @@ module _ (rs : List Record) where
         subst (λ w. Spells w id c.tree) (own_width i) spells,
         subst (λ w. page.AreParentLines w c.parents lines (signed_rest author signature rest)) (own_width i) (lines_end (width_of (kind_of i)) c.parents lines (signed_rest author signature rest) (no_parent_line author signature rest) are),
         subst (page.IsTime (signed_rest author signature rest)) (sym timed) (time_said author signature rest (seconds_of signature) a s (is_time signature)),
-        held rs i (record { kind = kind.Commit; bytes = bytes }) at ∙ ap (λ bs. Some (record { kind = codes "commit"; bytes = bs })) whole,
+        held objects i (record { kind = kind.Commit; bytes = bytes }) at ∙ ap (λ bs. Some (record { kind = codes "commit"; bytes = bs })) whole,
       )
 
-  pub agree : Agree (fed rs) []
+  pub agree : Agree (page_objects objects) []
   agree = ((λ i j d l below. absurd (omega (arith, below))), λ r c. absurd (no_member r c))
 
   -- what a text says is what is read of it
-  module _ (r : Row) (text : IsText (fed rs) r) where
+  module _ (r : Row) (text : IsText (page_objects objects) r) where
     abbrev bytes : List ℕ
     bytes = codes "tree " ++ text.0 ++ 10 ∷ text.1
 
-    found : (o : Object) × (get (stored rs) r.id ≡ Some o) × (kind_word o.kind ≡ codes "commit") × (o.bytes ≡ bytes)
-    found = held_back rs r.id (codes "commit") bytes text.6
+    found : (o : Object) × (get objects r.id ≡ Some o) × (kind_word o.kind ≡ codes "commit") × (o.bytes ≡ bytes)
+    found = held_back objects r.id (codes "commit") bytes text.6
 
-    is_stored_so : get (stored rs) r.id ≡ Some (record { kind = kind.Commit; bytes = bytes })
+    is_stored_so : get objects r.id ≡ Some (record { kind = kind.Commit; bytes = bytes })
     is_stored_so = found.1 ∙ (λ k. Some (record { kind = is_commit_kind found.0.kind found.2 k; bytes = found.3 k }))
 
     width : digits_in r.id ≡ width_of (kind_of r.id)
     width = sym (own_width r.id)
 
-    parents_said : text_next (stored rs) r.id ≡ r.parents
+    parents_said : text_next objects r.id ≡ r.parents
     parents_said = ap (next_in r.id) is_stored_so ∙ ⊎_elim
         (λ h. let l = line_same (width_of (kind_of r.id)) h.1.1 text.0 h.1.2 text.1 h.1.0 r.tree h.1.3 (subst (λ w. Spells w text.0 r.tree) width text.3) (drop_word (codes "tree ") (h.1.1 ++ 10 ∷ h.1.2) (text.0 ++ 10 ∷ text.1) (sym h.1.5)) in
         parents_same (width_of (kind_of r.id)) _ r.parents h.1.2 text.1 h.0 text.2 l.1 h.1.4 (subst (λ w. named.AreParentLines w r.parents text.1 text.2) width (lines_named (digits_in r.id) r.parents text.1 text.2 text.4)))
@@ -105,7 +105,7 @@ module _ (rs : List Record) where
         (texts (kind_of r.id) bytes)
 
     -- a text with a signature is that of a whole commit
-    signed_whole : (signature : List ℕ) → page.IsSigned text.2 signature → (c : Commit) × (commit_at (stored rs) r.id ≡ Some c)
+    signed_whole : (signature : List ℕ) → page.IsSigned text.2 signature → (c : Commit) × (commit_at objects r.id ≡ Some c)
     signed_whole signature (author, rest, a, s, is) =
         let are : named.AreParentLines (width_of (kind_of r.id)) r.parents text.1 (signed_rest author signature rest) =
         subst (named.AreParentLines (width_of (kind_of r.id)) r.parents text.1) is (subst (λ w. named.AreParentLines w r.parents text.1 text.2) width (lines_named (digits_in r.id) r.parents text.1 text.2 text.4)) in
@@ -113,28 +113,28 @@ module _ (rs : List Record) where
         let c : Commit = record { tree = t.0; parents = r.parents; time = seconds_of signature } in
         (c, ap (commit_of_object r.id) is_stored_so ∙ (reads_texts (kind_of r.id) bytes c).1 signature t.1 refl)
 
-    time_read : time_of (stored rs) r.id ≡ r.time
-    time_read = go (commit_at (stored rs) r.id) refl
+    time_read : time_of objects r.id ≡ r.time
+    time_read = go (commit_at objects r.id) refl
       where
-        go : (o : Option Commit) → commit_at (stored rs) r.id ≡ o → time_of (stored rs) r.id ≡ r.time
-        go (Some c) e = ap time_in e ∙ (one_commit (fed rs) [] agree (row_at r.id c) r refl (inl (whole_text r.id c e)) (inl text)).1
+        go : (o : Option Commit) → commit_at objects r.id ≡ o → time_of objects r.id ≡ r.time
+        go (Some c) e = ap time_in e ∙ (one_commit (page_objects objects) [] agree (row_at r.id c) r refl (inl (whole_text r.id c e)) (inl text)).1
         go None e = ap time_in e ∙ sym (no_time text.2 r.time (λ signature s. let w = signed_whole signature s in none-some w.0 (sym e ∙ w.1)) text.5)
 
   -- ONE HISTORY: the parents that texts name, and the times of their committers
-  pub fed_history : IsHistory (fed rs) [] (text_next (stored rs)) (time_of (stored rs))
+  pub fed_history : IsHistory (page_objects objects) [] (text_next objects) (time_of objects)
   fed_history r (inl text) = (parents_said r text, time_read r text)
   fed_history r (inr (none, row)) = absurd (no_member r row)
 
   -- a whole commit is there
-  pub whole_there : (i : ObjectId) → ReadsWhole (stored rs) i → IsThere (fed rs) [] i
+  pub whole_there : (i : ObjectId) → ReadsWhole objects i → IsThere (page_objects objects) [] i
   whole_there i w = (row_at i w.commit, refl, inl (whole_text i w.commit w.stored))
 
   -- where all that ids reach are whole commits, each is there
-  module _ (ids : List ObjectId) (whole : AreWhole (stored rs) ids) where
-    pub reached_there : (tip : ObjectId) → Contains ids tip → (i : ObjectId) → Reaches (text_next (stored rs)) (tip ∷ []) i → IsThere (fed rs) [] i
+  module _ (ids : List ObjectId) (whole : AreWhole objects ids) where
+    pub reached_there : (tip : ObjectId) → Contains ids tip → (i : ObjectId) → Reaches (text_next objects) (tip ∷ []) i → IsThere (page_objects objects) [] i
     reached_there tip among i r =
-        let back = by_commits (stored rs) ids whole tip among i (reaches_back (text_next (stored rs)) (tip ∷ []) i r) in
-        whole_there i (whole_from (stored rs) i (whole i (reach_more (parents_of (stored rs)) (tip ∷ []) ids (λ j c. ⊎_elim (λ e. subst (Contains ids) e among) (λ n. absurd (no_member j n)) (Contains-cons_cases j tip [] c)) i back)))
+        let back = by_commits objects ids whole tip among i (reaches_back (text_next objects) (tip ∷ []) i r) in
+        whole_there i (whole_from objects i (whole i (reach_more (parents_of objects) (tip ∷ []) ids (λ j c. ⊎_elim (λ e. subst (Contains ids) e among) (λ n. absurd (no_member j n)) (Contains-cons_cases j tip [] c)) i back)))
 
-    pub all_there : All (IsThere (fed rs) []) ids
+    pub all_there : All (IsThere (page_objects objects) []) ids
     all_there k d below = let among = Contains-get_or ids k d below in reached_there _ among _ (page.start (Contains-here _ []))

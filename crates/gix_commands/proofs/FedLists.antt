@@ -12,10 +12,6 @@ use Rattle.gix_statement.specs.WholeStatement.{AreMadeReady, Begins, IsNext, IsP
 use Rattle.gix_commands.specs.WholeStatement as listed
 use Rattle.gix_commands.specs.WholeStatement.{Comes, Lists}
 
--- an order that doesn't go by times alone
-abbrev pub IsUntimed : List ℕ → Type 0
-IsUntimed by = Contains (codes "newest" ∷ codes "oldest" ∷ codes "date" ∷ []) by → ⊥
-
 reverse_of : (ids : List ObjectId) (i : ObjectId) → Contains ids i → Contains (reverse ids) i
 reverse_of [] i m = m
 reverse_of (x ∷ ids) i m = subst (λ xs. Contains xs i) (sym (reverse-append (x ∷ []) ids)) (⊎_elim
@@ -69,12 +65,12 @@ module _ (parents followed : ObjectId → List ObjectId) (time : ObjectId → �
   ready_turned taken i (shown, out, children) = (shown, λ m. out (reverse_of taken i m), λ child s n. reverse_in taken child (children child s n))
 
   -- what comes next
-  next_found : {by : List ℕ} (taken rest : List ObjectId) (i : ObjectId) → IsUntimed by → Comes parents followed time starts hidden taken (i ∷ rest) by → IsNext parents followed time starts hidden taken i by
-  next_found taken rest i e (listed.breadth f) = page.breadth f
-  next_found taken rest i e (listed.newest f) = absurd (e (0, omega arith, refl))
-  next_found taken rest i e (listed.oldest f) = absurd (e (1, omega arith, refl))
-  next_found taken rest i e (listed.date f) = absurd (e (2, omega arith, refl))
-  next_found taken rest i e (listed.topo ready made (before, after, is, none, out)) = page.topo ready made (
+  next_found : {by : List ℕ} (taken rest : List ObjectId) (i : ObjectId) → Comes parents followed time starts hidden taken (i ∷ rest) by → IsNext parents followed time starts hidden taken i by
+  next_found taken rest i (listed.breadth f) = page.breadth f
+  next_found taken rest i (listed.newest f) = page.newest f
+  next_found taken rest i (listed.oldest f) = page.oldest f
+  next_found taken rest i (listed.date ready made f) = page.date ready made f
+  next_found taken rest i (listed.topo ready made (before, after, is, none, out)) = page.topo ready made (
     before,
     after,
     is,
@@ -83,17 +79,17 @@ module _ (parents followed : ObjectId → List ObjectId) (time : ObjectId → �
   )
 
   -- where nothing comes next, none does
-  none_next : {by : List ℕ} (taken : List ObjectId) (i : ObjectId) → IsUntimed by → Comes parents followed time starts hidden taken [] by → IsNext parents followed time starts hidden taken i by → ⊥
-  none_next taken i e (listed.breadth none) (page.breadth (before, after, is, others, p)) =
+  none_next : {by : List ℕ} (taken : List ObjectId) (i : ObjectId) → Comes parents followed time starts hidden taken [] by → IsNext parents followed time starts hidden taken i by → ⊥
+  none_next taken i (listed.breadth none) (page.breadth (before, after, is, others, p)) =
       All-contains (λ j. IsPending parents followed time starts hidden taken j → ⊥) (starts ++ flat_map followed taken) i none (subst (λ names. Contains names i) (sym is) (Contains-append_right before (i ∷ after) i (Contains-here i after))) p
-  none_next taken i e (listed.newest f) n = absurd (e (0, omega arith, refl))
-  none_next taken i e (listed.oldest f) n = absurd (e (1, omega arith, refl))
-  none_next taken i e (listed.date f) n = absurd (e (2, omega arith, refl))
-  none_next taken i e (listed.topo ready made none) (page.topo again made_too (before, after, is, others, p)) =
+  none_next taken i (listed.newest none) (page.newest (before, after, is, others, p)) = none i p.0
+  none_next taken i (listed.oldest none) (page.oldest (before, after, is, others, p)) = none i p.0
+  none_next taken i (listed.date ready made none) (page.date again made_too (before, after, is, others, p)) = none i p.0
+  none_next taken i (listed.topo ready made none) (page.topo again made_too (before, after, is, others, p)) =
       let same : again ≡ ready = ready_once parents followed time starts hidden (reverse taken) again ready made_too made in
       All-contains (λ j. (Contains taken j → ⊥) → ⊥) (reverse ready) i none (subst (λ names. Contains (reverse names) i) same (subst (λ names. Contains names i) (sym is) (Contains-append_right before (i ∷ after) i (Contains-here i after)))) p.1
 
-  module _ (by : List ℕ) (untimed : IsUntimed by) (whole : List ObjectId) (l : Lists parents followed time starts hidden by whole) where
+  module _ (by : List ℕ) (whole : List ObjectId) (l : Lists parents followed time starts hidden by whole) where
     -- a beginning of the list
     pub begins_so : (ids more : List ObjectId) → whole ≡ ids ++ more → Begins parents followed time starts hidden by ids
     begins_so ids more cut = (
@@ -102,7 +98,7 @@ module _ (parents followed : ObjectId → List ObjectId) (time : ObjectId → �
           let within : j < length whole = subst (λ xs. j < length xs) (sym cut) (omega (arith, below, length-append ids more)) in
           let apart = l.0 i j d less within in
           λ e. apart (at i d (omega (arith, less, below)) ∙ e ∙ sym (at j d below)),
-      λ taken rest i is. next_found taken (rest ++ more) i untimed (l.2 taken (i ∷ (rest ++ more)) (cut ∙ ap (λ xs. xs ++ more) is ∙ append_assoc taken (i ∷ rest) more)),
+      λ taken rest i is. next_found taken (rest ++ more) i (l.2 taken (i ∷ (rest ++ more)) (cut ∙ ap (λ xs. xs ++ more) is ∙ append_assoc taken (i ∷ rest) more)),
     )
       where
         at : (k : ℕ) (d : ObjectId) → k < length ids → get_or whole k d ≡ get_or ids k d
@@ -110,4 +106,4 @@ module _ (parents followed : ObjectId → List ObjectId) (time : ObjectId → �
 
     -- all of it
     pub whole_so : IsWhole parents followed time starts hidden by whole
-    whole_so = (λ i n. none_next whole i untimed (l.2 whole [] (sym (append-nil whole))) n, l.3)
+    whole_so = (λ i n. none_next whole i (l.2 whole [] (sym (append-nil whole))) n, l.3)

@@ -1,17 +1,17 @@
 -- A text that isn't empty and that is read without a fault up to its parents is that of a commit of the statement.
 use Rattle.std.proofs.Common.{◌≡◌, ◌≢◌, ◌≤◌, ℕ, zero, suc, List, [], ◌∷◌, ◌++◌, length, take, Option, Some, None, Result, Ok, Err, Contains, codes, refl, sym, ap, subst, ◌∙◌, inl, arith, length-append}
-use Rattle.gix_commands.proofs.Common.{get, Contains-here, Contains-there, ObjectId, kind_of, Object, scanned, stored, Spells}
+use Rattle.gix_commands.proofs.Common.{get, Contains-here, Contains-there, ObjectId, kind_of, Object, Objects, scanned, Spells}
 use Rattle.gix_hash.specs.declared.Kind.{Kind}
 use Rattle.gix_object.specs.declared.Kind.TheVariants as kind
 use Rattle.gix_object.specs.declared.decode.Error.{Error as DecodeError}
 use Rattle.gix_object.specs.CommitItems.{Item, Tree, Parent, Author, Committer, Rest, AtTree, AtParents, AtCommitter, Front, Found, Faulty, Ended, after_word, author_front, text_line_at, id_line_at, tree_front, parent_front, front, unfolded, items_within, items_from, commit_items}
 use Rattle.gix_object.proofs.Commits.Items.{Stands, ended, faulty, tree, parent, author, stands, items_from-step}
-use Rattle.gix_records.specs.Records.{Record}
 use Rattle.gix_revwalk.specs.declared.Parents.TheVariants as mode
 use Rattle.std.proofs.Math.ListN.{get_or}
 use Rattle.gix_statement.proofs.HaveHistory.{a_time}
 use Rattle.gix_statement.specs.WholeStatement.{AreParentLines, IsText, IsThere, Row}
-use Rattle.gix_commands.proofs.SameCommits.{fed, held}
+use Rattle.gix_commands.specs.Pages.{page_objects}
+use Rattle.gix_commands.proofs.SameCommits.{held}
 use Rattle.gix_commands.proofs.SameHistory.{own_width}
 use Rattle.gix_commands.proofs.SameNumbers.{spelled, width_of}
 
@@ -49,30 +49,30 @@ parents_read (suc n) k (b ∷ bs) l e = go (parents_read n k) refl (stands k AtP
         let h = more rest less e in
         (h.0, (found.digits, rest, (spelled k found.digits p found.spells).0, h.1, found.whole))
 
-module _ (rs : List Record) (i : ObjectId) (bytes : List ℕ) (some : bytes ≢ []) (at : get (stored rs) i ≡ Some (record { kind = kind.Commit; bytes = bytes })) where
+module _ (objects : Objects) (i : ObjectId) (bytes : List ℕ) (some : bytes ≢ []) (at : get objects i ≡ Some (record { kind = kind.Commit; bytes = bytes })) where
   -- it is there
-  pub text_there : (scanned mode.All (commit_items (kind_of i) bytes)).1 ≡ None → IsThere (fed rs) [] i
+  pub text_there : (scanned mode.All (commit_items (kind_of i) bytes)).1 ≡ None → IsThere (page_objects objects) [] i
   text_there e = go refl (stands (kind_of i) AtTree bytes) (ap (λ items. (scanned mode.All items).1) (sym (items_from-step (kind_of i) AtTree bytes)) ∙ e)
     where
       not_ended : (text : List ℕ) → text ≢ [] → front (kind_of i) AtTree text ≢ Ended
       not_ended [] other s = other refl
       not_ended (b ∷ bs) other s = tree_begins _ s
 
-      go : {f : Front} → front (kind_of i) AtTree bytes ≡ f → Stands (kind_of i) bytes AtTree f → (scanned mode.All (unfolded f (items_from (kind_of i)))).1 ≡ None → IsThere (fed rs) [] i
+      go : {f : Front} → front (kind_of i) AtTree bytes ≡ f → Stands (kind_of i) bytes AtTree f → (scanned mode.All (unfolded f (items_from (kind_of i)))).1 ≡ None → IsThere (page_objects objects) [] i
       go is ended e = absurd (not_ended bytes some is)
       go is (faulty {e = why}) e = cc
       go is (tree {i = t} {rest = rest} found) e =
           let h = parents_read (length rest) (kind_of i) rest (omega arith) e in
           let when = a_time h.0 in
           let row : Row = record { id = i; tree = t; parents = (scanned mode.All (items_from (kind_of i) AtParents rest)).0; time = when.0 } in
-          let text : IsText (fed rs) row = (
+          let text : IsText (page_objects objects) row = (
             found.digits,
             rest,
             h.0,
             subst (λ w. Spells w found.digits t) (own_width i) (spelled (kind_of i) found.digits t found.spells).0,
             subst (λ w. AreParentLines w row.parents rest h.0) (own_width i) h.1,
             when.1,
-            held rs i (record { kind = kind.Commit; bytes = bytes }) at ∙ ap (λ bs. Some (record { kind = codes "commit"; bytes = bs })) found.whole,
+            held objects i (record { kind = kind.Commit; bytes = bytes }) at ∙ ap (λ bs. Some (record { kind = codes "commit"; bytes = bs })) found.whole,
           )
           in
           (row, refl, inl text)

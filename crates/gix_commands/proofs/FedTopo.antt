@@ -1,65 +1,67 @@
 -- What a run of `topo` or `date` over records has written is right in each history that has what was read, where what was read are commits.
 use Rattle.std.proofs.Common.{◌≡◌, ◌≢◌, ◌⊎◌, ℕ, suc, List, [], ◌∷◌, ◌++◌, length, drop, flat_map, Option, Some, None, Ok, All, Contains, codes, refl, sym, ap, subst, inl, inr, ◌∙◌, Bool, true, false, Result, Err, arith, append-nil, take-append-drop}
-use Rattle.gix_commands.proofs.Common.{Appends, Contains-get_or, Contains-append_left, ObjectId, Info, Topo, Commits, ListsDown, IsBuiltFrom, stored, text_next, time_of, none_agree, objects_of, IsCommitRead, IsReached, plan_from, walked_down, not_built, unserved, lines_of, false≢true, Fault, ListsRead, Yields, EndsBy, Ends, before, cut_short, finished}
+use Rattle.gix_commands.proofs.Common.{Appends, Contains-get_or, Contains-append_left, ObjectId, Info, Topo, Commits, ListsDown, IsBuiltFrom, text_next, time_of, IsAgreeing, GraphRow, Objects, objects_of, IsCommitRead, IsReached, plan_from, walked_down, not_built, unserved, lines_of, false≢true, Fault, ListsRead, Yields, EndsBy, Ends, before, cut_short, finished}
 use Rattle.std.proofs.Math.ListN.{get_or}
 use Rattle.std.proofs.lemmas.List.{length-map}
 use Rattle.gix_words.specs.declared.fault.Fault.TheVariants as fault
-use Rattle.gix_records.specs.Records.{Record}
 use Rattle.gix_topo.specs.declared.Sorting.{Sorting}
 use Rattle.gix_statement.proofs.InEach.{down_each}
 use Rattle.gix_statement.specs.WholeStatement as page
 use Rattle.gix_statement.specs.WholeStatement.{Allows, InEach, AreTips, IsThere, Reaches, id_line}
 use Rattle.gix_commands.specs.Checked.{AsksForMore}
-use Rattle.gix_commands.specs.Run.{Serves, not_written}
+use Rattle.gix_commands.specs.Run.{Serves, cut_off}
 use Rattle.gix_commands.specs.TopoWalked.{Walk, Answers, IsWalkFault}
 use Rattle.gix_commands.specs.Walked.{failed, given}
 use Rattle.gix_commands.specs.WholeStatement.{Lists}
+use Rattle.gix_commands.specs.Everywhere.{IsRight}
+use Rattle.gix_commands.specs.Pages.{page_objects}
 use Rattle.gix_commands.proofs.CommitRuns.{ids_in, lines_by_ids}
 use Rattle.gix_commands.proofs.FedSimple.{allowed}
 use Rattle.gix_commands.proofs.FedCommits.{fed_history}
-use Rattle.gix_commands.proofs.FedLists.{IsUntimed, at_most, begins_so, first_cut, no_rest, whole_so}
+use Rattle.gix_commands.proofs.FedLists.{at_most, begins_so, first_cut, no_rest, whole_so}
 use Rattle.gix_commands.proofs.FedNames.{down_name, is_order}
 use Rattle.gix_commands.proofs.FirstCommits.{up_to_down}
-use Rattle.gix_commands.proofs.SameCommits.{fed}
+use Rattle.gix_commands.proofs.Right.{begun_right, cut_right}
 use Rattle.gix_commands.proofs.SameLists.{id_lines, listed_down}
 use Rattle.gix_commands.proofs.SameOrders.{reaches_back}
 use Rattle.gix_commands.proofs.SameWords.{AreBehind, IsNameOf}
 use Rattle.gix_commands.proofs.SimpleBegins.{AreFirstOf}
 use Rattle.gix_commands.proofs.TopoBegins.{first_given_down}
-use Rattle.gix_commands.proofs.TopoRuns.{listed_read, was_read}
+use Rattle.gix_commands.proofs.TopoRuns.{listed_read}
 
-module _ (rs : List Record) (by : Sorting) (tips ends : List ObjectId) (some : tips ≢ []) (read_is : (i : ObjectId) → IsCommitRead (stored rs) i → IsThere (fed rs) [] i) where
+module _ (objects : Objects) (rows : List GraphRow) (agrees : IsAgreeing objects rows) (by : Sorting) (tips ends : List ObjectId) (some : tips ≢ []) (read_is : (i : ObjectId) → IsCommitRead objects i → IsThere (page_objects objects) [] i)
+    (was_read : (walk : Walk) → IsBuiltFrom objects rows by tips ends (Ok walk) → (i : ObjectId) → IsReached objects_of (plan_from objects rows by tips ends) i → IsCommitRead objects i) where
   abbrev IsList : List ObjectId → Type 0
-  IsList = ListsDown (stored rs) (text_next (stored rs)) by tips ends
+  IsList = ListsDown objects (text_next objects) by tips ends
 
-  module _ (walk : Walk) (built : IsBuiltFrom (stored rs) [] by tips ends (Ok walk)) where
+  module _ (walk : Walk) (built : IsBuiltFrom objects rows by tips ends (Ok walk)) where
     -- all that tips and ends reach was read
-    read_there : (i : ObjectId) → IsReached objects_of (plan_from (stored rs) [] by tips ends) i → IsThere (fed rs) [] i
-    read_there i r = read_is i (was_read (stored rs) (stored rs) (λ j o e. e) by tips ends walk built i r)
+    read_there : (i : ObjectId) → IsReached objects_of (plan_from objects rows by tips ends) i → IsThere (page_objects objects) [] i
+    read_there i r = read_is i (was_read walk built i r)
 
-    module _ (old new : Option (List ℕ)) (name : List ℕ) (option words : List (List ℕ)) (named : IsNameOf name (Topo by)) (untimed : IsUntimed name) (plain : option ≡ []) (are : AreTips words tips ends) where
+    module _ (old new : Option (List ℕ)) (name : List ℕ) (option words : List (List ℕ)) (named : IsNameOf name (Topo by)) (plain : option ≡ []) (are : AreTips words tips ends) where
       -- in each history the list was written, or so far a beginning of it
       abbrev pub IsWritten : Bool → List (List ℕ) → Type 0
-      IsWritten true asked = InEach (fed rs) [] (λ ps ts. page.Serves (fed rs) [] ps ts old new asked)
-      IsWritten false asked = InEach (fed rs) [] (λ ps ts. page.HasBegun (fed rs) [] ps ts old new asked)
+      IsWritten true asked = InEach (page_objects objects) [] (λ ps ts. page.Serves (page_objects objects) [] ps ts old new asked)
+      IsWritten false asked = InEach (page_objects objects) [] (λ ps ts. page.HasBegun (page_objects objects) [] ps ts old new asked)
 
-      written_so : (ended : Bool) (ids : List ObjectId) (asked : List (List ℕ)) → InEach (fed rs) [] (λ ps ts. page.Lists (fed rs) [] ps ts ids ended asked) → Appends old new (flat_map id_line ids) → IsWritten ended asked
+      written_so : (ended : Bool) (ids : List ObjectId) (asked : List (List ℕ)) → InEach (page_objects objects) [] (λ ps ts. page.Lists (page_objects objects) [] ps ts ids ended asked) → Appends old new (flat_map id_line ids) → IsWritten ended asked
       written_so true ids asked each written = λ ps ts h. page.commits ids (each ps ts h) written
       written_so false ids asked each written = λ ps ts h. (ids, each ps ts h, written)
 
       abbrev ListsSo : List ObjectId → Type 0
-      ListsSo = Lists (text_next (stored rs)) (text_next (stored rs)) (time_of (stored rs)) tips ends name
+      ListsSo = Lists (text_next objects) (text_next objects) (time_of objects) tips ends name
 
       -- the first of a list were written
       down_so : (ended : Bool) (limit : List (List ℕ)) (ids more : List ObjectId) → IsList (ids ++ more) → Allows limit (length ids) → ((ended ≡ true) × Allows limit (suc (length ids)) → more ≡ []) → Appends old new (flat_map id_line ids) → IsWritten ended (name ∷ (option ++ (limit ++ words)))
       down_so ended limit ids more l allows all written =
-          let those : ListsSo (ids ++ more) = listed_down (stored rs) (text_next (stored rs)) name by named tips ends (ids ++ more) l in
+          let those : ListsSo (ids ++ more) = listed_down objects (text_next objects) name by named tips ends (ids ++ more) l in
           written_so ended ids (name ∷ (option ++ (limit ++ words)))
-          (down_each (fed rs) [] (text_next (stored rs)) (time_of (stored rs)) (fed_history rs) old new name option limit words tips ends ids (is_order name (Topo by) named) are some
+          (down_each (page_objects objects) [] (text_next objects) (time_of objects) (fed_history objects) old new name option limit words tips ends ids (is_order name (Topo by) named) are some
           (λ k d few. let i = get_or ids k d in read_there i (inl (l.shown i (Contains-append_left ids more i (Contains-get_or ids k d few))).0)) allows written ended (down_name name by named) plain
-          (begins_so (text_next (stored rs)) (text_next (stored rs)) (time_of (stored rs)) tips ends name untimed (ids ++ more) those ids more refl)
-          (λ one_more. let same : ids ++ more ≡ ids = ap (λ xs. ids ++ xs) (all one_more) ∙ append-nil ids in whole_so (text_next (stored rs)) (text_next (stored rs)) (time_of (stored rs)) tips ends name untimed ids (subst ListsSo same those))
-          (λ i r. read_there i (inl (reaches_back (text_next (stored rs)) tips i r))) (λ i r. read_there i (inr (reaches_back (text_next (stored rs)) ends i r))))
+          (begins_so (text_next objects) (text_next objects) (time_of objects) tips ends name (ids ++ more) those ids more refl)
+          (λ one_more. let same : ids ++ more ≡ ids = ap (λ xs. ids ++ xs) (all one_more) ∙ append-nil ids in whole_so (text_next objects) (text_next objects) (time_of objects) tips ends name ids (subst ListsSo same those))
+          (λ i r. read_there i (inl (reaches_back (text_next objects) tips i r))) (λ i r. read_there i (inr (reaches_back (text_next objects) ends i r))))
           written
 
       lines : (infos : List Info) → Appends old new (lines_of infos) → Appends old new (flat_map id_line (ids_in infos))
@@ -68,10 +70,10 @@ module _ (rs : List Record) (by : Sorting) (tips ends : List ObjectId) (some : t
       -- a run of it that ends well
       ended_run : (limit : Option ℕ) (rest : List (List ℕ)) → AreBehind limit rest words → (infos : List Info) → EndsBy Answers IsWalkFault limit walk infos (Ok tt) → Appends old new (lines_of infos) → IsWritten true (name ∷ (option ++ rest))
       ended_run None rest same infos drawn written =
-          let l = listed_read (stored rs) [] (none_agree (stored rs) [] refl) by tips ends walk built infos drawn in
+          let l = listed_read objects rows agrees by tips ends walk built infos drawn in
           subst (λ w. IsWritten true (name ∷ (option ++ w))) (sym same) (down_so true [] (ids_in infos) [] (subst IsList (sym (append-nil (ids_in infos))) l) (inl refl) (λ one_more. refl) (lines infos written))
       ended_run (Some n) rest (number, is, same) infos drawn written =
-          let f = up_to_down (stored rs) [] (none_agree (stored rs) [] refl) by tips ends n walk infos built drawn in
+          let f = up_to_down objects rows agrees by tips ends n walk infos built drawn in
           subst (λ w. IsWritten true (name ∷ (option ++ w))) (sym same)
           (down_so true (codes "-n" ∷ number ∷ []) (ids_in infos) (drop n f.0) (subst IsList (first_cut n f.0 (ids_in infos) f.2) f.1.read) (inr (number, n, is, refl, at_most n f.0 (ids_in infos) f.2))
           (λ one_more. no_rest n f.0 (ids_in infos) f.2 (allowed number n (suc (length (ids_in infos))) is one_more.1)) (lines infos written))
@@ -83,8 +85,8 @@ module _ (rs : List Record) (by : Sorting) (tips ends : List ObjectId) (some : t
           ids : List ObjectId
           ids = ids_in infos
 
-          f : AreFirstOf (ListsRead (stored rs) by tips ends) ids
-          f = first_given_down (stored rs) [] (none_agree (stored rs) [] refl) by tips ends walk built infos last drawn
+          f : AreFirstOf (ListsRead objects by tips ends) ids
+          f = first_given_down objects rows agrees by tips ends walk built infos last drawn
 
           l : IsList (ids ++ drop (length ids) f.0)
           l = subst IsList (sym (take-append-drop (length ids) f.0) ∙ ap (λ xs. xs ++ drop (length ids) f.0) f.2) f.1.read
@@ -104,15 +106,15 @@ module _ (rs : List Record) (by : Sorting) (tips ends : List ObjectId) (some : t
       stopped_run None rest same infos e drawn written = failed_run None rest same infos drawn (λ s. cc) tt written
       stopped_run (Some n) rest same infos e (before drawn less) written = failed_run (Some n) rest same infos drawn (λ s. cc) less written
 
-  module _ (old new : Option (List ℕ)) (name : List ℕ) (option words : List (List ℕ)) (named : IsNameOf name (Topo by)) (untimed : IsUntimed name) (plain : option ≡ []) (are : AreTips words tips ends) (limit : Option ℕ) (rest : List (List ℕ)) (same : AreBehind limit rest words) where
-    pub topo_run : Serves (stored rs) [] old (Commits (Topo by) limit tips ends) (Ok tt) new → InEach (fed rs) [] (λ ps ts. page.Serves (fed rs) [] ps ts old new (name ∷ (option ++ rest)))
-    topo_run (walked_down walk infos built drawn written) = ended_run walk built old new name option words named untimed plain are limit rest same infos drawn written
+  -- whatever a run of it answers, what it wrote is right
+  module _ (old : Option (List ℕ)) (name : List ℕ) (option words : List (List ℕ)) (named : IsNameOf name (Topo by)) (plain : option ≡ []) (are : AreTips words tips ends) (limit : Option ℕ) (rest : List (List ℕ)) (same : AreBehind limit rest words) where
+    abbrev asked : List (List ℕ)
+    asked = name ∷ (option ++ rest)
 
-    fails_so : (left : Option (List ℕ)) → left ≡ new → (e : Fault) → e ≢ fault.Write → Serves (stored rs) [] old (Commits (Topo by) limit tips ends) (Err e) left → (new ≡ old) ⊎ InEach (fed rs) [] (λ ps ts. page.HasBegun (fed rs) [] ps ts old new (name ∷ (option ++ rest)))
-    fails_so left is e other (walked_down walk infos built drawn written) = inr (stopped_run walk built old new name option words named untimed plain are limit rest same infos e drawn (subst (λ x. Appends old x (lines_of infos)) is written))
-    fails_so left is e other (not_built why h) = inl (sym is)
-    fails_so left is e other unserved = inl (sym is)
-    fails_so left is e other not_written = absurd (other refl)
-
-    pub topo_fails : (e : Fault) → e ≢ fault.Write → Serves (stored rs) [] old (Commits (Topo by) limit tips ends) (Err e) new → (new ≡ old) ⊎ InEach (fed rs) [] (λ ps ts. page.HasBegun (fed rs) [] ps ts old new (name ∷ (option ++ rest)))
-    topo_fails = fails_so new refl
+    pub topo_right : (answer : Result (Unit {0}) Fault) (new : Option (List ℕ)) → Serves objects rows old (Commits (Topo by) limit tips ends) answer new → IsRight (page_objects objects) asked old answer new
+    topo_right (Ok tt) new (walked_down walk infos built drawn written) = ended_run walk built old new name option words named plain are limit rest same infos drawn written
+    topo_right (Err e) new (walked_down walk infos built drawn written) =
+        begun_right (page_objects objects) asked old e new (stopped_run walk built old new name option words named plain are limit rest same infos e drawn written)
+    topo_right (Err e) new (not_built why h) = inl refl
+    topo_right (Err e) new unserved = inl refl
+    topo_right (Err e) new (cut_off {answer = answer} {full = full} some more s a b) = cut_right (page_objects objects) asked old answer full new some more (topo_right answer full s) a b

@@ -13,7 +13,7 @@ use Rattle.gix_tree.specs.Paths.{HaveNames}
 use Rattle.gix_tree.specs.Recorder.{record_of}
 use Rattle.gix_words.specs.declared.fault.Fault.TheVariants as fault
 use Rattle.gix_commands.specs.Listings.{AreNamed, Unfolds, Misnames, FilesLists, FilesListsOfPart, FilesReportNames, FilesSucceeds}
-use Rattle.gix_commands.specs.Run.{Serves, listed, misnamed, not_written}
+use Rattle.gix_commands.specs.Run.{Serves, listed, misnamed, cut_off}
 use Rattle.gix_commands.proofs.CommitRuns.{ok_same, served_so, ends_well}
 use Rattle.gix_commands.proofs.NamedTrees.{no_misnamed, misnames, have_names}
 use Rattle.gix_commands.proofs.RunFacts.{err_same}
@@ -59,7 +59,7 @@ module _ (objects : Objects) (ending : ℕ) (tree : ObjectId) where
   reports i answer old new (not_listed recorder why walk) is = absurd (not_named i why (err_same is))
   reports i answer old new (misnamed {i = j} recorder walk first) is = subst (Misnames objects tree) (name_same (err_same is)) (misnames objects tree walk.visits j (unfolds recorder walk) first)
   reports i answer old new unserved is = cc
-  reports i answer old new not_written is = cc
+  reports i answer old new (cut_off some more s a b) is = cc
 
   module _ (sound : AreSound (trees_of objects) (LookUpFails objects (never_faulty objects)) (λ e. true) (tree ∷ [])) (named : AreNamed objects tree) where
     shown : (why : Error) → AreSound (trees_of objects) (LookUpFailed objects (never_faulty objects) (Err why)) (λ e. true) (tree ∷ [])
@@ -81,7 +81,7 @@ module _ (objects : Objects) (ending : ℕ) (tree : ObjectId) where
     well old answer new (not_listed recorder why walk) = outside why recorder walk
     well old answer new (misnamed {i = i} recorder walk first) = no_misnamed walk.visits i (have_names objects tree named walk.visits (unfolds recorder walk)) first
     well old answer new unserved = tt
-    well old answer new not_written = tt
+    well old answer new (cut_off some more s a b) = tt
 
 pub files_lists : FilesLists
 files_lists words input records ending tree old new asked are runs = lists (stored records) ending tree old new (served_so words input records (Files ending tree) old new asked are runs)

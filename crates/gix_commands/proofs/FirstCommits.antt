@@ -103,7 +103,7 @@ module _ (some all : Objects) (part : IsPartOf some all) (m : Parents) (by : Sor
         named : (c : ObjectId) → Contains (front (ids_in infos)) c → by ≢ sorting.BreadthFirst → (i : ObjectId) → Contains (by_mode m (text_next some c)) i → IsFound some m by tips hidden i
         named c n other i k =
             let g = given_first some [] m by tips hidden walk starts agree infos last drawn none c n in
-            found_whole some m by tips hidden i (whole_all some g.0.parent_ids.items (parents other g.0 g.1) i (subst (λ xs. Contains xs i) (sym g.2) k))
+            found_whole some m by tips hidden i (whole_all some [] (none_agree some [] refl) g.0.parent_ids.items (parents other g.0 g.1) i (subst (λ xs. Contains xs i) (sym g.2) k))
 
     -- behind hidden tips all was read before the first of them
     whole_first : AreWhole some (kept_tips some by tips ++ hidden) → AreFirstOf (IsSimpleList all m by tips hidden) (ids_in infos)

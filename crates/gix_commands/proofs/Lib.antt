@@ -52,6 +52,7 @@ mod SameWords
 mod SameContained
 mod SameLists
 mod WholeRuns
+mod Right
 mod FedCommits
 mod FedTexts
 mod FedLists

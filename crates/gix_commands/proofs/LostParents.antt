@@ -1,6 +1,6 @@
 -- Which commits aren't there, and why.
 use Rattle.std.proofs.Common.{◌≡◌, ◌≢◌, ℕ, List, [], ◌∷◌, Option, None, Some, Result, Ok, Err, Contains, refl, sym, ap, subst, ◌∙◌, ⊎_elim}
-use Rattle.gix_commands.proofs.Common.{IsExistingFault, fault_of_find, never_faulty, seconds_of, get, Contains-cons_cases, Contains-here, Contains-there, no_member, ObjectId, kind_of, Object, Objects, Commit, read_commit, GraphRow, row_of, ReadsWhole, commit_of_object, Fault}
+use Rattle.gix_commands.proofs.Common.{IsExistingFault, fault_of_find, never_faulty, seconds_of, get, Contains-cons_cases, Contains-here, Contains-there, no_member, ObjectId, kind_of, Object, Objects, Commit, read_commit, GraphRow, row_of, IsAgreeing, row_stands, ReadsWhole, commit_of_object, Fault}
 use Rattle.std.specs.Option.{option_or}
 use Rattle.gix_object.specs.declared.Kind.{Kind}
 use Rattle.gix_object.specs.declared.Kind.TheVariants as object
@@ -89,19 +89,23 @@ module _ (objects : Objects) (i : ObjectId) where
       go object.Blob k r = cc
       go object.Tag k r = cc
 
-  -- and without rows what is there reads whole
-  whole_there : lost_at objects [] i ≡ None → ReadsWhole objects i
-  whole_there e = read_there (get objects i) refl e
+  -- and what is there, by a row that agrees or by its text, reads whole
+  whole_there : (rows : List GraphRow) → IsAgreeing objects rows → lost_at objects rows i ≡ None → ReadsWhole objects i
+  whole_there rows agrees e = go (row_of rows i) refl e
+    where
+      go : (row : Option GraphRow) → row_of rows i ≡ row → unless_row row (fault_of_object i (get objects i)) ≡ None → ReadsWhole objects i
+      go None at f = read_there (get objects i) refl f
+      go (Some row) at f = let s = row_stands rows i row at in subst (ReadsWhole objects) (sym s.1) (agrees row s.0).whole
 
 pub all_there : (objects : Objects) (rows : List GraphRow) (ids : List ObjectId) → ((i : ObjectId) → Contains ids i → ReadsWhole objects i) → first_lost objects rows ids ≡ None
 all_there objects rows [] whole = refl
 all_there objects rows (i ∷ ids) whole = ap (λ o. option_or o (first_lost objects rows ids)) (there objects i rows (whole i (Contains-here i ids))) ∙ all_there objects rows ids (λ j c. whole j (Contains-there j i ids c))
 
-pub whole_all : (objects : Objects) (ids : List ObjectId) → first_lost objects [] ids ≡ None → (i : ObjectId) → Contains ids i → ReadsWhole objects i
-whole_all objects [] e i c = absurd (no_member i c)
-whole_all objects (j ∷ ids) e i c =
-    let n : (lost_at objects [] j ≡ None) × (first_lost objects [] ids ≡ None) = none_either (lost_at objects [] j) (first_lost objects [] ids) e in
-    ⊎_elim (λ same. subst (ReadsWhole objects) same (whole_there objects j n.0)) (whole_all objects ids n.1 i) (Contains-cons_cases i j ids c)
+pub whole_all : (objects : Objects) (rows : List GraphRow) → IsAgreeing objects rows → (ids : List ObjectId) → first_lost objects rows ids ≡ None → (i : ObjectId) → Contains ids i → ReadsWhole objects i
+whole_all objects rows agrees [] e i c = absurd (no_member i c)
+whole_all objects rows agrees (j ∷ ids) e i c =
+    let n : (lost_at objects rows j ≡ None) × (first_lost objects rows ids ≡ None) = none_either (lost_at objects rows j) (first_lost objects rows ids) e in
+    ⊎_elim (λ same. subst (ReadsWhole objects) same (whole_there objects j rows agrees n.0)) (whole_all objects rows agrees ids n.1 i) (Contains-cons_cases i j ids c)
 
 -- what a look at a commit finds
 module _ (objects : Objects) (rows : List GraphRow) (i : ObjectId) where

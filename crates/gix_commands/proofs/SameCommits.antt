@@ -14,6 +14,7 @@ use Rattle.std.specs.Option.{option_map}
 use Rattle.gix_records.specs.Input.{Tells}
 use Rattle.gix_statement.specs.WholeStatement as page
 use Rattle.gix_statement.specs.WholeStatement.{AreFed, AreRecords, IsLast, kinds}
+use Rattle.gix_commands.specs.Pages.{as_page, page_objects}
 use Rattle.gix_commands.proofs.SameNumbers.{hex_spelled, spelled, spells_again, is_decimal, counts, width_of}
 
 -- a record, with the word of its kind
@@ -47,19 +48,15 @@ put objects r = map_of.insert objects r.id (object_of r)
 pub get_put : (objects : Objects) (r : records.Record) (i : ObjectId) → get (put objects r) i ≡ cond (is_same i r.id) (Some (object_of r)) (get objects i)
 get_put objects r i = map_of.get-insert id_total objects r.id (object_of r) i
 
--- an object, with the word of its kind
-abbrev pub as_object : Object → page.Object
-as_object o = record { kind = kind_word o.kind; bytes = o.bytes }
-
 -- an object is that of the last record of its id, or was there before
-of_record : (rs : List records.Record) (objects : Objects) (i : ObjectId) (o : Object) → get (put_in objects rs) i ≡ Some o → IsLast (map worded rs) i (Some (as_object o)) ⊎ ((get objects i ≡ Some o) × HasNone rs i)
+of_record : (rs : List records.Record) (objects : Objects) (i : ObjectId) (o : Object) → get (put_in objects rs) i ≡ Some o → IsLast (map worded rs) i (Some (as_page o)) ⊎ ((get objects i ≡ Some o) × HasNone rs i)
 of_record [] objects i o e = inr (e, λ q c. absurd (no_member (i, q) c))
 of_record (r ∷ rs) objects i o e = ⊎_elim (λ h. inl (worded r ∷ h.0, h.1, ap (λ xs. worded r ∷ xs) h.2, h.3)) (λ h. go (is_same i r.id) refl (sym (get_put objects r i) ∙ h.0) h.1) (of_record rs (put objects r) i o e)
   where
-    go : (t : Bool) → is_same i r.id ≡ t → cond t (Some (object_of r)) (get objects i) ≡ Some o → HasNone rs i → IsLast (map worded (r ∷ rs)) i (Some (as_object o)) ⊎ ((get objects i ≡ Some o) × HasNone (r ∷ rs) i)
+    go : (t : Bool) → is_same i r.id ≡ t → cond t (Some (object_of r)) (get objects i) ≡ Some o → HasNone rs i → IsLast (map worded (r ∷ rs)) i (Some (as_page o)) ⊎ ((get objects i ≡ Some o) × HasNone (r ∷ rs) i)
     go true s e none =
         let same : object_of r ≡ o = same_Some (object_of r) o e in
-        inl ([], map worded rs, (λ k. (sym (same_is i r.id s) k, as_object (same k)) ∷ map worded rs), none)
+        inl ([], map worded rs, (λ k. (sym (same_is i r.id s) k, as_page (same k)) ∷ map worded rs), none)
     go false s e none = inr (e, none_more r rs i (λ same. false≢true (sym s ∙ same_from i r.id (sym same))) none)
 
 -- once an id has an object it keeps one
@@ -81,12 +78,12 @@ is_stored (r ∷ rs) objects i o c =
 
 -- the objects of records, as the statement has them
 abbrev pub fed : List records.Record → page.Objects
-fed rs i = option_map as_object (get (stored rs) i)
+fed rs = page_objects (stored rs)
 
 is_last : (rs : List records.Record) (i : ObjectId) → IsLast (map worded rs) i (fed rs i)
 is_last rs i = go (get (stored rs) i) refl
   where
-    go : (o : Option Object) → get (stored rs) i ≡ o → IsLast (map worded rs) i (option_map as_object o)
+    go : (o : Option Object) → get (stored rs) i ≡ o → IsLast (map worded rs) i (option_map as_page o)
     go None e = λ o c. let s = is_stored rs map_of.empty i o c in none-some s.0 (sym e ∙ s.1)
     go (Some o) e = ⊎_elim (λ h. h) (λ h. let no : None ≡ Some o = sym (map_of.get-empty id_cmp i) ∙ h.0 in absurd (none-some o no)) (of_record rs map_of.empty i o e)
 
@@ -95,20 +92,20 @@ are_fed rs None input h are = (input, inl refl, map worded rs, are_records rs in
 are_fed rs (Some bytes) input h are = (input, inr (ap Some (sym h)), map worded rs, are_records rs input are, is_last rs)
 
 -- the object of an id has this kind and these bytes
-abbrev pub IsFed : List records.Record → ObjectId → List ℕ → List ℕ → Type 0
-IsFed rs i word bytes = fed rs i ≡ Some (record { kind = word; bytes = bytes })
+abbrev pub IsHeld : Objects → ObjectId → List ℕ → List ℕ → Type 0
+IsHeld objects i word bytes = page_objects objects i ≡ Some (record { kind = word; bytes = bytes })
 
-pub held : (rs : List records.Record) (i : ObjectId) (o : Object) → get (stored rs) i ≡ Some o → IsFed rs i (kind_word o.kind) o.bytes
-held rs i o e = ap (option_map as_object) e
+pub held : (objects : Objects) (i : ObjectId) (o : Object) → get objects i ≡ Some o → IsHeld objects i (kind_word o.kind) o.bytes
+held objects i o e = ap (option_map as_page) e
 
 -- and back: it is in the store
-pub held_back : (rs : List records.Record) (i : ObjectId) (word bytes : List ℕ) → IsFed rs i word bytes → (o : Object) × (get (stored rs) i ≡ Some o) × (kind_word o.kind ≡ word) × (o.bytes ≡ bytes)
-held_back rs i word bytes h = go (get (stored rs) i) refl h
+pub held_back : (objects : Objects) (i : ObjectId) (word bytes : List ℕ) → IsHeld objects i word bytes → (o : Object) × (get objects i ≡ Some o) × (kind_word o.kind ≡ word) × (o.bytes ≡ bytes)
+held_back objects i word bytes h = go (get objects i) refl h
   where
-    go : (found : Option Object) → get (stored rs) i ≡ found → option_map as_object found ≡ Some (record { kind = word; bytes = bytes }) → (o : Object) × (get (stored rs) i ≡ Some o) × (kind_word o.kind ≡ word) × (o.bytes ≡ bytes)
+    go : (found : Option Object) → get objects i ≡ found → option_map as_page found ≡ Some (record { kind = word; bytes = bytes }) → (o : Object) × (get objects i ≡ Some o) × (kind_word o.kind ≡ word) × (o.bytes ≡ bytes)
     go None at e = absurd (none-some _ e)
     go (Some o) at e =
-        let same : as_object o ≡ record { kind = word; bytes = bytes } = same_Some _ _ e in
+        let same : as_page o ≡ record { kind = word; bytes = bytes } = same_Some _ _ e in
         (o, at, ap (λ (x : page.Object). x.kind) same, ap (λ (x : page.Object). x.bytes) same)
 
 -- lines

@@ -9,7 +9,7 @@ use Rattle.gix_object.proofs.Commits.Texts.{reads_texts}
 use Rattle.gix_records.specs.Records.{Record}
 use Rattle.gix_statement.specs.WholeStatement.{Objects}
 use Rattle.gix_commands.proofs.SameNumbers.{width_of}
-use Rattle.gix_commands.proofs.SameCommits.{IsFed, fed, held, held_back, IsText, commit_text, commit_text_back, is_time}
+use Rattle.gix_commands.proofs.SameCommits.{IsHeld, fed, held, held_back, IsText, commit_text, commit_text_back, is_time}
 use Rattle.gix_commands.proofs.SameTexts.{AreNamed, IsNaming, texts}
 
 pub own_width : (i : ObjectId) → width_of (kind_of i) ≡ digits_in i
@@ -27,14 +27,14 @@ module _ (rs : List Record) (i : ObjectId) where
   all = fed rs
 
   -- the committer
-  of_text : (bytes : List ℕ) (parents : List ObjectId) (signature : List ℕ) (time : ℤ) → IsFed rs i (codes "commit") bytes → IsText (digits_in i) bytes parents signature → IsTime signature time → IsSigned all i time
+  of_text : (bytes : List ℕ) (parents : List ObjectId) (signature : List ℕ) (time : ℤ) → IsHeld (stored rs) i (codes "commit") bytes → IsText (digits_in i) bytes parents signature → IsTime signature time → IsSigned all i time
   of_text bytes parents signature time holds (tree, (digits, lines, author, rest, spells, named, signed, are, whole)) timed =
-      (parents, author, signature, rest, named, signed, timed, (tree, digits, lines, spells, are, subst (IsFed rs i (codes "commit")) whole holds))
+      (parents, author, signature, rest, named, signed, timed, (tree, digits, lines, spells, are, subst (IsHeld (stored rs) i (codes "commit")) whole holds))
 
   of_object : (o : Object) → get (stored rs) i ≡ Some o → (c : Commit) (k : ObjectKind) → o.kind ≡ k → commit_of_kind i k o.bytes ≡ Some c → IsSigned all i c.time
   of_object o at c kind.Commit is e =
       let t = (reads_texts (kind_of i) o.bytes c).0 e in
-      let holds : IsFed rs i (codes "commit") o.bytes = subst (λ word. IsFed rs i word o.bytes) (ap kind_word is) (held rs i o at) in
+      let holds : IsHeld (stored rs) i (codes "commit") o.bytes = subst (λ word. IsHeld (stored rs) i word o.bytes) (ap kind_word is) (held (stored rs) i o at) in
       of_text o.bytes c.parents t.0 c.time holds (subst (λ width. IsText width o.bytes c.parents t.0) (own_width i) (c.tree, commit_text (kind_of i) o.bytes c.tree c.parents t.0 t.1)) (subst (IsTime t.0) (sym t.2) (is_time t.0))
   of_object o at c kind.Tree is e = absurd (none-some c e)
   of_object o at c kind.Blob is e = absurd (none-some c e)
@@ -51,7 +51,7 @@ module _ (rs : List Record) (i : ObjectId) where
   is_signed_back time (parents, author, signature, rest, named, signed, timed, (tree, digits, lines, spells, are, holds)) =
       let text : List ℕ = codes "tree " ++ digits ++ 10 ∷ lines in
       let is : IsText (digits_in i) text parents signature = (tree, (digits, lines, author, rest, spells, named, signed, are, refl)) in
-      let h = held_back rs i (codes "commit") text holds in
+      let h = held_back (stored rs) i (codes "commit") text holds in
       let t = commit_text_back (kind_of i) text parents signature (subst (λ width. IsText width text parents signature) (sym (own_width i)) is) in
       let c : Commit = record { tree = t.0; parents = parents; time = seconds_of signature } in
       let read : read_commit (kind_of i) text ≡ Some c = (reads_texts (kind_of i) text c).1 signature t.1 refl in
@@ -74,7 +74,7 @@ module _ (rs : List Record) (i : ObjectId) where
   -- what is stored is the commit that names them
   named_back : (ps : List ObjectId) (rest : List ℕ) → Names all i ps rest → (o : Object) × (get (stored rs) i ≡ Some o) × (o.kind ≡ kind.Commit) × IsNaming (digits_in i) o.bytes ps rest
   named_back ps rest (tree, digits, lines, spells, are, holds) =
-      let h = held_back rs i (codes "commit") (codes "tree " ++ digits ++ 10 ∷ lines) holds in
+      let h = held_back (stored rs) i (codes "commit") (codes "tree " ++ digits ++ 10 ∷ lines) holds in
       (h.0, h.1, is_commit_kind h.0.kind h.2, (tree, digits, lines, spells, are, h.3))
 
   parents_of_object : (o : Object) → get (stored rs) i ≡ Some o → (k : ObjectKind) → o.kind ≡ k → AreParents (text_parents_of_kind i k o.bytes)
@@ -85,7 +85,7 @@ module _ (rs : List Record) (i : ObjectId) where
 
       naming : (parents : List ObjectId) (rest : List ℕ) → o.kind ≡ kind.Commit → IsNaming (digits_in i) o.bytes parents rest → Names all i parents rest
       naming parents rest is (tree, digits, lines, spells, are, whole) =
-          (tree, digits, lines, spells, are, subst (λ word. IsFed rs i word (codes "tree " ++ digits ++ 10 ∷ lines)) (ap kind_word is) (subst (IsFed rs i (kind_word o.kind)) whole (held rs i o at)))
+          (tree, digits, lines, spells, are, subst (λ word. IsHeld (stored rs) i word (codes "tree " ++ digits ++ 10 ∷ lines)) (ap kind_word is) (subst (IsHeld (stored rs) i (kind_word o.kind)) whole (held (stored rs) i o at)))
 
       no_commit : o.kind ≢ kind.Commit → (ps : List ObjectId) (rest : List ℕ) → Names all i ps rest → ⊥
       no_commit other ps rest h = let b = named_back ps rest h in other (sym (ap (λ (x : Object). x.kind) (same b.0 b.1)) ∙ b.2)

@@ -1,7 +1,7 @@
 -- The entries of trees, the trees in them and the lines of entries are those of the statement.
 use Rattle.std.proofs.Common.{◌≡◌, ◌≢◌, ◌≤◌, ◌<◌, ◌+◌, ◌*◌, ◌==◌, nat_lt, ℕ, zero, suc, List, [], ◌∷◌, ◌++◌, map, length, take, drop, Bool, true, false, cond, Option, Some, None, All, bit_and, Continue, flat_map, position, refl, sym, ap}
 use Rattle.std.proofs.Common.{subst, ◌∙◌, arith, append-nil, append_assoc, length-append, get_or, drop-cons, eqb-true, eq-eqb, ltb-false, get_or-take, length-take-le, take-append-drop}
-use Rattle.gix_commands.proofs.Common.{get, false≢true, All-cons, All-head, All-nil, All-tail, same_Some, none-some, ObjectId, id_len, id_of, kind_of, bytes_of, is_among, Object, kind_word, stored, Call, DepthScript, IsDepthScript, entries_in}
+use Rattle.gix_commands.proofs.Common.{get, false≢true, All-cons, All-head, All-nil, All-tail, same_Some, none-some, ObjectId, id_len, id_of, kind_of, bytes_of, is_among, Object, Objects, kind_word, Call, DepthScript, IsDepthScript, entries_in}
 use Rattle.gix_commands.proofs.Common.{Items, Place, Visit, visit, Whole, items_of_object, items_of_kind, trees_of, Entry, IsNumber, AreEntries, IsTree, bytes_in, digits_in}
 use Rattle.std.specs.List.{AllByRecursion}
 use Rattle.std.proofs.lemmas.List.{map-append}
@@ -13,7 +13,6 @@ use Rattle.gix_object.specs.declared.Kind.{Kind as ObjectKind}
 use Rattle.gix_object.specs.declared.Kind.TheVariants as kind
 use Rattle.gix_object.specs.declared.find.existing_iter.Error.{Error as ExistingError}
 use Rattle.gix_object.specs.TreeItems.{TreeEntry, TreeFront, Found, Faulty, Ended, is_tree, parted_at, parted, mode_of, mode_before, mode_parted, mode_at, name_at, id_at, named_front, moded_front, entry_front, tree_front, unfolded, entries_within, tree_items}
-use Rattle.gix_records.specs.Records.{Record}
 use Rattle.gix_tree.specs.Laws.{IsWhole}
 use Rattle.gix_tree.specs.Paths.{HaveNames, IsName, joined}
 use Rattle.gix_tree.specs.Script as script
@@ -21,8 +20,9 @@ use Rattle.gix_tree.proofs.All.{all_left, all_right}
 use Rattle.gix_tree.proofs.Theorems.SameRecords.{GoOn}
 use Rattle.gix_commands.specs.WholeStatement as page
 use Rattle.gix_commands.specs.WholeStatement.{Unfolds}
+use Rattle.gix_commands.specs.Pages.{page_objects}
 use Rattle.gix_commands.proofs.SameNumbers.{is_octal_number, width_of}
-use Rattle.gix_commands.proofs.SameCommits.{IsFed, fed, held}
+use Rattle.gix_commands.proofs.SameCommits.{IsHeld, held}
 use Rattle.gix_commands.proofs.SameHistory.{own_width}
 use Rattle.gix_commands.proofs.TreeFacts.{leaves_mode, enters_mode}
 
@@ -177,14 +177,14 @@ entries_read (suc n) k (b ∷ bs) l w a = go (entries_read n k) (tree_front k (b
         let s = entry_split k (b ∷ bs) e rest h in
         (s.mode, rest, s.is_mode, not_empty e.name a.0, no_slash e.name s.named a.0, s.digits, s.size, again rest (let few = shorter k b bs e rest s in omega (arith, few, l)) w a.1, s.whole)
 
-module _ (rs : List Record) (i : ObjectId) where
-  of_object : (o : Object) → get (stored rs) i ≡ Some o → (items : Items) (k : ObjectKind) → o.kind ≡ k → items_of_kind i k o.bytes ≡ Some items → IsWhole items → AreNamed (entries_in items) → IsTree (fed rs) i (map entry_of (entries_in items))
+module _ (objects : Objects) (i : ObjectId) where
+  of_object : (o : Object) → get objects i ≡ Some o → (items : Items) (k : ObjectKind) → o.kind ≡ k → items_of_kind i k o.bytes ≡ Some items → IsWhole items → AreNamed (entries_in items) → IsTree (page_objects objects) i (map entry_of (entries_in items))
   of_object o at items kind.Tree is e w a =
       let same : tree_items (kind_of i) o.bytes ≡ items = same_Some (tree_items (kind_of i) o.bytes) items e in
       let read : AreEntries (width_of (kind_of i)) (map entry_of (entries_in (tree_items (kind_of i) o.bytes))) o.bytes =
       entries_read (length o.bytes) (kind_of i) o.bytes (omega arith) (subst IsWhole (sym same) w) (subst (λ those. AreNamed (entries_in those)) (sym same) a) in (
         o.bytes,
-        subst (λ word. IsFed rs i word o.bytes) (ap kind_word is) (held rs i o at),
+        subst (λ word. IsHeld objects i word o.bytes) (ap kind_word is) (held objects i o at),
         subst (λ width. AreEntries width (map entry_of (entries_in items)) o.bytes) (own_width i) (subst (λ those. AreEntries (width_of (kind_of i)) (map entry_of (entries_in those)) o.bytes) same read),
       )
   of_object o at items kind.Commit is e w a = absurd (none-some items e)
@@ -192,10 +192,10 @@ module _ (rs : List Record) (i : ObjectId) where
   of_object o at items kind.Tag is e w a = absurd (none-some items e)
 
   -- a tree that is read whole, in which each name is a name, has these entries
-  pub is_tree_at : (items : Items) → trees_of (stored rs) i ≡ Some items → IsWhole items → AreNamed (entries_in items) → IsTree (fed rs) i (map entry_of (entries_in items))
-  is_tree_at items e w a = go (get (stored rs) i) refl e
+  pub is_tree_at : (items : Items) → trees_of objects i ≡ Some items → IsWhole items → AreNamed (entries_in items) → IsTree (page_objects objects) i (map entry_of (entries_in items))
+  is_tree_at items e w a = go (get objects i) refl e
     where
-      go : (o : Option Object) → get (stored rs) i ≡ o → items_of_object i o ≡ Some items → IsTree (fed rs) i (map entry_of (entries_in items))
+      go : (o : Option Object) → get objects i ≡ o → items_of_object i o ≡ Some items → IsTree (page_objects objects) i (map entry_of (entries_in items))
       go None at e = absurd (none-some items e)
       go (Some o) at e = of_object o at items o.kind refl e w a
 
@@ -216,9 +216,9 @@ joined_behind (n ∷ m ∷ names) name = ap (λ xs. n ++ 47 ∷ xs) (joined_behi
 abbrev pub placed_by : Visit → List ℕ × Entry
 placed_by v = (before v.place.names, entry_of v.entry)
 
-module _ (rs : List Record) (fails : ObjectId → ExistingError → Type 0) where
-  unfolds_script : {p : Place} {items : Items} {calls : List Call} {visits : List Visit} → DepthScript (trees_of (stored rs)) fails p items calls visits Whole → GoOn visits → HaveNames visits
-      → IsWhole items × AreNamed (entries_in items) × Unfolds (fed rs) (before p.names) (map entry_of (entries_in items)) (map placed_by visits)
+module _ (objects : Objects) (fails : ObjectId → ExistingError → Type 0) where
+  unfolds_script : {p : Place} {items : Items} {calls : List Call} {visits : List Visit} → DepthScript (trees_of objects) fails p items calls visits Whole → GoOn visits → HaveNames visits
+      → IsWhole items × AreNamed (entries_in items) × Unfolds (page_objects objects) (before p.names) (map entry_of (entries_in items)) (map placed_by visits)
   unfolds_script script.whole h n = (tt, tt, page.whole)
   unfolds_script (script.leaves {p = p} {e = e} {a = a} o rest) h n =
       let r = unfolds_script rest h.1 n.1 in
@@ -229,15 +229,15 @@ module _ (rs : List Record) (fails : ObjectId → ExistingError → Type 0) wher
       let mode : bit_and e.mode 0o170000 ≡ 0o040000 = eqb-true (bit_and e.mode 0o170000) 0o040000 (enters_mode (is_tree e.mode) a (is_among e.id p.ids) h.0 o) in (
         r.0,
         (n.0, r.1),
-        subst (λ those. Unfolds (fed rs) (before p.names) (map entry_of (e ∷ entries_in items)) (placed_by (visit p e a) ∷ those)) (sym (map-append placed_by visits others))
-            (page.tree mode (is_tree_at rs e.id sub found i.0 i.1) (subst (λ path. Unfolds (fed rs) path (map entry_of (entries_in sub)) (map placed_by visits)) (before_more p.names e.name) i.2) r.2),
+        subst (λ those. Unfolds (page_objects objects) (before p.names) (map entry_of (e ∷ entries_in items)) (placed_by (visit p e a) ∷ those)) (sym (map-append placed_by visits others))
+            (page.tree mode (is_tree_at objects e.id sub found i.0 i.1) (subst (λ path. Unfolds (page_objects objects) path (map entry_of (entries_in sub)) (map placed_by visits)) (before_more p.names e.name) i.2) r.2),
       )
   unfolds_script (script.ends_inside o found inner other) h n = absurd (other refl)
 
   -- a walk in depth that showed all, in which each visit goes on and each name is a name
-  pub unfolds_walk : {root : ObjectId} {calls : List Call} {visits : List Visit} → IsDepthScript (trees_of (stored rs)) fails root calls visits Whole → GoOn visits → HaveNames visits
-      → (entries : List Entry) × IsTree (fed rs) root entries × Unfolds (fed rs) [] entries (map placed_by visits)
-  unfolds_walk {root} (script.found {items = items} found walk) h n = let w = unfolds_script walk h n in (map entry_of (entries_in items), is_tree_at rs root items found w.0 w.1, w.2)
+  pub unfolds_walk : {root : ObjectId} {calls : List Call} {visits : List Visit} → IsDepthScript (trees_of objects) fails root calls visits Whole → GoOn visits → HaveNames visits
+      → (entries : List Entry) × IsTree (page_objects objects) root entries × Unfolds (page_objects objects) [] entries (map placed_by visits)
+  unfolds_walk {root} (script.found {items = items} found walk) h n = let w = unfolds_script walk h n in (map entry_of (entries_in items), is_tree_at objects root items found w.0 w.1, w.2)
 
 pub same_bytes : (i : ObjectId) → bytes_of i ≡ bytes_in i
 same_bytes (id.Sha1 bytes) = refl

@@ -4,7 +4,7 @@ use Rattle.gix_commands.proofs.Common.{ObjectId, Objects, GraphRow, Fault, Order
 use Rattle.gix_commands.proofs.Common.{bad_record, served, Request, Commits}
 use Rattle.gix_words.specs.declared.fault.Fault.TheVariants as fault
 use Rattle.gix_commands.specs.Run as run
-use Rattle.gix_commands.specs.Run.{Serves, misnamed, not_written}
+use Rattle.gix_commands.specs.Run.{Serves, misnamed, cut_off}
 
 pub serves_silently : (objects : Objects) (rows : List GraphRow) (old new : Option (List ℕ)) (request : Request) (e : Fault) → Serves objects rows old request (Err e) new → e ≢ fault.Write → ((by : Order) (limit : Option ℕ) (tips hidden : List ObjectId) → request ≢ Commits by limit tips hidden) → new ≡ old
 serves_silently objects rows old new request e (walked walk infos starts ends whole written) other none = absurd (none _ _ _ _ refl)
@@ -18,7 +18,7 @@ serves_silently objects rows old new request e (not_ahead f) other none = refl
 serves_silently objects rows old new request e (not_behind n a f) other none = refl
 serves_silently objects rows old new request e (not_selected why f) other none = refl
 serves_silently objects rows old new request e unserved other none = refl
-serves_silently objects rows old new request e not_written other none = absurd (other refl)
+serves_silently objects rows old new request e (cut_off some more s a b) other none = absurd (other refl)
 
 pub fails_silently : FailsSilently
 fails_silently words has old new e without_memory other none = refl

@@ -17,7 +17,7 @@ use Rattle.gix_topo.specs.Walk.{IsSound, ended, given, refused, failed}
 use Rattle.gix_topo.proofs.Run.Corollaries.{once}
 use Rattle.gix_topo.proofs.Run.Corollaries.{each_by_text}
 use Rattle.gix_topo.proofs.Run.Theorem.{gives, gives_text}
-use Rattle.gix_commands.specs.Run.{Serves, not_written}
+use Rattle.gix_commands.specs.Run.{Serves, cut_off}
 use Rattle.gix_commands.specs.TopoWalked.{Walk, Answers, IsWalkFault}
 use Rattle.gix_commands.specs.Walked.{failed as fell, given as all_given}
 use Rattle.gix_commands.proofs.CommitRuns.{served_so, ends_well, lines_by_ids}
@@ -139,7 +139,7 @@ module _ (objects : Objects) (rows : List GraphRow) (agree : IsAgreeing objects 
     well (Some n) answer new (walked_down walk infos built (before ends less) written) = drawn_outside walk built infos answer ends
     well limit answer new (not_built e h) = outside (IsFirstReady objects_of (plan_from objects rows by tips ends)) e h.1
     well limit answer new unserved = tt
-    well limit answer new not_written = tt
+    well limit answer new (cut_off some more s a b) = tt
 
 -- and by the parents of commits that are whole
 module _ (objects : Objects) (rows : List GraphRow) (agree : IsAgreeing objects rows) (by : Sorting) (tips ends : List ObjectId) where

@@ -1,10 +1,11 @@
 -- A run that ended well has written what the statement promises.
 use Rattle.std.proofs.Common.{◌≡◌, ℕ, ℤ, List, [], ◌∷◌, ◌++◌, map, take, false, Option, Some, None, Result, Ok, Contains, codes, flat_map, refl, sym, ap, subst, inl, inr, ◌∙◌}
-use Rattle.gix_commands.proofs.Common.{Appends, ObjectId, Contains-here, Contains-there, time_of, text_next, none_agree, stored, time_order, IsDepthScript, entries_at, Tracks, fresh_recorder, Ending, Whole, Broken, Failed, IsUnfailed}
+use Rattle.gix_commands.proofs.Common.{Appends, ObjectId, Objects, GraphRow, Contains-here, Contains-there, time_of, text_next, none_agree, stored, time_order, IsDepthScript, entries_at, Tracks, fresh_recorder, Ending, Whole, Broken, Failed, IsUnfailed}
 use Rattle.gix_commands.proofs.Common.{is_broken, LookUpFails, trees_of, depth_ok, depth_is_in_order, depth_is_recorded, Fault, Simple, Topo, file_lines, AreWhole, followed, kept_tips, Runs, served, never_faulty, Request, Commits, Files}
 use Rattle.gix_commands.proofs.Common.{Ahead, Contained, request_of, Entry, IsTree, Promises, entry_line}
 use Rattle.gix_records.specs.Records.{Record, AreRecords}
 use Rattle.gix_tree.proofs.Theorems.SameRecords.{unbroken}
+use Rattle.gix_commands.specs.Pages.{page_objects}
 use Rattle.gix_commands.specs.Run.{Serves, listed}
 use Rattle.gix_commands.specs.WholeStatement as page
 use Rattle.gix_commands.specs.WholeStatement.{Unfolds}
@@ -28,19 +29,19 @@ whole_end Broken w b = cc
 whole_end (Failed why) w b = absurd w
 
 -- what `files` wrote
-module _ (rs : List Record) (old new : Option (List ℕ)) where
-  pub tree_written : (ending : ℕ) (tree : ObjectId) → Serves (stored rs) [] old (Files ending tree) (Ok tt) new
-      → (entries : List Entry) × (placed : List (List ℕ × Entry)) × IsTree (fed rs) tree entries × Unfolds (fed rs) [] entries placed × Appends old new (flat_map (entry_line ending) placed)
+module _ (objects : Objects) (rows : List GraphRow) (old new : Option (List ℕ)) where
+  pub tree_written : (ending : ℕ) (tree : ObjectId) → Serves objects rows old (Files ending tree) (Ok tt) new
+      → (entries : List Entry) × (placed : List (List ℕ × Entry)) × IsTree (page_objects objects) tree entries × Unfolds (page_objects objects) [] entries placed × Appends old new (flat_map (entry_line ending) placed)
   tree_written ending tree (listed recorder walk names written) =
-      let u = unfolds (stored rs) ending tree recorder walk in
-      let order = depth_is_in_order (stored rs) (never_faulty (stored rs)) Tracks tree fresh_recorder recorder (Ok tt) walk (depth_ok walk.end walk.answered) in
-      let end : walk.end ≡ Whole = whole_end walk.end (depth_ok walk.end walk.answered) (unbroken (entries_at (trees_of (stored rs))) order u.all) in
-      let t = unfolds_walk rs (LookUpFails (stored rs) (never_faulty (stored rs))) (subst (IsDepthScript (trees_of (stored rs)) (LookUpFails (stored rs) (never_faulty (stored rs))) tree walk.calls walk.visits) end walk.script) u.all names in (
+      let u = unfolds objects ending tree recorder walk in
+      let order = depth_is_in_order objects (never_faulty objects) Tracks tree fresh_recorder recorder (Ok tt) walk (depth_ok walk.end walk.answered) in
+      let end : walk.end ≡ Whole = whole_end walk.end (depth_ok walk.end walk.answered) (unbroken (entries_at (trees_of objects)) order u.all) in
+      let t = unfolds_walk objects (LookUpFails objects (never_faulty objects)) (subst (IsDepthScript (trees_of objects) (LookUpFails objects (never_faulty objects)) tree walk.calls walk.visits) end walk.script) u.all names in (
         t.0,
         map placed_by walk.visits,
         t.1,
         t.2,
-        subst (Appends old new) (ap (file_lines ending) (depth_is_recorded (stored rs) (never_faulty (stored rs)) tree recorder (Ok tt) walk (λ e. cc) names) ∙ entry_lines ending walk.visits) written,
+        subst (Appends old new) (ap (file_lines ending) (depth_is_recorded objects (never_faulty objects) tree recorder (Ok tt) walk (λ e. cc) names) ∙ entry_lines ending walk.visits) written,
       )
 
 module _ (words : List (List ℕ)) (input : List ℕ) (rs : List Record) (old new : Option (List ℕ)) (are : AreRecords rs input) (runs : Runs words (Some input) old (Ok tt) new) where
@@ -75,7 +76,7 @@ module _ (words : List (List ℕ)) (input : List ℕ) (rs : List Record) (old ne
       subst ServesSo (sym (is ∙ (λ k. name ∷ (chosen k ++ same k))))
       (page.commits [] (codes "-n" ∷ number ∷ []) those ids some page.all (inr (number, n, limits, refl, refl)) (listed_down (stored rs) parents name by named tips ends l.0 l.1.read) (subst (Appends old new) (id_lines (take n l.0)) l.2))
   serves (Files ending tree) asked (option, text, ends, is, spells) =
-      let t = tree_written rs old new ending tree (served_so words input rs (Files ending tree) old new asked are runs) in
+      let t = tree_written (stored rs) [] old new ending tree (served_so words input rs (Files ending tree) old new asked are runs) in
       subst ServesSo (sym is) (page.files option text ends spells t.2 t.3 t.4)
   serves (Ahead one other) asked (a, b, is, spells, spells_other) =
       let n = ahead_counts words input rs one other old new asked are runs in

@@ -80,8 +80,10 @@ pub data Serves (objects : Objects) (rows : List GraphRow) (old : Option (List �
       → Serves objects rows old (Contained tip ids) (Err (fault_of_contained e)) old
   -- memory ran out before anything was written
   unserved : {request : Request} → Serves objects rows old request (Err fault.Memory) old
-  -- of what was written nothing is said
-  not_written : {request : Request} {new : Option (List ℕ)} → Serves objects rows old request (Err fault.Write) new
+  -- the writer failed: a beginning of what another answer writes is written
+  cut_off : {request : Request} {answer : Result (Unit {0}) Fault} {full new : Option (List ℕ)} (some more : List ℕ)
+      → Serves objects rows old request answer full → Appends old new some → Appends new full more
+      → Serves objects rows old request (Err fault.Write) new
 
 -- Over these words, a reader that has the bytes `has` and a writer that has the bytes `old`: which answers a run may give, and which bytes
 -- the writer then has.

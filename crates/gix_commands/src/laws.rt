@@ -169,8 +169,8 @@ pub fn fails_silently()
     ensures { FailsSilently }
 {}
 
-/// What a run has written is right in each history that has what was read, by the page of gix_statement: for words that ask for no list of
-/// commits, and for lists that don't go by times, where no record of a commit is empty, and with `--first-parent` each has the text of one.
+/// What a run over objects has written is right in each history that has them, by the page of gix_statement, where what is said to be a
+/// commit has the text of one.
 pub fn right_everywhere()
     ensures { RightEverywhere }
 {}
