@@ -65,3 +65,5 @@ mod SameCommitsThere
 mod RowsAsTexts
 mod NamedOnes
 mod Promised
+mod SortedRows
+mod ServedPromises

@@ -13,6 +13,12 @@ module _ (read objects : Objects) (rows : List Row) (commit_on : (r : Row) → I
   promised (Ok done) new each = (objects, rows, given, agree, each_serves read objects [] rows commit_on tree_on old new words each)
   promised (Err e) new right = ⊎_elim (λ same. inl same) (λ each. inr (objects, rows, given, agree, each_failed read objects [] rows commit_on tree_on old new words (e ≡ fault.Write) each)) right
 
+-- what is promised of given things is promised of things that are more
+pub promises_more : {AreGiven AreToo : Objects → List Row → Type 0} → ((objects : Objects) (rows : List Row) → AreGiven objects rows → AreToo objects rows)
+    → (words : List (List ℕ)) (old : Option (List ℕ)) (answer : Result (Unit {0}) Fault) (new : Option (List ℕ)) → Promises fault.Write words AreGiven old answer new → Promises fault.Write words AreToo old answer new
+promises_more more words old (Ok done) new (objects, rows, given, agree, each) = (objects, rows, more objects rows given, agree, each)
+promises_more more words old (Err e) new p = ⊎_elim (λ same. inl same) (λ h. inr (h.0, h.1, more h.0 h.1 h.2, h.3, h.4)) p
+
 -- nothing was written
 pub unwritten : (AreGiven : Objects → List Row → Type 0) (words : List (List ℕ)) (old : Option (List ℕ)) (e : Fault) → Promises fault.Write words AreGiven old (Err e) old
 unwritten AreGiven words old e = inl (λ k. old)

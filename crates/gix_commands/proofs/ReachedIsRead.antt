@@ -1,9 +1,8 @@
 -- What a topological walk reaches over rows that agree was read or has a row, so it is stored as a commit whose text has no fault.
-use Rattle.std.proofs.Common.{◌≡◌, List, Option, Some, None, Bool, Err, sym, subst, ⊎_elim, ◌∙◌}
+use Rattle.std.proofs.Common.{◌≡◌, List, Some, None, Bool, sym, subst, ⊎_elim, ◌∙◌}
 use Rattle.gix_hash.specs.declared.ObjectId.{ObjectId}
 use Rattle.gix_hash.specs.Id.{kind_of}
 use Rattle.gix_object.specs.CommitItems.{commit_items}
-use Rattle.gix_object.specs.CommitText.{Commit}
 use Rattle.gix_object.specs.Object.{Objects}
 use Rattle.gix_commitgraph.specs.Rows.{GraphRow, row_of}
 use Rattle.gix_revwalk.specs.Agreeing.{IsAgreeing}

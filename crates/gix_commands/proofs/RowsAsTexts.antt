@@ -1,5 +1,5 @@
 -- A store that has a commit for each row has the commits and the trees, by the page, that the store and the rows have.
-use Rattle.std.proofs.Common.{◌≡◌, ◌≢◌, ◌⊎◌, ℕ, List, [], ◌∷◌, ◌++◌, length, map, Option, Some, None, AllPairs, Contains, codes, refl, sym, ap, subst, ◌∙◌, inl, inr, ⊎_elim, slice_get, option_map, arith}
+use Rattle.std.proofs.Common.{◌≡◌, ◌≢◌, ℕ, List, [], ◌∷◌, ◌++◌, length, map, Option, Some, None, AllPairs, Contains, codes, refl, sym, ap, subst, ◌∙◌, inl, inr, ⊎_elim, slice_get, option_map, arith}
 use Rattle.std.proofs.Common.{Less, Equal}
 use Rattle.std.specs.Cmp.{Equal-is}
 use Rattle.std.specs.FinMap.{get}
@@ -61,12 +61,12 @@ text_moves objects others r on (id, lines, rest, spells, parents, time, is) = (i
 
 -- ---- lists of rows
 
-from_map : {X Y : Type 0} (f : X → Y) (xs : List X) (y : Y) → Contains (map f xs) y → (x : X) × Contains xs x × (f x ≡ y)
+pub from_map : {X Y : Type 0} (f : X → Y) (xs : List X) (y : Y) → Contains (map f xs) y → (x : X) × Contains xs x × (f x ≡ y)
 from_map f [] y c = absurd (no_member y c)
 from_map f (x ∷ xs) y c =
     ⊎_elim (λ e. (x, Contains-here x xs, e)) (λ t. let m = from_map f xs y t in (m.0, Contains-there m.0 x xs m.1, m.2)) (Contains-cons_cases y (f x) (map f xs) c)
 
-into_map : {X Y : Type 0} (f : X → Y) (xs : List X) (x : X) → Contains xs x → Contains (map f xs) (f x)
+pub into_map : {X Y : Type 0} (f : X → Y) (xs : List X) (x : X) → Contains xs x → Contains (map f xs) (f x)
 into_map f [] x c = absurd (no_member x c)
 into_map f (y ∷ xs) x c =
     ⊎_elim (λ e. subst (λ z. Contains (f y ∷ map f xs) (f z)) e (Contains-here (f y) (map f xs))) (λ t. Contains-there (f x) (f y) (map f xs) (into_map f xs x t)) (Contains-cons_cases x y xs c)
@@ -98,6 +98,18 @@ module _ (all : List GraphRow) where
           let same : row.id ∷ those ≡ ids = cc in
           (λ k. (row_at-read all n row a k).id ∷ rest those b k) ∙ same
 
+-- no rows are a graph
+pub no_rows_graph : AreGraphRows []
+unfolding IsStrictlySortedBy
+no_rows_graph = record { each = tt; rising = tt; few = omega arith; few_words = omega arith }
+
+-- the row of its own id
+pub own_row : (rows : List GraphRow) → AreGraphRows rows → (row : GraphRow) → Contains rows row → row_of rows row.id ≡ Some row
+own_row rows graph row m =
+    let at = place_of rows row m in
+    let is : row_at rows at.0 ≡ row = row_at-read rows at.0 row at.1 in
+    row_of-found rows row.id at.0 graph.rising (slice_get_within rows at.0 row at.1) ((Equal-is (id_cmp (row_at rows at.0).id row.id)).0 (same_from (row_at rows at.0).id row.id (ap (λ (r : GraphRow). r.id) is))) ∙ ap Some is
+
 -- ---- a store with a commit for each row
 
 module _ (whole_text : (objects : Objects) (i : ObjectId) (c : Commit) → commit_at objects i ≡ Some c → IsText (page_objects objects) (record { id = i; tree = c.tree; parents = c.parents; time = c.time }))
@@ -120,16 +132,10 @@ module _ (whole_text : (objects : Objects) (i : ObjectId) (c : Commit) → commi
   stays_back : (i : ObjectId) (object : Object) → get objects i ≡ Some object → (o : page.Object) → page_objects every i ≡ Some o → page_objects objects i ≡ Some o
   stays_back i object at o e = ap (option_map as_page) (at ∙ sym (stored-stays rows objects i object at)) ∙ e
 
-  own_row : (row : GraphRow) → Contains rows row → row_of rows row.id ≡ Some row
-  own_row row m =
-      let at = place_of rows row m in
-      let is : row_at rows at.0 ≡ row = row_at-read rows at.0 row at.1 in
-      row_of-found rows row.id at.0 graph.rising (slice_get_within rows at.0 row at.1) ((Equal-is (id_cmp (row_at rows at.0).id row.id)).0 (same_from (row_at rows at.0).id row.id (ap (λ (r : GraphRow). r.id) is))) ∙ ap Some is
-
   -- the text of a row says what the row says
   pub row_text : (row : GraphRow) → Contains rows row → IsText (page_objects every) (page_row rows row)
   row_text row m =
-      let own = own_row row m in
+      let own = own_row rows graph row m in
       let w = (rows-tell rows objects row.id graph).whole sound row own in
       let a : RowAgrees every rows row = every_agree row m in
       let parents : a.whole.commit.parents ≡ ids_of_places rows row.parents =

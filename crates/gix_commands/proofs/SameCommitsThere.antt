@@ -1,5 +1,5 @@
 -- What is right of objects and rows is right of others that have all of their commits and trees.
-use Rattle.std.proofs.Common.{Bool, List, ◌∷◌, Option, All, Contains, ℕ, ℤ, ◌⊎◌, ⊎_elim, inl, inr}
+use Rattle.std.proofs.Common.{Bool, List, ◌∷◌, Option, All, ℕ, ℤ, ◌⊎◌, ⊎_elim, inl, inr}
 use Rattle.gix_hash.specs.declared.ObjectId.{ObjectId}
 use Rattle.gix_statement.specs.WholeStatement.{Objects, Row, Entry, IsCommit, IsThere, IsHistory, InEach, IsTree, Unfolds, whole, other, tree, Lists, lists, Serves, commits, ahead, contains, files, HasBegun, IsCutOff}
 

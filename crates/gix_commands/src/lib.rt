@@ -1,8 +1,9 @@
 //! The commands of the program: which commits some commits reach, and which files a tree holds, from a stream of a repository's objects
 //! to a line for each.
 //!
-//! [`run`] takes the words of a command, a reader of records and a writer; [`run_in`] takes records in memory in place of a reader, and
-//! [`run_over`] also takes the files of a commit-graph, and [`run_stored`] takes a store. What they write is stated by the laws of [`laws`].
+//! [`run`] takes the words of a command, a reader of records and a writer; [`run_in`] takes records in memory in place of a reader,
+//! [`run_over`] also takes the files of a commit-graph, [`run_stored`] takes a store, and [`run_named`] objects that were compared with
+//! their ids. What they write is stated by the clause `whole` of each, and by the laws of [`laws`].
 #![tactic(auto)]
 
 ghost use Rattle.std.specs.Prelude.{◌≡◌, ◌≢◌, ℕ, List, [], map, Some, Err, string_bytes};
@@ -46,7 +47,7 @@ use output::write_commits;
 pub use over::run_over;
 use std::alloc::Global;
 use std::io::{Read, Write};
-pub use stored::run_stored;
+pub use stored::{run_named, run_stored};
 
 /// Runs the command that the words are over the records that the reader gives. The words are tested first, then the input is read
 /// whole, then the walk runs.

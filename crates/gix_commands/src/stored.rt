@@ -1,19 +1,20 @@
 //! A run over a store and rows that are there.
 
-ghost use Rattle.std.specs.Prelude.{◌≡◌, ◌≢◌, ℕ, List, [], map, Some, Err, string_bytes, OnOk, IfErr};
+ghost use Rattle.std.specs.Prelude.{◌≡◌, ◌≢◌, map, Err, string_bytes, OnOk, IfErr};
+ghost use Rattle.gix_commitgraph.specs.Packed.{AreGraphRows};
 ghost use Rattle.gix_graph_check.specs.Sound.{AreSound};
 ghost use Rattle.gix_graph_store.specs.Laws.{StoredAgree};
 ghost use Rattle.gix_graph_store.specs.WithRows.{with_rows};
-ghost use Rattle.gix_records.specs.Records.{Record, AreRecords, stored};
 ghost use Rattle.gix_revwalk.specs.Agreeing.{IsAgreeing, rows_in};
+ghost use Rattle.gix_statement.specs.WholeStatement.{AreNamed, Promises};
+ghost use Rattle.gix_commands.specs.Pages.{page_objects, page_rows};
 ghost use Rattle.gix_commands.specs.StoredRuns.{FailsToAgree, RunsStored};
-ghost use Rattle.gix_commands.specs.WholeStatement.{Promises};
 
 use crate::serve;
 use gix_graph_check::first_unsound;
 use gix_graph_store::check_stored;
 use gix_parts::graph::Graph;
-use gix_parts::records::LentStore;
+use gix_parts::records::{LentStore, NamedObjects};
 use gix_words::{Fault, read_command};
 use std::alloc::Global;
 use std::io::Write;
@@ -34,12 +35,31 @@ pub fn run_stored<W: Write>(
 ) -> Result<(), Fault>
     ensures runs { RunsStored (map string_bytes words.now) store.now (rows_in graph.entry) (W.contents writer.old) result (W.contents writer.new) }
     ensures sound { result ≢ Err Fault.Internal }
-    // What was written by a run without rows that ended well, from lists of bytes up, where the store is that of some records.
-    ensures whole { (input : List ℕ) (records : List Record) → AreRecords records input → store.now ≡ stored records → rows_in graph.entry ≡ [] → Promises (map string_bytes words.now) (Some input) (W.contents writer.old) result (W.contents writer.new) }
+    // What was written, from lists of bytes up: it is right of what is stored and of the rows, whatever else there is.
+    ensures whole { Promises Fault.Write (map string_bytes words.now) (λ objects rows. (objects ≡ page_objects store.now) × (rows ≡ page_rows (rows_in graph.entry))) (W.contents writer.old) result (W.contents writer.new) }
 {
     let command = read_command(alloc, words)?;
     check_rows(alloc, store, graph)?;
     serve(alloc, command, store, graph, writer)
+}
+
+/// Runs the command that the words are, as [`run_stored`] does, over objects that were compared with their ids, as those of a repository.
+///
+/// # Errors
+/// Those of [`run_stored`].
+pub fn run_named<W: Write>(
+    alloc: Global,
+    words: &[String],
+    objects: &NamedObjects,
+    graph: Option<&Graph>,
+    writer: &mut W,
+) -> Result<(), Fault>
+    ensures runs { RunsStored (map string_bytes words.now) objects.now (rows_in graph.entry) (W.contents writer.old) result (W.contents writer.new) }
+    ensures sound { result ≢ Err Fault.Internal }
+    // What was written, from lists of bytes up: it is right of these objects, each of whose ids is the hash of its object, and of the rows.
+    ensures whole { Promises Fault.Write (map string_bytes words.now) (λ given rows. AreNamed given × (given ≡ page_objects objects.now) × (rows ≡ page_rows (rows_in graph.entry))) (W.contents writer.old) result (W.contents writer.new) }
+{
+    run_stored(alloc, words, &objects.store(), graph, writer)
 }
 
 /// Tests that the rows, if there are any, can be used together with the store.
@@ -47,6 +67,7 @@ pub fn run_stored<W: Write>(
 /// # Errors
 /// Those of `check_graph`.
 fn check_rows(alloc: Global, store: &LentStore<'_>, graph: Option<&Graph>) -> Result<(), Fault>
+    ensures graph { OnOk result (AreGraphRows (rows_in graph.entry)) }
     ensures sound { OnOk result (AreSound (rows_in graph.entry)) }
     ensures stored { OnOk result (StoredAgree (rows_in graph.entry) store.now) }
     ensures agrees { OnOk result (IsAgreeing (with_rows (rows_in graph.entry) store.now) (rows_in graph.entry)) }
@@ -64,6 +85,7 @@ fn check_rows(alloc: Global, store: &LentStore<'_>, graph: Option<&Graph>) -> Re
 /// `Row` with the id of the first row, in rising order of ids, that isn't sound. `Disagrees` with that of the first row at whose id the
 /// store has something else. `Memory`.
 fn check_graph(alloc: Global, store: &LentStore<'_>, graph: &Graph) -> Result<(), Fault>
+    ensures graph { OnOk result (AreGraphRows graph.now) }
     ensures sound { OnOk result (AreSound graph.now) }
     ensures stored { OnOk result (StoredAgree graph.now store.now) }
     ensures agrees { OnOk result (IsAgreeing (with_rows graph.now store.now) graph.now) }

@@ -234,6 +234,14 @@ impl Gathering {
         self.objects.store()
     }
 
+    /// The objects that have been read, lent.
+    pub fn objects(&self) -> &NamedObjects
+        ensures exact { result.now ≡ self.now }
+        ensures named { AreNamed self.now }
+    {
+        &self.objects
+    }
+
     /// The objects that have been read.
     pub fn into_objects(self) -> NamedObjects
         ensures exact { result ≡ self }

@@ -4,12 +4,12 @@ use crate::failure::Failure;
 use crate::graph::{check, rows, warn};
 use crate::progress::Progress;
 use crate::symmetric::common;
-use gix_commands::{Fault, run_stored};
+use gix_commands::{Fault, run_named};
 use gix_gather::{Gathering, Order};
 use gix_hash::hashtable::IdSet;
 use gix_options::{Name, Place, Question};
 use gix_parts::graph::Graph;
-use gix_parts::records::LentStore;
+use gix_parts::records::NamedObjects;
 use gix_repository::Repository;
 use std::io::Write;
 
@@ -122,7 +122,7 @@ impl Asking<'_> {
         let mut gathering = Gathering::trees(alloc, &root)?;
         self.read_all(repository, &mut gathering, None)?;
         let words = self.chosen.words(alloc, self.question)?;
-        run_stored(alloc, words.as_slice(), &gathering.store(), None, output)?;
+        run_named(alloc, words.as_slice(), gathering.objects(), None, output)?;
         Ok(0)
     }
 
@@ -179,7 +179,7 @@ impl Asking<'_> {
                     IdSet::new(alloc),
                 )?;
                 self.read_all(repository, &mut gathering, graph)?;
-                return self.finish(&gathering.store(), graph, output);
+                return self.finish(gathering.objects(), graph, output);
             }
         };
         let mut gathering = Gathering::commits(alloc, ids.as_slice(), order, IdSet::new(alloc))?;
@@ -217,10 +217,10 @@ impl Asking<'_> {
         for _ in 0..MOST_READINGS {
             gathering.read_more(&mut repository.odb, graph, count)?;
             let mut lines = Vec::new(alloc);
-            let ended = in_memory(run_stored(
+            let ended = in_memory(run_named(
                 alloc,
                 words.as_slice(),
-                &gathering.store(),
+                gathering.objects(),
                 graph,
                 &mut lines,
             ));
@@ -252,7 +252,7 @@ impl Asking<'_> {
     /// Answers a question about commits from the objects that were read, and rows.
     fn finish<W: Write>(
         &mut self,
-        store: &LentStore<'_>,
+        objects: &NamedObjects,
         graph: Option<&Graph>,
         output: &mut W,
     ) -> Result<u8, Failure> {
@@ -263,7 +263,7 @@ impl Asking<'_> {
                 let Some(pair) = self.chosen.pairs.as_slice().get(number) else {
                     break;
                 };
-                let ids = common(alloc, *pair, store, graph)?;
+                let ids = common(alloc, *pair, &objects.store(), graph)?;
                 self.chosen.hidden.extend_from_slice(ids.as_slice())?;
             }
         }
@@ -272,7 +272,7 @@ impl Asking<'_> {
             Name::Resolve => self.write_ids(output),
             Name::Contains => {
                 let mut lines = Vec::new(alloc);
-                in_memory(run_stored(alloc, words.as_slice(), store, graph, &mut lines))?;
+                in_memory(run_named(alloc, words.as_slice(), objects, graph, &mut lines))?;
                 write(output, lines.as_slice())?;
                 let contained = lines.iter().filter(|byte| **byte == b'\n').count();
                 if contained.saturating_add(1) < self.chosen.tips.len() {
@@ -282,7 +282,7 @@ impl Asking<'_> {
                 }
             }
             _ => {
-                run_stored(alloc, words.as_slice(), store, graph, output)?;
+                run_named(alloc, words.as_slice(), objects, graph, output)?;
                 Ok(0)
             }
         }

@@ -1,6 +1,6 @@
 //! Commands over records on standard input, or over a folder of objects.
 use crate::failure::Failure;
-use gix_commands::{Fault, run, run_in, run_over, run_stored};
+use gix_commands::{Fault, run, run_in, run_named, run_over};
 use gix_gather::{commits, trees};
 use gix_hash::ObjectId;
 use gix_odb::Odb;
@@ -52,7 +52,7 @@ fn serve_folder<W: Write>(
             gather(rt, folder, ids.as_slice())?
         }
     };
-    run_stored(alloc, words, &objects.store(), None, writer)?;
+    run_named(alloc, words, &objects, None, writer)?;
     Ok(())
 }
 

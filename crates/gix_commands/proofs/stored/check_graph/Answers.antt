@@ -19,3 +19,6 @@ returns-clause-sound c = c.in_default.ensures
 
 pub returns-clause-agrees : goal.returns-clause-agrees
 returns-clause-agrees c = told-rows-agree c.args.graph.now c.args.store.now c.num_commits.ensures.sound c.in_default.ensures c.in_ok-check_stored.ensures.agrees
+
+pub returns-clause-graph : goal.returns-clause-graph
+returns-clause-graph c = c.num_commits.ensures.sound

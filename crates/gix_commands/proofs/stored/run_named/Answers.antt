@@ -1,0 +1,17 @@
+use Rattle.std.proofs.Common.{map, string_bytes, sym, ap, subst, ◌∙◌}
+use Rattle.gix_commands.proofs.NamedOnes.{are_named}
+use Rattle.gix_commands.proofs.Promised.{promises_more}
+use Rattle.gix_commands.specs.Pages.{page_objects}
+use Rattle.gix_commands.specs.StoredRuns.{RunsStored}
+use Rattle.gix_revwalk.specs.Agreeing.{rows_in}
+use Rattle.gix_statement.specs.WholeStatement as page
+use Rattle.gix_commands.proofs.stored.run_named.Goals as goal
+
+pub returns-clause-runs : goal.returns-clause-runs
+returns-clause-runs g c =
+    subst (λ objects. RunsStored (map string_bytes c.args.words.now) objects (rows_in c.args.graph.entry) _ c.run_stored.result _) c.store.ensures.exact c.run_stored.ensures.runs
+
+pub returns-clause-whole : goal.returns-clause-whole
+returns-clause-whole g c = promises_more
+    (λ objects rows given. let same = given.0 ∙ ap page_objects c.store.ensures.exact in (subst page.AreNamed (sym same) (are_named c.args.objects.now c.store.ensures.named), same, given.1))
+    _ _ _ _ c.run_stored.ensures.whole
