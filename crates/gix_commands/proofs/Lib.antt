@@ -60,3 +60,8 @@ mod FedNames
 mod FedSimple
 mod FedTopo
 mod FedRuns
+mod ReachedIsRead
+mod SameCommitsThere
+mod RowsAsTexts
+mod NamedOnes
+mod Promised

@@ -1,7 +1,9 @@
--- The objects of a store, as the page of what a run promises has them.
-use Rattle.std.specs.Prelude.{◌≡◌, ◌≢◌, ℕ, List, [], Option, Some, codes}
+-- The objects of a store and the rows of a commit-graph, as the page of what a run promises has them.
+use Rattle.std.specs.Prelude.{◌≡◌, ◌≢◌, ℕ, List, [], map, Option, Some, codes}
 use Rattle.std.specs.FinMap.{get}
 use Rattle.std.specs.Option.{option_map}
+use Rattle.gix_commitgraph.specs.Rows.{GraphRow}
+use Rattle.gix_graph_check.specs.HeadsReach.{ids_of_places}
 use Rattle.gix_hash.specs.declared.ObjectId.{ObjectId}
 use Rattle.gix_object.specs.Object.{Object, Objects}
 use Rattle.gix_records.specs.Records.{kind_word}
@@ -17,6 +19,13 @@ as_page o = record { kind = kind_word o.kind; bytes = o.bytes }
 
 abbrev pub page_objects : Objects → page.Objects
 page_objects objects i = option_map as_page (get objects i)
+
+-- a row of these, with the ids of the rows at its places
+abbrev pub page_row : List GraphRow → GraphRow → page.Row
+page_row rows row = record { id = row.id; tree = row.tree; parents = ids_of_places rows row.parents; time = row.time }
+
+abbrev pub page_rows : List GraphRow → List page.Row
+page_rows rows = map (page_row rows) rows
 
 -- each object that is said to be a commit has the text of one, as far as its parents
 abbrev pub AreCommits : page.Objects → Type 0

@@ -1,0 +1,50 @@
+-- What is right of objects and rows is right of others that have all of their commits and trees.
+use Rattle.std.proofs.Common.{Bool, List, ◌∷◌, Option, All, Contains, ℕ, ℤ, ◌⊎◌, ⊎_elim, inl, inr}
+use Rattle.gix_hash.specs.declared.ObjectId.{ObjectId}
+use Rattle.gix_statement.specs.WholeStatement.{Objects, Row, Entry, IsCommit, IsThere, IsHistory, InEach, IsTree, Unfolds, whole, other, tree, Lists, lists, Serves, commits, ahead, contains, files, HasBegun, IsCutOff}
+
+module _ (objects others : Objects) (rows those : List Row) (commit_on : (r : Row) → IsCommit objects rows r → IsCommit others those r)
+    (tree_on : (i : ObjectId) (entries : List Entry) → IsTree objects i entries → IsTree others i entries) where
+  there_on : (i : ObjectId) → IsThere objects rows i → IsThere others those i
+  there_on i (r, is, commit) = (r, is, commit_on r commit)
+
+  all_on : (ids : List ObjectId) → All (IsThere objects rows) ids → All (IsThere others those) ids
+  all_on ids h k d below = there_on _ (h k d below)
+
+  unfolds_on : {path : List ℕ} {entries : List Entry} {placed : List (List ℕ × Entry)} → Unfolds objects path entries placed → Unfolds others path entries placed
+  unfolds_on whole = whole
+  unfolds_on (other mode rest) = other mode (unfolds_on rest)
+  unfolds_on (tree {e = e} {inner = inner} mode is inside rest) = tree mode (tree_on e.id inner is) (unfolds_on inside) (unfolds_on rest)
+
+  pub history_on : (parents : ObjectId → List ObjectId) (time : ObjectId → ℤ) → IsHistory others those parents time → IsHistory objects rows parents time
+  history_on parents time h r c = h r (commit_on r c)
+
+  module _ (parents : ObjectId → List ObjectId) (time : ObjectId → ℤ) where
+    lists_on : (ids : List ObjectId) (ended : Bool) (words : List (List ℕ)) → Lists objects rows parents time ids ended words → Lists others those parents time ids ended words
+    lists_on ids ended words (lists option limit tips named are some follows there begins allows all) = lists option limit tips named are some follows (all_on ids there) begins allows all
+
+    serves_on : (old new : Option (List ℕ)) (words : List (List ℕ)) → Serves objects rows parents time old new words → Serves others those parents time old new words
+    serves_on old new words (commits {words = those_words} ids l appends) = commits ids (lists_on ids _ those_words l) appends
+    serves_on old new words (ahead {one = one} {other = two} n m a b one_there other_there ns ms appends) = ahead n m a b (there_on one one_there) (there_on two other_there) ns ms appends
+    serves_on old new words (contains {tip = tip} {ids = ids} are some there keeps appends) = contains are some (all_on (tip ∷ ids) there) keeps appends
+    serves_on old new words (files option a {tree = i} {entries = entries} ends spells is unfolds appends) = files option a ends spells (tree_on i entries is) (unfolds_on unfolds) appends
+
+    begun_on : (old new : Option (List ℕ)) (words : List (List ℕ)) → HasBegun objects rows parents time old new words → HasBegun others those parents time old new words
+    begun_on old new words (ids, l, appends) = (ids, lists_on ids _ words l, appends)
+
+    cut_on : (old new : Option (List ℕ)) (words : List (List ℕ)) → IsCutOff objects rows parents time old new words → IsCutOff others those parents time old new words
+    cut_on old new words (full, some, more, a, b, s) = (full, some, more, a, b, ⊎_elim (λ r. inl (serves_on old full words r)) (λ h. inr (begun_on old full words h)) s)
+
+  -- what holds in each history of these holds in each of the others
+  pub each_on : (P Q : (ObjectId → List ObjectId) → (ObjectId → ℤ) → Type 0) → ((ps : ObjectId → List ObjectId) (ts : ObjectId → ℤ) → P ps ts → Q ps ts) → InEach objects rows P → InEach others those Q
+  each_on P Q on each ps ts h = on ps ts (each ps ts (history_on ps ts h))
+
+  module _ (old new : Option (List ℕ)) (words : List (List ℕ)) where
+    pub each_serves : InEach objects rows (λ ps ts. Serves objects rows ps ts old new words) → InEach others those (λ ps ts. Serves others those ps ts old new words)
+    each_serves = each_on _ _ (λ ps ts. serves_on ps ts old new words)
+
+    abbrev pub HasFailed : Objects → List Row → Type 0 → (ObjectId → List ObjectId) → (ObjectId → ℤ) → Type 0
+    HasFailed read there Write ps ts = HasBegun read there ps ts old new words ⊎ (Write × IsCutOff read there ps ts old new words)
+
+    pub each_failed : (Write : Type 0) → InEach objects rows (HasFailed objects rows Write) → InEach others those (HasFailed others those Write)
+    each_failed Write = each_on _ _ (λ ps ts. ⊎_elim (λ b. inl (begun_on ps ts old new words b)) (λ c. inr (c.0, cut_on ps ts old new words c.1)))
