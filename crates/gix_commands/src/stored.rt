@@ -7,7 +7,7 @@ ghost use Rattle.gix_graph_store.specs.WithRows.{with_rows};
 ghost use Rattle.gix_records.specs.Records.{Record, AreRecords, stored};
 ghost use Rattle.gix_revwalk.specs.Agreeing.{IsAgreeing, rows_in};
 ghost use Rattle.gix_commands.specs.StoredRuns.{FailsToAgree, RunsStored};
-ghost use Rattle.gix_commands.specs.WholeStatement.{Promises};
+ghost use Rattle.gix_statement.specs.WholeStatement.{AreFed, Objects, Promises, Row};
 
 use crate::serve;
 use gix_graph_check::first_unsound;
@@ -34,8 +34,8 @@ pub fn run_stored<W: Write>(
 ) -> Result<(), Fault>
     ensures runs { RunsStored (map string_bytes words.now) store.now (rows_in graph.entry) (W.contents writer.old) result (W.contents writer.new) }
     ensures sound { result ≢ Err Fault.Internal }
-    // What was written by a run without rows that ended well, from lists of bytes up, where the store is that of some records.
-    ensures whole { (input : List ℕ) (records : List Record) → AreRecords records input → store.now ≡ stored records → rows_in graph.entry ≡ [] → Promises (map string_bytes words.now) (Some input) (W.contents writer.old) result (W.contents writer.new) }
+    // What was written by a run without rows, from lists of bytes up, where the store is that of some records.
+    ensures whole { (input : List ℕ) (records : List Record) → AreRecords records input → store.now ≡ stored records → rows_in graph.entry ≡ [] → Promises Fault.Write (map string_bytes words.now) (λ (objects : Objects) (rows : List Row). AreFed (Some input) objects × (rows ≡ [])) (W.contents writer.old) result (W.contents writer.new) }
 {
     let command = read_command(alloc, words)?;
     check_rows(alloc, store, graph)?;
