@@ -1,12 +1,10 @@
 -- What the clause `runs` of a run says is what the page promises of it.
-use Rattle.std.proofs.Common.{◌≡◌, ℕ, List, [], Option, Result, Ok, Err, refl, inl, inr}
+use Rattle.std.proofs.Common.{◌≡◌, ℕ, List, [], Option, Result, refl, inl, inr}
 use Rattle.gix_commands.proofs.Common.{Objects, stored, none_agree, no_member, Fault, Runs, without_memory, no_command, not_read, bad_record, served, Request}
-use Rattle.gix_hash.specs.declared.ObjectId.{ObjectId}
 use Rattle.gix_words.specs.declared.fault.Fault.TheVariants as fault
 use Rattle.gix_statement.specs.WholeStatement as page
-use Rattle.gix_statement.specs.WholeStatement.{AreFed, IsCommit, IsText, Promises, Row}
+use Rattle.gix_statement.specs.WholeStatement.{AreFed, IsCommit, Promises, Row}
 use Rattle.gix_commands.specs.Pages.{page_objects}
-use Rattle.gix_commands.specs.Readable.{readable, reads_all_lines}
 use Rattle.gix_commands.proofs.FedCommits.{agree}
 use Rattle.gix_commands.proofs.FedRuns.{right, unrowed_read}
 use Rattle.gix_commands.proofs.Promised.{promised}

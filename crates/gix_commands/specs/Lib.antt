@@ -11,6 +11,5 @@ pub mod StoredRuns
 pub mod Histories
 pub mod Listings
 pub mod Output
-pub mod WholeStatement
 pub mod Everywhere
 pub mod Examples
