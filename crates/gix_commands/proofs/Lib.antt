@@ -57,6 +57,8 @@ mod FedNames
 mod FedSimple
 mod FedTopo
 mod FedRuns
+mod ReadableObjects
+mod ReadableTexts
 mod ReachedIsRead
 mod SameCommitsThere
 mod RowsAsTexts

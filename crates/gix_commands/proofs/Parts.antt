@@ -1,4 +1,4 @@
--- What holds of a part of a store holds of the whole store, where all that is reached in the part is whole there.
+-- A list by some parents is one by others that are the same of all that is reached.
 use Rattle.std.proofs.Common.{◌≡◌, ℕ, zero, suc, ℤ, List, [], ◌∷◌, ◌++◌, filter, take, slice_get, find, Bool, true, false, not, ◌&&◌, if◌then◌else◌, Option, None, Some, Contains, IsSome, MatchOption, flat_map, refl, sym, ap, subst, ⊎_elim, ◌∙◌}
 use Rattle.gix_commands.proofs.Common.{get, transport, false≢true, Contains-append_left, Contains-append_right, Contains-append_cases, ObjectId, Object, Objects, CommitTimeOrder, Parents, step, IsBreadthOrder, first_new, by_mode}
 use Rattle.gix_commands.proofs.Common.{commit_at, commit_of_object, parents_of, time_in, time_of, new_ids, IsTimeOrder, IsNoWorse, IsInOrder, cutoff, is_older, is_among, among_is, among_from, Contains-here, Contains-there}
@@ -72,19 +72,8 @@ module _ (In : ObjectId → Type 0) (next other : ObjectId → List ObjectId) (t
   order_same None h = breadth_same h
   order_same (Some order) h = time_same order h
 
-module _ (some all : Objects) (part : IsPartOf some all) where
-  same_commit : (i : ObjectId) → IsSome (commit_at some i) → commit_at some i ≡ commit_at all i
-  same_commit i h = go (get some i) refl h
-    where
-      go : (o : Option Object) → get some i ≡ o → IsSome (commit_of_object i o) → commit_at some i ≡ commit_at all i
-      go None e n = absurd (false≢true n)
-      go (Some object) e n = ap (commit_of_object i) (e ∙ sym (part i object e))
-
-  pub same_time : (i : ObjectId) → IsSome (commit_at some i) → time_of some i ≡ time_of all i
-  same_time i h = ap time_in (same_commit i h)
-
--- what is shown is the same by other parents, where these are the same of all that is reached
-module _ (some all : Objects) (next other : ObjectId → List ObjectId) (tips hidden : List ObjectId) (same_next : (c : ObjectId) → Reaches next (tips ++ hidden) c → next c ≡ other c) where
+-- what is reached is the same by other parents, where these are the same of all that is reached
+module _ (next other : ObjectId → List ObjectId) (tips hidden : List ObjectId) (same_next : (c : ObjectId) → Reaches next (tips ++ hidden) c → next c ≡ other c) where
   abbrev AreMet : List ObjectId → Type 0
   AreMet ids = (i : ObjectId) → Reaches next ids i → Reaches next (tips ++ hidden) i
 
@@ -127,7 +116,7 @@ module _ (objects : Objects) (tips hidden : List ObjectId) (whole : AreWhole obj
   texts_same c r = text_whole objects c (whole_from objects c (whole c r))
 
   pub by_parents_reached : (i : ObjectId) → Reaches (text_next objects) (tips ++ hidden) i → Reaches (parents_of objects) (tips ++ hidden) i
-  by_parents_reached = back objects objects (parents_of objects) (text_next objects) tips hidden texts_same (tips ++ hidden) (λ i r. r)
+  by_parents_reached = back (parents_of objects) (text_next objects) tips hidden texts_same (tips ++ hidden) (λ i r. r)
 
 module _ (objects : Objects) (m : Parents) (by : Sorting) (from hidden : List ObjectId) (order : Option CommitTimeOrder) (ids : List ObjectId) (whole : AreWhole objects (from ++ hidden)) where
   pub by_texts : ListsBy objects (parents_of objects) (followed objects (parents_of objects) m by) order from hidden ids → ListsBy objects (text_next objects) (followed objects (text_next objects) m by) order from hidden ids

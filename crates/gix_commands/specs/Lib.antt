@@ -5,6 +5,7 @@ pub mod Opening
 pub mod Files
 pub mod Lister
 pub mod Ahead
+pub mod Readable
 pub mod Pages
 pub mod Run
 pub mod StoredRuns

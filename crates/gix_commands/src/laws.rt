@@ -1,6 +1,6 @@
 //! What a run of the program writes, as laws over the definitions: functions that do nothing, and whose contracts are proved.
 
-ghost use Rattle.gix_commands.specs.Everywhere.{RightEverywhere};
+ghost use Rattle.gix_commands.specs.Everywhere.{PromisedEverywhere, RightEverywhere};
 ghost use Rattle.gix_commands.specs.Histories.{AheadSucceeds, ContainsSucceeds, SimpleSucceeds, TopoSucceeds};
 ghost use Rattle.gix_commands.specs.Listings.{FilesReportNames, FilesSucceeds};
 
@@ -41,4 +41,8 @@ pub fn contains_succeeds()
 /// commit has the text of one.
 pub fn right_everywhere()
     ensures { RightEverywhere }
+{}
+
+pub fn promised_everywhere()
+    ensures { PromisedEverywhere }
 {}
