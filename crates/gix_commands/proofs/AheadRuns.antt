@@ -1,17 +1,15 @@
 -- What a run of `ahead` writes, by what commits reach.
 use Rattle.std.proofs.Common.{◌≡◌, ℕ, suc, List, [], ◌∷◌, map, length, Option, None, Ok, Contains, ◌↔◌, refl, sym, ap, ◌∙◌}
-use Rattle.gix_commands.proofs.Common.{Appends, transport, ObjectId, Objects, GraphRow, IsAgreeing, Info, parents_of, AreDistinct, IsNumberOf, AreWhole, IsPartOf, IsSimpleBy, ListsBy, AheadCounts, AheadCountsOfPart, DrawsDifference}
-use Rattle.gix_commands.proofs.Common.{stored, counted, Ends, finished, Ahead, none_agree}
+use Rattle.gix_commands.proofs.Common.{Appends, transport, ObjectId, Objects, GraphRow, IsAgreeing, Info, parents_of, AreDistinct, IsNumberOf, AreWhole}
+use Rattle.gix_commands.proofs.Common.{counted, Ends, finished, Ahead}
 use Rattle.gix_revwalk.specs.declared.Parents.TheVariants as mode
 use Rattle.gix_simple.specs.declared.Sorting.TheVariants as sorting
 use Rattle.gix_commands.specs.Ahead.{Counts, Draws, ahead_line}
-use Rattle.gix_commands.specs.Histories.{IsShown}
 use Rattle.gix_commands.specs.Run.{Serves}
 use Rattle.gix_commands.specs.Walked.{Answers, IsWalkFault}
-use Rattle.gix_commands.proofs.CommitRuns.{served_so}
 use Rattle.gix_commands.proofs.KeptLists.{all_followed, tips_kept}
 use Rattle.gix_commands.proofs.SimpleRuns.{all_read, listed_whole}
-use Rattle.gix_commands.proofs.Parts.{number_in_all}
+use Rattle.gix_commands.proofs.ListedCommits.{IsShown, IsSimpleBy, ListsBy}
 
 length-map : (infos : List Info) → length (map (λ info. info.id) infos) ≡ length infos
 length-map [] = refl
@@ -46,12 +44,6 @@ module _ (objects : Objects) (rows : List GraphRow) (agreeing : IsAgreeing objec
       of_ends : Ends Answers IsWalkFault d.walk infos (Ok tt) → AreWhole objects (tip ∷ hidden ∷ [])
       of_ends (finished new h) = all_read objects rows mode.All sorting.BreadthFirst (tip ∷ []) (hidden ∷ []) d.walk d.starts agreeing infos h.0 new h.1 h.2 (λ e. cc) (λ e. cc)
 
-  number_of_all : (all : Objects) → IsPartOf objects all → (n : ℕ) → Counts objects rows tip hidden n → IsNumberOf (IsShown all (tip ∷ []) (hidden ∷ [])) n
-  number_of_all all part n c = number_in_all objects all part (tip ∷ []) (hidden ∷ []) (read_whole c.0 c.1) n (number_of n c)
-
-pub draws_difference : DrawsDifference
-draws_difference objects = difference objects [] (none_agree objects [] refl)
-
 pub counted_so : (objects : Objects) (rows : List GraphRow) → IsAgreeing objects rows → (one other : ObjectId) (old new : Option (List ℕ)) → Serves objects rows old (Ahead one other) (Ok tt) new
     → (ahead behind : ℕ) × IsNumberOf (IsShown objects (one ∷ []) (other ∷ [])) ahead × IsNumberOf (IsShown objects (other ∷ []) (one ∷ [])) behind × Appends old new (ahead_line ahead behind)
 counted_so objects rows agreeing one other old new (counted ahead behind a b written) = (ahead, behind, number_of objects rows agreeing one other ahead a, number_of objects rows agreeing other one behind b, written)
@@ -59,14 +51,3 @@ counted_so objects rows agreeing one other old new (counted ahead behind a b wri
 -- and has read all that both reach
 pub counted_whole : (objects : Objects) (rows : List GraphRow) → IsAgreeing objects rows → (one other : ObjectId) (old new : Option (List ℕ)) → Serves objects rows old (Ahead one other) (Ok tt) new → AreWhole objects (one ∷ other ∷ [])
 counted_whole objects rows agreeing one other old new (counted ahead behind a b written) = read_whole objects rows agreeing one other a.0 a.1
-
-pub ahead_counts : AheadCounts
-ahead_counts words input records one other old new asked are runs = counted_so (stored records) [] (none_agree (stored records) [] refl) one other old new (served_so words input records (Ahead one other) old new asked are runs)
-
-counted_of_all : (objects all : Objects) → IsPartOf objects all → (one other : ObjectId) (old new : Option (List ℕ)) → Serves objects [] old (Ahead one other) (Ok tt) new
-    → (ahead behind : ℕ) × IsNumberOf (IsShown all (one ∷ []) (other ∷ [])) ahead × IsNumberOf (IsShown all (other ∷ []) (one ∷ [])) behind × Appends old new (ahead_line ahead behind)
-counted_of_all objects all part one other old new (counted ahead behind a b written) = (ahead, behind, number_of_all objects [] (none_agree objects [] refl) one other all part ahead a, number_of_all objects [] (none_agree objects [] refl) other one all part behind b, written)
-
-pub ahead_counts_of_part : AheadCountsOfPart
-ahead_counts_of_part words input records one other old new all asked are part runs =
-    counted_of_all (stored records) all part one other old new (served_so words input records (Ahead one other) old new asked are runs)

@@ -58,13 +58,10 @@ pub use Rattle.gix_simple.proofs.Difference.{begun_whole, drawn_whole, loosened,
 pub use Rattle.gix_topo.proofs.Run.EachOnce.{named_all, reached_known}
 pub use Rattle.gix_tree.proofs.Theorems.Laws.{depth_is_in_order, depth_is_recorded, depth_ok, go_on, sound_depth_succeeds}
 pub use Rattle.gix_commands.specs.Files.{AreLinesOf, file_line, file_lines, IsTreeFault, RecordsTree, six_octal_digits}
-pub use Rattle.gix_commands.specs.Histories.{AheadCounts, AheadCountsOfPart, AheadSucceeds, AreTold, AreWhole, ContainsIds, ContainsIdsOfPart, ContainsSucceeds, DrawsDifference, EndsWell, FailsSilently, followed, IsListedBy}
-pub use Rattle.gix_commands.specs.Histories.{IsOutside, IsPartOf, IsShownBy, IsSimpleBy, IsSimpleList, kept_tips, lines_of_ids, ListsBy, ListsDown, ListsRead, SimpleBegins, SimpleBeginsOfPart, SimpleLists, SimpleListsOfPart, SimpleListsRead}
-pub use Rattle.gix_commands.specs.Histories.{SimpleSucceeds, told, ToldAheadCounts, ToldContainsIds, ToldSimpleBegins, ToldSimpleLists, ToldTopoBegins, ToldTopoLists, TopoBegins, TopoBeginsOfPart, TopoLists, TopoListsOfPart, TopoSucceeds}
+pub use Rattle.gix_commands.specs.Histories.{AheadSucceeds, AreWhole, ContainsSucceeds, EndsWell, IsOutside, SimpleSucceeds, TopoSucceeds}
 pub use Rattle.gix_commands.specs.Output.{Adds, Grows, WritesAll}
 pub use Rattle.gix_commands.specs.Run.{bad_record, counted, disagrees, no_command, not_ahead, not_behind, not_built, not_listed, not_read, not_selected, not_walked, Runs, RunsOver, selected, served, unserved, walked, walked_down}
 pub use Rattle.gix_commands.specs.Run.{without_memory}
 pub use Rattle.gix_commands.specs.TopoWalked.{IsBuiltFrom, plan_from}
 pub use Rattle.gix_commands.specs.Walked.{accepts_all, before, cut_short, Ends, EndsBy, EndsWithin, enough, FailsAtStart, finished, IsMadeOf, IsStartFault, line_of, lines_of, never_faulty, objects_of, StartsFrom}
-pub use Rattle.gix_commands.specs.WholeStatement.{all, AreEntries, AreHistory, AreMadeReady, AreParentLines, AreTips, breadth, bytes_in, Comes, commits, digits_in, Entry, entry_line, Follows, IsFirst, IsNumber, IsNumberShown}
-pub use Rattle.gix_commands.specs.WholeStatement.{IsSigned, IsTime, IsTree, Names, negative, newest, positive, Promises, since, Spells, unsigned}
+pub use Rattle.gix_statement.specs.WholeStatement.{all, AreEntries, AreMadeReady, AreTips, bytes_in, commits, digits_in, Entry, entry_line, Follows, IsNumber, IsNumberShown, IsTree, since, Spells}

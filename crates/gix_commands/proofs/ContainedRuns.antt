@@ -1,16 +1,16 @@
 -- What a run of `contains` writes, by what commits reach.
 use Rattle.std.proofs.Common.{◌≡◌, ◌≢◌, ℕ, List, [], ◌∷◌, ◌++◌, Option, Some, None, Result, Ok, Contains, IsSome, refl, sym, ap, subst, ⊎_elim, ◌∙◌}
-use Rattle.gix_commands.proofs.Common.{get, Appends, Contains-append_left, Contains-append_right, Contains-append_cases, ObjectId, Contains-here, Contains-there, Contains-cons_cases, only_member, Commit, Object, Objects, GraphRow}
-use Rattle.gix_commands.proofs.Common.{row_of, stored, IsAgreeing, RowAgrees, commit_at, commit_of_object, parents_of, reach_more, row_stands, none_agree, whole_from, Fault, fault_of_contained, AreWhole, EndsWell, IsPartOf, ContainsIds}
-use Rattle.gix_commands.proofs.Common.{ContainsIdsOfPart, ContainsSucceeds, lines_of_ids, selected, not_selected, unserved, never_faulty, Contained}
+use Rattle.gix_commands.proofs.Common.{Appends, Contains-append_left, Contains-append_right, Contains-append_cases, ObjectId, Contains-here, Contains-there, Contains-cons_cases, only_member, Objects, GraphRow}
+use Rattle.gix_commands.proofs.Common.{row_of, stored, IsAgreeing, RowAgrees, commit_at, parents_of, reach_more, row_stands, none_agree, whole_from, Fault, fault_of_contained, AreWhole, EndsWell}
+use Rattle.gix_commands.proofs.Common.{ContainsSucceeds, selected, not_selected, unserved, never_faulty, Contained}
 use Rattle.gix_contained.specs.Contained.{AreContained, Selects}
 use Rattle.gix_contained.proofs.Faultless.{store_alone}
 use Rattle.gix_paint.specs.Painting.{IsHistory}
 use Rattle.gix_paint.proofs.Invariant.{own_history}
 use Rattle.gix_commands.specs.Run.{Serves, cut_off}
-use Rattle.gix_commands.proofs.CommitRuns.{ends_well, served_so}
+use Rattle.gix_commands.proofs.CommitRuns.{ends_well}
 use Rattle.gix_commands.proofs.InternalFacts.{contained_sound}
-use Rattle.gix_commands.proofs.NamedTips.{some_ids}
+use Rattle.gix_commands.proofs.ListedCommits.{lines_of_ids}
 
 module _ (tip : ObjectId) (ids : List ObjectId) where
   among : (i : ObjectId) → Contains (tip ∷ ids) i → Contains (ids ++ tip ∷ []) i
@@ -51,27 +51,6 @@ module _ (tip : ObjectId) (ids : List ObjectId) where
         (ap fault_of_contained (store_alone objects (never_faulty objects) rows (tip ∷ []) ids e agreeing (λ i r. whole_from objects i (whole i (reach_more (parents_of objects) (ids ++ tip ∷ []) (tip ∷ ids) among_back i r))) f)))
     selects_well whole answer new old unserved = tt
     selects_well whole answer new old (cut_off some more s a b) = tt
-
--- what a part of a store reads as a commit is that commit in the whole store
-read_in_all : (objects all : Objects) → IsPartOf objects all → (i : ObjectId) (commit : Commit) → commit_at objects i ≡ Some commit → commit_at all i ≡ Some commit
-read_in_all objects all part i commit e = go (get objects i) refl e
-  where
-    go : (o : Option Object) → get objects i ≡ o → commit_of_object i o ≡ Some commit → commit_at all i ≡ Some commit
-    go None g n = cc
-    go (Some object) g c = ap (commit_of_object i) (part i object g) ∙ c
-
-selected_of_all : (objects all : Objects) → IsPartOf objects all → (tip : ObjectId) (ids : List ObjectId) (old new : Option (List ℕ)) → Serves objects [] old (Contained tip ids) (Ok tt) new
-    → (those : List ObjectId) × AreContained (parents_of all) (tip ∷ []) ids those × Appends old new (lines_of_ids those)
-selected_of_all objects all part tip ids old new (selected those s written) =
-    (those, s.exact all (record { agreeing = none_agree all [] refl; read = read_in_all objects all part }), written)
-
-pub contains_ids : ContainsIds
-contains_ids words input records tip ids old new asked are runs =
-    selected_so tip ids (stored records) [] (none_agree (stored records) [] refl) old new (some_ids words tip ids asked) (served_so words input records (Contained tip ids) old new asked are runs)
-
-pub contains_ids_of_part : ContainsIdsOfPart
-contains_ids_of_part words input records tip ids old new all asked are part runs =
-    selected_of_all (stored records) all part tip ids old new (served_so words input records (Contained tip ids) old new asked are runs)
 
 pub contains_succeeds : ContainsSucceeds
 contains_succeeds words input records tip ids answer old new asked are whole runs =

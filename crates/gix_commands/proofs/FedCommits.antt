@@ -1,16 +1,15 @@
 -- What is stored as a whole commit is a commit of the statement, and what is stored is one history.
 use Rattle.std.proofs.Common.{◌≡◌, ◌≢◌, ◌++◌, ℕ, ℤ, pos, List, [], ◌∷◌, take, Option, Some, None, All, Contains, codes, refl, sym, ap, subst, ◌∙◌, inl, inr, ⊎_elim, arith}
-use Rattle.gix_commands.proofs.Common.{get, same_Some, none-some, All-contains, Contains-get_or, ObjectId, kind_of, Commit, seconds_of, read_commit, Object, Objects, kind_word, commit_at, commit_of_kind, commit_of_object, time_of, time_in, next_in, text_next, no_member}
-use Rattle.gix_commands.proofs.Common.{parents_of, ReadsWhole, commit_stored, whole_from, scanned, text_parents_of_kind, Contains-here, reach_more, Contains-cons_cases, AreWhole, Spells, IsTime, unsigned, positive, negative, digits_in}
-use Rattle.gix_object.specs.CommitItems.{commit_items}
+use Rattle.gix_commands.proofs.Common.{get, none-some, All-contains, Contains-get_or, ObjectId, kind_of, Commit, seconds_of, Object, Objects, kind_word, commit_at, commit_of_object, time_of, time_in, next_in, text_next, no_member}
+use Rattle.gix_commands.proofs.Common.{parents_of, ReadsWhole, commit_stored, whole_from, Contains-here, reach_more, Contains-cons_cases, AreWhole, Spells, digits_in}
 use Rattle.gix_object.specs.declared.Kind.TheVariants as kind
 use Rattle.gix_object.proofs.Commits.Texts.{reads_texts}
-use Rattle.gix_revwalk.specs.declared.Parents.TheVariants as mode
 use Rattle.gix_statement.proofs.OneCommit.{drop_word, line_same, one_commit, signed_same}
 use Rattle.gix_statement.specs.WholeStatement as page
-use Rattle.gix_statement.specs.WholeStatement.{Agree, IsCommit, IsHistory, IsText, IsThere, Reaches, Row}
+use Rattle.gix_statement.specs.WholeStatement.{Agree, IsHistory, IsText, IsThere, Reaches, Row}
 use Rattle.gix_commands.specs.Pages.{page_objects}
-use Rattle.gix_commands.specs.WholeStatement as named
+use Rattle.gix_commands.proofs.TextLines as named
+use Rattle.gix_commands.proofs.TextLines.{IsTime, unsigned, positive, negative}
 use Rattle.gix_commands.proofs.SameNumbers.{width_of}
 use Rattle.gix_commands.proofs.SameCommits.{IsTextOf, commit_text, commit_text_back, held, held_back, is_time, signed_rest}
 use Rattle.gix_commands.proofs.SameHistory.{is_commit_kind, own_width}

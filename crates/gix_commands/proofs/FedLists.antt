@@ -1,5 +1,5 @@
 -- A list by the parents that texts name, and the first of it, are such a list and a beginning of one in the words of the page.
-use Rattle.std.proofs.Common.{◌≡◌, ◌≢◌, ◌<◌, ◌≤◌, ◌⊎◌, ℕ, suc, ℤ, List, [], ◌∷◌, ◌++◌, length, take, drop, reverse, flat_map, All, AllPairs, Contains, codes, refl, sym, ap, subst, ◌∙◌, ⊎_elim, arith, append_assoc, append-nil, take-append-drop, length-append}
+use Rattle.std.proofs.Common.{◌≡◌, ◌<◌, ◌≤◌, ◌⊎◌, ℕ, ℤ, List, [], ◌∷◌, ◌++◌, length, take, drop, reverse, flat_map, Contains, sym, ap, subst, ◌∙◌, ⊎_elim, arith, append_assoc, append-nil, take-append-drop, length-append}
 use Rattle.gix_commands.proofs.Common.{All-contains, Contains-get_or, Contains-append_left, Contains-append_right, Contains-append_cases, Contains-cons_cases, Contains-here, Contains-there, no_member, ObjectId}
 use Rattle.std.proofs.Math.ListN.{get_or, get_or-append}
 use Rattle.std.proofs.lemmas.List.{drop_all, length-take-le, reverse-append, take_all}
@@ -9,8 +9,8 @@ use Rattle.gix_statement.proofs.HaveHistory.{below}
 use Rattle.gix_statement.proofs.OneAnswer.{ready_once}
 use Rattle.gix_statement.specs.WholeStatement as page
 use Rattle.gix_statement.specs.WholeStatement.{AreMadeReady, Begins, IsNext, IsPending, IsReady, IsWhole, Keeps, by_time, empty, kept, passed}
-use Rattle.gix_commands.specs.WholeStatement as listed
-use Rattle.gix_commands.specs.WholeStatement.{Comes, Lists}
+use Rattle.gix_commands.proofs.Turns as listed
+use Rattle.gix_commands.proofs.Turns.{Comes, Lists}
 
 reverse_of : (ids : List ObjectId) (i : ObjectId) → Contains ids i → Contains (reverse ids) i
 reverse_of [] i m = m

@@ -1,5 +1,5 @@
 -- What the names of orders say.
-use Rattle.std.proofs.Common.{◌≡◌, ◌≢◌, ℕ, List, [], ◌∷◌, Contains, codes, refl, sym, ap, subst, length, ⊎_elim, ◌∙◌, arith}
+use Rattle.std.proofs.Common.{◌≡◌, ◌≢◌, ℕ, List, [], ◌∷◌, Contains, codes, refl, sym, ap, length, ⊎_elim, ◌∙◌, arith}
 use Rattle.gix_commands.proofs.Common.{Contains-cons_cases, no_member, Order, Parents, Simple, Topo}
 use Rattle.gix_revwalk.specs.declared.CommitTimeOrder.TheVariants as order
 use Rattle.gix_revwalk.specs.declared.Parents.TheVariants as mode

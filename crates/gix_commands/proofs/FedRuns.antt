@@ -1,9 +1,8 @@
 -- What a run over objects and rows that agree with them has written is right in each history that has these objects, where what is said to
 -- be a commit has the text of one.
-use Rattle.std.proofs.Common.{◌≡◌, ◌≢◌, ℕ, List, [], ◌∷◌, ◌++◌, Option, Some, None, Result, Ok, Err, Contains, codes, refl, sym, ap, subst, inl, inr, ◌⊎◌, ⊎_elim, ◌∙◌, arith}
+use Rattle.std.proofs.Common.{◌≡◌, ◌≢◌, ℕ, List, [], ◌∷◌, Option, Some, Result, Ok, Err, Contains, codes, refl, sym, ap, subst, inl, ◌∙◌}
 use Rattle.gix_commands.proofs.Common.{get, kind_of, Parents, ReadsParents, IsCommitRead, IsReached, objects_of, plan_from, IsBuiltFrom, Appends, Contains-here, Contains-there, ObjectId, Objects, GraphRow, IsAgreeing, none_agree, stored, text_next, time_of, Fault, Simple, Topo, AreWhole}
 use Rattle.gix_commands.proofs.Common.{not_listed, not_ahead, not_behind, not_selected, unserved, Request, Commits, Files, Ahead, Contained, request_of}
-use Rattle.gix_words.specs.declared.fault.Fault.TheVariants as fault
 use Rattle.gix_object.specs.CommitItems.{commit_items}
 use Rattle.gix_object.specs.declared.Kind.TheVariants as kind
 use Rattle.gix_revwalk.specs.declared.Parents.TheVariants as mode
@@ -37,7 +36,7 @@ AreRead objects rows =
     → (i : ObjectId) → IsReached objects_of (plan_from objects rows by tips ends) i → IsCommitRead objects i
 
 pub unrowed_read : (objects : Objects) → AreRead objects []
-unrowed_read objects by tips ends walk built i r = was_read objects objects (λ j o e. e) by tips ends walk built i r
+unrowed_read objects by tips ends walk built i r = was_read objects by tips ends walk built i r
 
 module _ (objects : Objects) (rows : List GraphRow) (agrees : IsAgreeing objects rows) (read : AreRead objects rows) (old : Option (List ℕ)) where
   abbrev RightSo : List (List ℕ) → Result (Unit {0}) Fault → Option (List ℕ) → Type 0
@@ -91,7 +90,7 @@ module _ (objects : Objects) (rows : List GraphRow) (agrees : IsAgreeing objects
 
     simple_there : (m : Parents) (by : Sorting) (limit : Option ℕ) (tips hidden : List ObjectId) → request ≡ Commits (Simple m by) limit tips hidden → (i : ObjectId) → ReadsParents objects m i → IsThere (page_objects objects) [] i
     simple_there mode.All by limit tips hidden is i r = text_there objects i r.bytes (some_text i r.bytes r.stored) r.stored r.unbroken
-    simple_there mode.First by limit tips hidden is i r = have.1 by limit tips hidden is i r.bytes (held objects i (record { kind = kind.Commit; bytes = r.bytes }) r.stored)
+    simple_there mode.First by limit tips hidden is i r = have.1 by limit tips hidden is i r.bytes (held objects i (record { kind = kind.Commit; bytes = r.bytes }) r.stored) r.unbroken
 
     down_there : (i : ObjectId) → IsCommitRead objects i → IsThere (page_objects objects) [] i
     down_there i c = text_there objects i c.bytes (some_text i c.bytes c.stored) c.stored (scan_faultless (commit_items (kind_of i) c.bytes) c.faultless)

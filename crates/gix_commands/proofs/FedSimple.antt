@@ -1,7 +1,7 @@
 -- What a run of `breadth`, `newest` or `oldest` over records has written is right in each history that has what was read, where what
 -- was read are commits.
-use Rattle.std.proofs.Common.{◌≡◌, ◌≢◌, ◌-◌, ◌≤◌, ◌<◌, ℕ, suc, List, [], ◌∷◌, ◌++◌, length, take, drop, map, flat_map, Option, Some, None, Ok, All, Contains, codes, refl, sym, ap, subst, ◌∙◌, inl, inr, ◌⊎◌, Bool, true, false, Result, Err, arith, take_at, take-append-drop, append-nil, length-append, take_all}
-use Rattle.gix_commands.proofs.Common.{Appends, Yields, Contains-get_or, Contains-append_left, Contains-append_right, ObjectId, Parents, by_mode, cutoff, Info, Simple, Commits, AreWhole, ReadsParents, IsSimpleBy, followed, kept_tips, text_next, time_of, time_order, IsAgreeing, GraphRow, Objects, no_start, reach_more, whole_from, step}
+use Rattle.std.proofs.Common.{◌≡◌, ◌≢◌, ◌-◌, ◌≤◌, ℕ, suc, List, [], ◌∷◌, ◌++◌, length, take, drop, flat_map, Option, Some, None, Ok, All, Contains, codes, refl, sym, ap, subst, ◌∙◌, inl, inr, Bool, true, false, Result, Err, arith, take_at, take-append-drop, append-nil, length-append, take_all}
+use Rattle.gix_commands.proofs.Common.{Appends, Yields, Contains-get_or, Contains-append_left, Contains-append_right, ObjectId, Parents, by_mode, Info, Simple, Commits, AreWhole, ReadsParents, text_next, time_of, time_order, IsAgreeing, GraphRow, Objects, no_start, reach_more, whole_from, step}
 use Rattle.gix_commands.proofs.Common.{false≢true, Fault, walked, not_walked, unserved, StartsFrom, enough, before, cut_short, Ends, finished, IsNumber, lines_of}
 use Rattle.std.specs.Str.Parse.{digits_value}
 use Rattle.std.proofs.Math.ListN.{get_or}
@@ -11,14 +11,12 @@ use Rattle.gix_hash.specs.Reach as reach
 use Rattle.gix_revwalk.specs.declared.Parents.TheVariants as mode
 use Rattle.gix_simple.specs.declared.Sorting.{Sorting}
 use Rattle.gix_simple.specs.declared.Sorting.TheVariants as sorting
-use Rattle.gix_words.specs.declared.fault.Fault.TheVariants as fault
 use Rattle.gix_statement.proofs.InEach.{none_each, simple_each}
 use Rattle.gix_statement.specs.WholeStatement as page
 use Rattle.gix_statement.specs.WholeStatement.{Allows, InEach, AreTips, IsThere, Reaches, id_line}
 use Rattle.gix_commands.specs.Checked.{AsksForMore, HaveParents}
 use Rattle.gix_commands.specs.Run.{Serves, cut_off, lost}
 use Rattle.gix_commands.specs.Walked.{Walk, Answers, IsWalkFault, failed, given}
-use Rattle.gix_commands.specs.WholeStatement.{Lists}
 use Rattle.gix_commands.specs.Everywhere.{IsRight}
 use Rattle.gix_commands.specs.Pages.{page_objects}
 use Rattle.gix_commands.proofs.CommitRuns.{ids_in, lines_by_ids, listed}
@@ -32,9 +30,11 @@ use Rattle.gix_commands.proofs.SameLists.{id_lines, is_followed, is_name_in, lis
 use Rattle.gix_commands.proofs.SameOrders.{reaches_back}
 use Rattle.gix_commands.proofs.SameWords.{AreBehind, IsNameOf, IsOptionOf}
 use Rattle.gix_commands.proofs.FedNames.{all_parents, is_order, simple_name}
+use Rattle.gix_commands.proofs.Turns.{Lists}
 use Rattle.gix_commands.proofs.Right.{begun_right, cut_right}
 use Rattle.gix_commands.proofs.SimpleBegins.{first_given, given_first, met_before, none_given, read_first}
 use Rattle.gix_commands.proofs.SimpleRuns.{all_read, given_with, left_whole, no_ids, tips_read}
+use Rattle.gix_commands.proofs.ListedCommits.{IsSimpleBy, followed, kept_tips}
 
 -- what a limit allows is no more than its number
 pub allowed : (number : List ℕ) (n k : ℕ) → IsNumber 10 9 number n → Allows (codes "-n" ∷ number ∷ []) k → k ≤ n
@@ -199,7 +199,7 @@ module _ (objects : Objects) (rows : List GraphRow) (agrees : IsAgreeing objects
     ended_each walk starts limit infos ends parents allows written = go left refl
       where
         l : IsList (ids_in infos)
-        l = (listed objects rows agrees m by tips hidden some walk infos starts ends).0.read
+        l = listed objects rows agrees m by tips hidden walk infos starts ends
 
         lines : Appends old new (flat_map id_line (ids_in infos))
         lines = subst (Appends old new) (lines_by_ids infos ∙ id_lines (ids_in infos)) written
@@ -222,7 +222,7 @@ module _ (objects : Objects) (rows : List GraphRow) (agrees : IsAgreeing objects
         let f = first_given objects rows m by tips hidden walk starts agrees (info ∷ infos) last drawn in
         let more : List ObjectId = drop (length ids) f.0 in
         let cut : f.0 ≡ ids ++ more = sym (take-append-drop (length ids) f.0) ∙ ap (λ xs. xs ++ more) f.2 in
-        let l : IsList (ids ++ more) = subst IsList cut f.1.read in
+        let l : IsList (ids ++ more) = subst IsList cut f.1 in
         first_each ended walk starts limit ids more l (read_begun walk starts every info infos last drawn parents more l) allows (λ one_more. absurd (none one_more)) (subst (Appends old new) (lines_by_ids (info ∷ infos) ∙ id_lines ids) written)
 
     many : (infos : List Info) → length (ids_in infos) ≡ length infos

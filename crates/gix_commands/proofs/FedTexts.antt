@@ -1,10 +1,10 @@
 -- A text that isn't empty and that is read without a fault up to its parents is that of a commit of the statement.
 use Rattle.std.proofs.Common.{◌≡◌, ◌≢◌, ◌≤◌, ℕ, zero, suc, List, [], ◌∷◌, ◌++◌, length, take, Option, Some, None, Result, Ok, Err, Contains, codes, refl, sym, ap, subst, ◌∙◌, inl, arith, length-append}
-use Rattle.gix_commands.proofs.Common.{get, Contains-here, Contains-there, ObjectId, kind_of, Object, Objects, scanned, Spells}
+use Rattle.gix_commands.proofs.Common.{get, Contains-here, Contains-there, ObjectId, kind_of, Objects, scanned, Spells}
 use Rattle.gix_hash.specs.declared.Kind.{Kind}
 use Rattle.gix_object.specs.declared.Kind.TheVariants as kind
 use Rattle.gix_object.specs.declared.decode.Error.{Error as DecodeError}
-use Rattle.gix_object.specs.CommitItems.{Item, Tree, Parent, Author, Committer, Rest, AtTree, AtParents, AtCommitter, Front, Found, Faulty, Ended, after_word, author_front, text_line_at, id_line_at, tree_front, parent_front, front, unfolded, items_within, items_from, commit_items}
+use Rattle.gix_object.specs.CommitItems.{Item, Tree, Parent, Author, Committer, Rest, AtTree, AtParents, Front, Ended, after_word, author_front, text_line_at, tree_front, parent_front, front, unfolded, items_within, items_from, commit_items}
 use Rattle.gix_object.proofs.Commits.Items.{Stands, ended, faulty, tree, parent, author, stands, items_from-step}
 use Rattle.gix_revwalk.specs.declared.Parents.TheVariants as mode
 use Rattle.std.proofs.Math.ListN.{get_or}

@@ -1,18 +1,16 @@
 -- What a run of `topo` or `date` over records has written is right in each history that has what was read, where what was read are commits.
-use Rattle.std.proofs.Common.{◌≡◌, ◌≢◌, ◌⊎◌, ℕ, suc, List, [], ◌∷◌, ◌++◌, length, drop, flat_map, Option, Some, None, Ok, All, Contains, codes, refl, sym, ap, subst, inl, inr, ◌∙◌, Bool, true, false, Result, Err, arith, append-nil, take-append-drop}
-use Rattle.gix_commands.proofs.Common.{Appends, Contains-get_or, Contains-append_left, ObjectId, Info, Topo, Commits, ListsDown, IsBuiltFrom, text_next, time_of, IsAgreeing, GraphRow, Objects, objects_of, IsCommitRead, IsReached, plan_from, walked_down, not_built, unserved, lines_of, false≢true, Fault, ListsRead, Yields, EndsBy, Ends, before, cut_short, finished}
+use Rattle.std.proofs.Common.{◌≡◌, ◌≢◌, ℕ, suc, List, [], ◌∷◌, ◌++◌, length, drop, flat_map, Option, Some, None, Ok, codes, refl, sym, ap, subst, inl, inr, ◌∙◌, Bool, true, false, Result, Err, arith, append-nil, take-append-drop}
+use Rattle.gix_commands.proofs.Common.{Appends, Contains-get_or, Contains-append_left, ObjectId, Info, Topo, Commits, IsBuiltFrom, text_next, time_of, IsAgreeing, GraphRow, Objects, objects_of, IsCommitRead, IsReached, plan_from, walked_down, not_built, unserved, lines_of, false≢true, Fault, Yields, EndsBy, Ends, before, cut_short, finished}
 use Rattle.std.proofs.Math.ListN.{get_or}
 use Rattle.std.proofs.lemmas.List.{length-map}
-use Rattle.gix_words.specs.declared.fault.Fault.TheVariants as fault
 use Rattle.gix_topo.specs.declared.Sorting.{Sorting}
 use Rattle.gix_statement.proofs.InEach.{down_each}
 use Rattle.gix_statement.specs.WholeStatement as page
-use Rattle.gix_statement.specs.WholeStatement.{Allows, InEach, AreTips, IsThere, Reaches, id_line}
+use Rattle.gix_statement.specs.WholeStatement.{Allows, InEach, AreTips, IsThere, id_line}
 use Rattle.gix_commands.specs.Checked.{AsksForMore}
 use Rattle.gix_commands.specs.Run.{Serves, cut_off}
 use Rattle.gix_commands.specs.TopoWalked.{Walk, Answers, IsWalkFault}
 use Rattle.gix_commands.specs.Walked.{failed, given}
-use Rattle.gix_commands.specs.WholeStatement.{Lists}
 use Rattle.gix_commands.specs.Everywhere.{IsRight}
 use Rattle.gix_commands.specs.Pages.{page_objects}
 use Rattle.gix_commands.proofs.CommitRuns.{ids_in, lines_by_ids}
@@ -21,6 +19,7 @@ use Rattle.gix_commands.proofs.FedCommits.{fed_history}
 use Rattle.gix_commands.proofs.FedLists.{at_most, begins_so, first_cut, no_rest, whole_so}
 use Rattle.gix_commands.proofs.FedNames.{down_name, is_order}
 use Rattle.gix_commands.proofs.FirstCommits.{up_to_down}
+use Rattle.gix_commands.proofs.Turns.{Lists}
 use Rattle.gix_commands.proofs.Right.{begun_right, cut_right}
 use Rattle.gix_commands.proofs.SameLists.{id_lines, listed_down}
 use Rattle.gix_commands.proofs.SameOrders.{reaches_back}
@@ -28,6 +27,7 @@ use Rattle.gix_commands.proofs.SameWords.{AreBehind, IsNameOf}
 use Rattle.gix_commands.proofs.SimpleBegins.{AreFirstOf}
 use Rattle.gix_commands.proofs.TopoBegins.{first_given_down}
 use Rattle.gix_commands.proofs.TopoRuns.{listed_read}
+use Rattle.gix_commands.proofs.ListedCommits.{ListsDown}
 
 module _ (objects : Objects) (rows : List GraphRow) (agrees : IsAgreeing objects rows) (by : Sorting) (tips ends : List ObjectId) (some : tips ≢ []) (read_is : (i : ObjectId) → IsCommitRead objects i → IsThere (page_objects objects) [] i)
     (was_read : (walk : Walk) → IsBuiltFrom objects rows by tips ends (Ok walk) → (i : ObjectId) → IsReached objects_of (plan_from objects rows by tips ends) i → IsCommitRead objects i) where
@@ -75,7 +75,7 @@ module _ (objects : Objects) (rows : List GraphRow) (agrees : IsAgreeing objects
       ended_run (Some n) rest (number, is, same) infos drawn written =
           let f = up_to_down objects rows agrees by tips ends n walk infos built drawn in
           subst (λ w. IsWritten true (name ∷ (option ++ w))) (sym same)
-          (down_so true (codes "-n" ∷ number ∷ []) (ids_in infos) (drop n f.0) (subst IsList (first_cut n f.0 (ids_in infos) f.2) f.1.read) (inr (number, n, is, refl, at_most n f.0 (ids_in infos) f.2))
+          (down_so true (codes "-n" ∷ number ∷ []) (ids_in infos) (drop n f.0) (subst IsList (first_cut n f.0 (ids_in infos) f.2) f.1) (inr (number, n, is, refl, at_most n f.0 (ids_in infos) f.2))
           (λ one_more. no_rest n f.0 (ids_in infos) f.2 (allowed number n (suc (length (ids_in infos))) is one_more.1)) (lines infos written))
 
       -- and one that fails
@@ -85,11 +85,11 @@ module _ (objects : Objects) (rows : List GraphRow) (agrees : IsAgreeing objects
           ids : List ObjectId
           ids = ids_in infos
 
-          f : AreFirstOf (ListsRead objects by tips ends) ids
+          f : AreFirstOf (ListsDown objects (text_next objects) by tips ends) ids
           f = first_given_down objects rows agrees by tips ends walk built infos last drawn
 
           l : IsList (ids ++ drop (length ids) f.0)
-          l = subst IsList (sym (take-append-drop (length ids) f.0) ∙ ap (λ xs. xs ++ drop (length ids) f.0) f.2) f.1.read
+          l = subst IsList (sym (take-append-drop (length ids) f.0) ∙ ap (λ xs. xs ++ drop (length ids) f.0) f.2) f.1
 
           go : (limit : Option ℕ) → AreBehind limit rest words → AsksForMore limit infos → IsWritten false (name ∷ (option ++ rest))
           go None same more = subst (λ w. IsWritten false (name ∷ (option ++ w))) (sym same) (down_so false [] ids (drop (length ids) f.0) l (inl refl) (λ e. absurd (false≢true e.0)) (lines infos written))

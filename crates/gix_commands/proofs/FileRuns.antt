@@ -1,7 +1,7 @@
 -- What a run of `files` writes, by the entries of trees.
-use Rattle.std.proofs.Common.{◌≡◌, ◌≢◌, ℕ, List, [], ◌∷◌, map, true, Option, Some, Result, Ok, Err, refl, sym, subst, ◌∙◌}
-use Rattle.gix_commands.proofs.Common.{Appends, ObjectId, Objects, Tracked, Tracks, fresh_recorder, Visit, Ending, Whole, Broken, Failed, IsUnfailed, LookUpFails, depth_answer, trees_of, LookUpFailed, only_reading, Runs, without_memory, no_command, not_read, bad_record, served}
-use Rattle.gix_commands.proofs.Common.{depth_is_recorded, sound_depth_succeeds, Fault, fault_of_find, fault_of_tree_walk, RecordsTree, file_lines, EndsWell, IsOutside, IsPartOf, stored, not_listed, unserved, never_faulty, request_of}
+use Rattle.std.proofs.Common.{◌≡◌, ◌≢◌, ℕ, List, [], ◌∷◌, true, Option, Some, Result, Ok, Err, refl, sym, subst, ◌∙◌}
+use Rattle.gix_commands.proofs.Common.{ObjectId, Objects, Tracked, Tracks, fresh_recorder, Ending, Whole, Broken, Failed, IsUnfailed, LookUpFails, depth_answer, trees_of, LookUpFailed, only_reading, Runs, without_memory, no_command, not_read, bad_record, served}
+use Rattle.gix_commands.proofs.Common.{sound_depth_succeeds, Fault, fault_of_find, fault_of_tree_walk, RecordsTree, EndsWell, IsOutside, stored, not_listed, unserved, never_faulty, request_of}
 use Rattle.gix_commands.proofs.Common.{Files}
 use Rattle.gix_object.specs.declared.find.existing_iter.Error.{Error as ExistingError}
 use Rattle.gix_object.specs.declared.find.existing_iter.Error.TheVariants as existing
@@ -9,16 +9,13 @@ use Rattle.gix_records.specs.Records.{Record, AreRecords}
 use Rattle.gix_tree.specs.declared.breadthfirst.Error.{Error}
 use Rattle.gix_tree.specs.declared.breadthfirst.Error.TheVariants as error
 use Rattle.gix_tree.specs.Laws.{AreSound}
-use Rattle.gix_tree.specs.Paths.{HaveNames}
-use Rattle.gix_tree.specs.Recorder.{record_of}
 use Rattle.gix_words.specs.declared.fault.Fault.TheVariants as fault
-use Rattle.gix_commands.specs.Listings.{AreNamed, Unfolds, Misnames, FilesLists, FilesListsOfPart, FilesReportNames, FilesSucceeds}
+use Rattle.gix_commands.specs.Listings.{AreNamed, Unfolds, Misnames, FilesReportNames, FilesSucceeds}
 use Rattle.gix_commands.specs.Run.{Serves, listed, misnamed, cut_off}
-use Rattle.gix_commands.proofs.CommitRuns.{ok_same, served_so, ends_well}
+use Rattle.gix_commands.proofs.CommitRuns.{ok_same, ends_well}
 use Rattle.gix_commands.proofs.NamedTrees.{no_misnamed, misnames, have_names}
 use Rattle.gix_commands.proofs.RunFacts.{err_same}
 use Rattle.gix_commands.proofs.TreeFacts.{goes_on, in_preorder}
-use Rattle.gix_commands.proofs.TreeParts.{records_all}
 
 name_same : {i j : ObjectId} → fault.Name i ≡ fault.Name j → i ≡ j
 name_same e = cc
@@ -45,14 +42,6 @@ not_failed why (Failed other) e u = u
 module _ (objects : Objects) (ending : ℕ) (tree : ObjectId) where
   pub unfolds : (recorder : Tracked) (walk : RecordsTree objects tree recorder (Ok tt)) → Unfolds objects tree walk.visits
   unfolds recorder walk = record { in_order = in_preorder objects tree recorder walk.script walk.run walk.answered; all = goes_on objects tree recorder walk.script walk.run }
-
-  lists : (old new : Option (List ℕ)) → Serves objects [] old (Files ending tree) (Ok tt) new → (visits : List Visit) × Unfolds objects tree visits × HaveNames visits × Appends old new (file_lines ending (map record_of visits))
-  lists old new (listed recorder walk names written) = (
-    walk.visits,
-    unfolds recorder walk,
-    names,
-    subst (λ records. Appends old new (file_lines ending records)) (depth_is_recorded objects (never_faulty objects) tree recorder (Ok tt) walk (λ e. cc) names) written,
-  )
 
   reports : (i : ObjectId) (answer : Result (Unit {0}) Fault) (old new : Option (List ℕ)) → Serves objects [] old (Files ending tree) answer new → answer ≡ Err (fault.Name i) → Misnames objects tree i
   reports i answer old new (listed recorder walk names written) is = cc
@@ -82,17 +71,6 @@ module _ (objects : Objects) (ending : ℕ) (tree : ObjectId) where
     well old answer new (misnamed {i = i} recorder walk first) = no_misnamed walk.visits i (have_names objects tree named walk.visits (unfolds recorder walk)) first
     well old answer new unserved = tt
     well old answer new (cut_off some more s a b) = tt
-
-pub files_lists : FilesLists
-files_lists words input records ending tree old new asked are runs = lists (stored records) ending tree old new (served_so words input records (Files ending tree) old new asked are runs)
-
--- a walk over a part is one over the whole
-of_all : (objects all : Objects) → IsPartOf objects all → (ending : ℕ) (tree : ObjectId) (old new : Option (List ℕ)) → Serves objects [] old (Files ending tree) (Ok tt) new → Serves all [] old (Files ending tree) (Ok tt) new
-of_all objects all part ending tree old new (listed recorder walk names written) = listed recorder (records_all objects all part tree recorder walk) names written
-
-pub files_lists_of_part : FilesListsOfPart
-files_lists_of_part words input records ending tree old new all asked are part runs =
-    lists all ending tree old new (of_all (stored records) all part ending tree old new (served_so words input records (Files ending tree) old new asked are runs))
 
 pub files_succeeds : FilesSucceeds
 files_succeeds words input records ending tree answer old new asked are sound named runs = ends_well words input records (Files ending tree) answer old new asked are (well (stored records) ending tree sound named old) runs

@@ -1,13 +1,14 @@
 -- Lists in order of what starts reach through what is followed, and hidden tips don't reach.
 use Rattle.std.proofs.Common.{◌≡◌, ℕ, zero, suc, ℤ, List, [], ◌∷◌, take, slice_get, filter, Bool, true, false, not, cond, ◌&&◌, ◌||◌, Option, None, Some, MatchOption, Contains, refl, sym, ap, ◌∙◌, true≢false}
-use Rattle.gix_commands.proofs.Common.{not-true, not_from_false, false_from_ne_true, cond-true, cond-false, ObjectId, is_same, step, same_is, Contains-here, Contains-there, no_member, filter_within, Objects, CommitTimeOrder, Parents}
-use Rattle.gix_commands.proofs.Common.{Pending, by_mode, time_of, first_new, named_by, ids_of, new_ids, walked_within, IsInOrder, cutoff, is_older, all_kept, each_once, IsInWalk, ListsBy, followed, kept_tips}
+use Rattle.gix_commands.proofs.Common.{not-true, not_from_false, false_from_ne_true, cond-true, cond-false, ObjectId, is_same, step, same_is, no_member, filter_within, Objects, CommitTimeOrder, Parents}
+use Rattle.gix_commands.proofs.Common.{Pending, by_mode, time_of, first_new, named_by, ids_of, new_ids, walked_within, IsInOrder, cutoff, is_older, all_kept, each_once, IsInWalk}
 use Rattle.gix_hash.specs.Reach.{Reaches, Tells, start}
 use Rattle.gix_revwalk.specs.declared.Parents.TheVariants as mode
 use Rattle.gix_revwalk.specs.TimeOrder.{IsNextByTime, IsPending}
 use Rattle.gix_simple.specs.declared.Sorting.{Sorting}
 use Rattle.gix_simple.specs.Building.{recent, timed}
 use Rattle.gix_commands.proofs.SameOrders.{in_new, new_in, filtered, filtered_in}
+use Rattle.gix_commands.proofs.ListedCommits.{ListsBy, followed, kept_tips}
 
 -- what is pending behind a cutoff
 pub kept_ids : (objects : Objects) (limit : Option ℤ) (ps : List Pending) → ids_of (recent limit (timed objects ps)) ≡ filter (λ i. not (is_older (time_of objects i) limit)) (ids_of ps)
@@ -56,13 +57,6 @@ filter_both p q (x ∷ xs) = go (q x) (p x) refl (filter_both p q xs)
     go true false e h = cond-false (p x) _ _ e ∙ h
     go false true e h = h
     go false false e h = h
-
--- two tests that agree keep the same
-pub filter_same : (p q : ObjectId → Bool) (xs : List ObjectId) → ((i : ObjectId) → Contains xs i → p i ≡ q i) → filter p xs ≡ filter q xs
-filter_same p q [] h = refl
-filter_same p q (x ∷ xs) h =
-    (λ k. cond (h x (Contains-here x xs) k) (x ∷ filter p xs) (filter p xs))
-    ∙ ap (λ ids. cond (q x) (x ∷ ids) ids) (filter_same p q xs (λ i c. h i (Contains-there i x xs c)))
 
 -- what is followed are parents
 pub followed_within : (objects : Objects) (next : ObjectId → List ObjectId) (m : Parents) (by : Sorting) (c i : ObjectId) → Contains (followed objects next m by c) i → Contains (next c) i

@@ -1,14 +1,14 @@
--- What holds of a part of a store holds of the whole store, where all that is reached in the part is whole there.
+-- A list by some parents is one by others that are the same of all that is reached.
 use Rattle.std.proofs.Common.{◌≡◌, ℕ, zero, suc, ℤ, List, [], ◌∷◌, ◌++◌, filter, take, slice_get, find, Bool, true, false, not, ◌&&◌, if◌then◌else◌, Option, None, Some, Contains, IsSome, MatchOption, flat_map, refl, sym, ap, subst, ⊎_elim, ◌∙◌}
 use Rattle.gix_commands.proofs.Common.{get, transport, false≢true, Contains-append_left, Contains-append_right, Contains-append_cases, ObjectId, Object, Objects, CommitTimeOrder, Parents, step, IsBreadthOrder, first_new, by_mode}
-use Rattle.gix_commands.proofs.Common.{commit_at, commit_of_object, parents_in, parents_of, time_in, time_of, new_ids, IsTimeOrder, IsNoWorse, IsInOrder, cutoff, is_older, IsNumberOf, is_among, among_is, among_from, Contains-here, Contains-there}
-use Rattle.gix_commands.proofs.Common.{Contains-cons_cases, no_member, filter_within, text_next, reach_more, text_whole, whole_from, IsPartOf, IsShownBy, AreWhole, ListsBy, followed}
+use Rattle.gix_commands.proofs.Common.{commit_at, commit_of_object, parents_of, time_in, time_of, new_ids, IsTimeOrder, IsNoWorse, IsInOrder, cutoff, is_older, is_among, among_is, among_from, Contains-here, Contains-there}
+use Rattle.gix_commands.proofs.Common.{Contains-cons_cases, no_member, filter_within, text_next, reach_more, text_whole, whole_from, AreWhole}
 use Rattle.gix_simple.specs.declared.Sorting.{Sorting}
 use Rattle.gix_hash.specs.Reach.{Reaches, start}
 use Rattle.gix_revwalk.specs.TimeOrder.{is_no_worse, IsPending, IsFirstBest}
 use Rattle.gix_simple.proofs.MadeOfTips.{fresh_among}
-use Rattle.gix_commands.specs.Histories.{IsShown}
 use Rattle.gix_commands.proofs.KeptLists.{followed_reaches}
+use Rattle.gix_commands.proofs.ListedCommits.{ListsBy, followed}
 
 pub take_within : (k : ℕ) (xs : List ObjectId) (i : ObjectId) → Contains (take k xs) i → Contains xs i
 take_within zero xs i c = absurd (no_member i c)
@@ -72,85 +72,14 @@ module _ (In : ObjectId → Type 0) (next other : ObjectId → List ObjectId) (t
   order_same None h = breadth_same h
   order_same (Some order) h = time_same order h
 
-module _ (some all : Objects) (part : IsPartOf some all) where
-  same_commit : (i : ObjectId) → IsSome (commit_at some i) → commit_at some i ≡ commit_at all i
-  same_commit i h = go (get some i) refl h
-    where
-      go : (o : Option Object) → get some i ≡ o → IsSome (commit_of_object i o) → commit_at some i ≡ commit_at all i
-      go None e n = absurd (false≢true n)
-      go (Some object) e n = ap (commit_of_object i) (e ∙ sym (part i object e))
-
-  pub same_parents : (i : ObjectId) → IsSome (commit_at some i) → parents_of some i ≡ parents_of all i
-  same_parents i h = ap parents_in (same_commit i h)
-
-  pub same_time : (i : ObjectId) → IsSome (commit_at some i) → time_of some i ≡ time_of all i
-  same_time i h = ap time_in (same_commit i h)
-
-  pub parents_more : (c i : ObjectId) → Contains (parents_of some c) i → Contains (parents_of all c) i
-  parents_more c i m = go (get some c) refl m
-    where
-      go : (o : Option Object) → get some c ≡ o → Contains (parents_in (commit_of_object c o)) i → Contains (parents_of all c) i
-      go None e n = absurd (no_member i n)
-      go (Some object) e n = subst (λ o. Contains (parents_in (commit_of_object c o)) i) (sym (part c object e)) n
-
-  -- what is stored in the part reads whole there, where it does in the whole
-  pub stored_whole : (i : ObjectId) → IsSome (commit_at all i) → (object : Object) → get some i ≡ Some object → IsSome (commit_at some i)
-  stored_whole i h object e = subst IsSome (ap (commit_of_object i) (part i object e ∙ sym e)) h
-
-  -- what is reached in the part is reached in the whole
-  pub reached_in_all : (ids : List ObjectId) (i : ObjectId) → Reaches (parents_of some) ids i → Reaches (parents_of all) ids i
-  reached_in_all ids i (start s) = start s
-  reached_in_all ids i (step {c = c} r n) = step (reached_in_all ids c r) (parents_more c i n)
-
-  -- and the other way round, where all that is reached in the part is whole there
-  pub reached_in_part : (ids : List ObjectId) → AreWhole some ids → (i : ObjectId) → Reaches (parents_of all) ids i → Reaches (parents_of some) ids i
-  reached_in_part ids whole i (start s) = start s
-  reached_in_part ids whole i (step {c = c} r n) = let p : Reaches (parents_of some) ids c = reached_in_part ids whole c r in step p (subst (λ xs. Contains xs i) (sym (same_parents c (whole c p))) n)
-
-  -- then it is whole in the whole store, too
-  pub whole_in_all : (ids : List ObjectId) → AreWhole some ids → AreWhole all ids
-  whole_in_all ids whole i r = let h : IsSome (commit_at some i) = whole i (reached_in_part ids whole i r) in subst IsSome (same_commit i h) h
-
-  module _ (tips hidden : List ObjectId) (whole : AreWhole some (tips ++ hidden)) where
-    pub tips_whole : AreWhole some tips
-    tips_whole i r = whole i (reach_more (parents_of some) tips (tips ++ hidden) (λ j c. Contains-append_left tips hidden j c) i r)
-
-    hidden_whole : AreWhole some hidden
-    hidden_whole i r = whole i (reach_more (parents_of some) hidden (tips ++ hidden) (λ j c. Contains-append_right tips hidden j c) i r)
-
-    pub shown_in_all : (i : ObjectId) → IsShown some tips hidden i → IsShown all tips hidden i
-    shown_in_all i s = (reached_in_all tips i s.0, λ h. s.1 (reached_in_part hidden hidden_whole i h))
-
-    pub shown_in_part : (i : ObjectId) → IsShown all tips hidden i → IsShown some tips hidden i
-    shown_in_part i s = (reached_in_part tips tips_whole i s.0, λ h. s.1 (reached_in_all hidden i h))
-
-    pub number_in_all : (n : ℕ) → IsNumberOf (IsShown some tips hidden) n → IsNumberOf (IsShown all tips hidden) n
-    number_in_all n k = record { ids = k.ids; distinct = k.distinct; each = λ i c. shown_in_all i (k.each i c); all = λ i s. k.all i (shown_in_part i s); number = k.number }
-
--- what is shown is the same by other parents, where these are the same of all that is reached
-module _ (some all : Objects) (next other : ObjectId → List ObjectId) (tips hidden : List ObjectId) (same_next : (c : ObjectId) → Reaches next (tips ++ hidden) c → next c ≡ other c) where
+-- what is reached is the same by other parents, where these are the same of all that is reached
+module _ (next other : ObjectId → List ObjectId) (tips hidden : List ObjectId) (same_next : (c : ObjectId) → Reaches next (tips ++ hidden) c → next c ≡ other c) where
   abbrev AreMet : List ObjectId → Type 0
   AreMet ids = (i : ObjectId) → Reaches next ids i → Reaches next (tips ++ hidden) i
-
-  pub tips_met : AreMet tips
-  tips_met i r = reach_more next tips (tips ++ hidden) (λ j c. Contains-append_left tips hidden j c) i r
-
-  hidden_met : AreMet hidden
-  hidden_met i r = reach_more next hidden (tips ++ hidden) (λ j c. Contains-append_right tips hidden j c) i r
-
-  pub there : (ids : List ObjectId) → AreMet ids → (i : ObjectId) → Reaches next ids i → Reaches other ids i
-  there ids met i (start s) = start s
-  there ids met i (step {c = c} r n) = step (there ids met c r) (subst (λ xs. Contains xs i) (same_next c (met c r)) n)
 
   pub back : (ids : List ObjectId) → AreMet ids → (i : ObjectId) → Reaches other ids i → Reaches next ids i
   back ids met i (start s) = start s
   back ids met i (step {c = c} r n) = let p : Reaches next ids c = back ids met c r in step p (subst (λ xs. Contains xs i) (sym (same_next c (met c p))) n)
-
-  pub shown_there : (i : ObjectId) → IsShownBy next tips hidden i → IsShownBy other tips hidden i
-  shown_there i s = (there tips tips_met i s.0, λ h. s.1 (back hidden hidden_met i h))
-
-  pub shown_back : (i : ObjectId) → IsShownBy other tips hidden i → IsShownBy next tips hidden i
-  shown_back i s = (back tips tips_met i s.0, λ h. s.1 (there hidden hidden_met i h))
 
 -- what starts reach is the same by other parents, where these are the same of all that is reached
 module _ (next other : ObjectId → List ObjectId) (starts : List ObjectId) (same_next : (c : ObjectId) → Reaches next starts c → next c ≡ other c) where
@@ -187,10 +116,7 @@ module _ (objects : Objects) (tips hidden : List ObjectId) (whole : AreWhole obj
   texts_same c r = text_whole objects c (whole_from objects c (whole c r))
 
   pub by_parents_reached : (i : ObjectId) → Reaches (text_next objects) (tips ++ hidden) i → Reaches (parents_of objects) (tips ++ hidden) i
-  by_parents_reached = back objects objects (parents_of objects) (text_next objects) tips hidden texts_same (tips ++ hidden) (λ i r. r)
-
-  pub parents_same : (c : ObjectId) → Reaches (text_next objects) (tips ++ hidden) c → text_next objects c ≡ parents_of objects c
-  parents_same c r = sym (texts_same c (by_parents_reached c r))
+  by_parents_reached = back (parents_of objects) (text_next objects) tips hidden texts_same (tips ++ hidden) (λ i r. r)
 
 module _ (objects : Objects) (m : Parents) (by : Sorting) (from hidden : List ObjectId) (order : Option CommitTimeOrder) (ids : List ObjectId) (whole : AreWhole objects (from ++ hidden)) where
   pub by_texts : ListsBy objects (parents_of objects) (followed objects (parents_of objects) m by) order from hidden ids → ListsBy objects (text_next objects) (followed objects (text_next objects) m by) order from hidden ids
@@ -198,11 +124,4 @@ module _ (objects : Objects) (m : Parents) (by : Sorting) (from hidden : List Ob
       lists_same objects objects (parents_of objects) (text_next objects) (followed objects (parents_of objects) m by) (followed objects (text_next objects) m by) from hidden order
       (λ c r. ap (λ ps. filter (λ i. not (is_older (time_of objects i) (cutoff m by))) (by_mode m ps)) (texts_same objects from hidden whole c (reach_more (parents_of objects) from (from ++ hidden) (λ j s. Contains-append_left from hidden j s) c (followed_reaches objects (parents_of objects) m by from c r))))
       (λ c r. texts_same objects from hidden whole c (reach_more (parents_of objects) hidden (from ++ hidden) (λ j s. Contains-append_right from hidden j s) c r))
-      (λ i r. refl) ids
-
-  pub by_parents : ListsBy objects (text_next objects) (followed objects (text_next objects) m by) order from hidden ids → ListsBy objects (parents_of objects) (followed objects (parents_of objects) m by) order from hidden ids
-  by_parents =
-      lists_same objects objects (text_next objects) (parents_of objects) (followed objects (text_next objects) m by) (followed objects (parents_of objects) m by) from hidden order
-      (λ c r. ap (λ ps. filter (λ i. not (is_older (time_of objects i) (cutoff m by))) (by_mode m ps)) (parents_same objects from hidden whole c (reach_more (text_next objects) from (from ++ hidden) (λ j s. Contains-append_left from hidden j s) c (followed_reaches objects (text_next objects) m by from c r))))
-      (λ c r. parents_same objects from hidden whole c (reach_more (text_next objects) hidden (from ++ hidden) (λ j s. Contains-append_right from hidden j s) c r))
       (λ i r. refl) ids

@@ -3,7 +3,7 @@ use Rattle.std.proofs.Common.{List, [], ◌∷◌}
 use Rattle.gix_commands.proofs.Common.{ObjectId, Contains-here, Objects, parents_of, text_next, AreWhole}
 use Rattle.gix_hash.specs.Reach.{Reaches}
 use Rattle.gix_contained.specs.Contained.{AreContained, empty, reached, passed}
-use Rattle.gix_commands.specs.WholeStatement as page
+use Rattle.gix_statement.specs.WholeStatement as page
 use Rattle.gix_commands.proofs.SameOrders.{reaches, reaches_back}
 use Rattle.gix_commands.proofs.TextNumbers.{by_texts, by_commits}
 

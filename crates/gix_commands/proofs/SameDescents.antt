@@ -1,12 +1,13 @@
 -- Date order and topological order are those of the statement.
 use Rattle.std.proofs.Common.{◌≡◌, ℤ, ◌≤ℤ◌, int_le, List, [], ◌∷◌, ◌++◌, filter, reverse, slice_get, Bool, true, false, cond, not, ◌&&◌, MatchOption, Contains, refl, sym, ap, subst, ◌∙◌, ⊎_elim, arith}
-use Rattle.gix_commands.proofs.Common.{false≢true, ObjectId, is_among, among_from, among_is, Contains-here, Contains-there, Contains-cons_cases, no_member, NewestFirst, first_new, IsInWalk, IsFirst, AreMadeReady}
+use Rattle.gix_commands.proofs.Common.{false≢true, ObjectId, is_among, among_from, among_is, Contains-here, Contains-there, Contains-cons_cases, no_member, NewestFirst, first_new, IsInWalk, AreMadeReady}
 use Rattle.std.proofs.lemmas.Int.{ints}
 use Rattle.gix_revwalk.specs.TimeOrder as times
 use Rattle.gix_topo.specs.DateOrder.{IsDateOrder}
 use Rattle.gix_topo.specs.TopoOrder as topo
 use Rattle.gix_topo.specs.WalkSet as walk
-use Rattle.gix_commands.specs.WholeStatement.{IsBest, IsFirstBest, Keeps, empty, kept, passed, IsShown, IsReady, by_time}
+use Rattle.gix_statement.specs.WholeStatement.{IsBest, Keeps, empty, kept, passed, IsShown, IsReady, by_time}
+use Rattle.gix_commands.proofs.Turns.{IsFirst, IsFirstBest}
 use Rattle.gix_commands.proofs.SameOrders.{Throughout, reaches, reaches_back, cut, is_first, found_first, not_taken, no_worse_test}
 
 not_false : (b : Bool) → not b ≡ false → b ≡ true

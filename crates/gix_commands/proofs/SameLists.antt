@@ -1,8 +1,8 @@
 -- The lists of commits, the numbers of commits and the lines are those of the statement.
 use Rattle.std.proofs.Common.{◌≡◌, ℕ, ℤ, List, [], ◌∷◌, ◌++◌, map, take, Contains, Option, Some, None, codes, flat_map, refl, sym, subst, arith}
-use Rattle.gix_commands.proofs.Common.{transport, ObjectId, Objects, CommitTimeOrder, Parents, by_mode, time_of, cutoff, time_order, IsNumberOf, IsInWalk, Visit, Simple, Topo, file_lines, six_octal_digits, IsShownBy, IsListedBy, ListsBy}
-use Rattle.gix_commands.proofs.Common.{ListsDown, followed, kept_tips, lines_of_ids, Comes, Follows, IsNumberShown, bytes_in, entry_line}
-use Rattle.gix_commands.specs.WholeStatement.{id_line}
+use Rattle.gix_commands.proofs.Common.{transport, ObjectId, Objects, CommitTimeOrder, Parents, by_mode, time_of, cutoff, time_order, IsNumberOf, IsInWalk, Visit, Simple, Topo, file_lines, six_octal_digits}
+use Rattle.gix_commands.proofs.Common.{Follows, IsNumberShown, entry_line}
+use Rattle.gix_statement.specs.WholeStatement.{id_line}
 use Rattle.hex.specs.Hex.{encode_lower}
 use Rattle.gix_revwalk.specs.declared.CommitTimeOrder.TheVariants as order
 use Rattle.gix_revwalk.specs.declared.Parents.TheVariants as mode
@@ -12,12 +12,15 @@ use Rattle.gix_topo.specs.declared.Sorting.{Sorting as TopoSorting}
 use Rattle.gix_topo.specs.declared.Sorting.TheVariants as topo
 use Rattle.gix_topo.specs.Laws.{IsSorted}
 use Rattle.gix_tree.specs.Recorder.{record_of}
-use Rattle.gix_commands.specs.WholeStatement as page
+use Rattle.gix_statement.specs.WholeStatement as page
+use Rattle.gix_commands.proofs.Turns as turns
+use Rattle.gix_commands.proofs.Turns.{Comes}
 use Rattle.gix_commands.proofs.KeptLists.{all_followed, cut_all, tips_kept}
 use Rattle.gix_commands.proofs.SameOrders.{Throughout, reaches, reaches_back, are_distinct, in_breadth_order, in_time_order}
 use Rattle.gix_commands.proofs.SameDescents.{in_date_order, in_topo_order}
 use Rattle.gix_commands.proofs.SameTrees.{joined_behind, placed_by, same_bytes}
 use Rattle.gix_commands.proofs.SameWords.{IsCutoff, IsNameOf, IsOptionOf}
+use Rattle.gix_commands.proofs.ListedCommits.{IsListedBy, IsShownBy, ListsBy, ListsDown, followed, kept_tips, lines_of_ids}
 
 -- an order by its name
 abbrev IsTopological : List ℕ → Type 0
@@ -50,11 +53,11 @@ module _ (objects : Objects) (parents : ObjectId → List ObjectId) where
     IsInOrder from hidden ids name = Throughout (λ taken rest. Comes parents followed time from hidden taken rest name) ids
 
     in_order : (name : List ℕ) (o : Option CommitTimeOrder) → IsNameIn name o → (from hidden ids : List ObjectId) → IsListedBy objects parents followed o from hidden ids → IsInOrder from hidden ids name
-    in_order name None e from hidden ids l = subst (IsInOrder from hidden ids) (sym e) (λ taken rest c. page.breadth (in_breadth_order parents followed time from hidden l.0 l.1 ids l.2 taken rest c))
-    in_order name (Some order.NewestFirst) e from hidden ids l = subst (IsInOrder from hidden ids) (sym e) (λ taken rest c. page.newest (in_time_order parents followed time from hidden l.0 l.1 order.NewestFirst ids l.2 taken rest c))
-    in_order name (Some order.OldestFirst) e from hidden ids l = subst (IsInOrder from hidden ids) (sym e) (λ taken rest c. page.oldest (in_time_order parents followed time from hidden l.0 l.1 order.OldestFirst ids l.2 taken rest c))
+    in_order name None e from hidden ids l = subst (IsInOrder from hidden ids) (sym e) (λ taken rest c. turns.breadth (in_breadth_order parents followed time from hidden l.0 l.1 ids l.2 taken rest c))
+    in_order name (Some order.NewestFirst) e from hidden ids l = subst (IsInOrder from hidden ids) (sym e) (λ taken rest c. turns.newest (in_time_order parents followed time from hidden l.0 l.1 order.NewestFirst ids l.2 taken rest c))
+    in_order name (Some order.OldestFirst) e from hidden ids l = subst (IsInOrder from hidden ids) (sym e) (λ taken rest c. turns.oldest (in_time_order parents followed time from hidden l.0 l.1 order.OldestFirst ids l.2 taken rest c))
 
-    pub listed : (name : List ℕ) (o : Option CommitTimeOrder) → IsNameIn name o → (from hidden ids : List ObjectId) → ListsBy objects parents followed o from hidden ids → page.Lists parents followed time from hidden name ids
+    pub listed : (name : List ℕ) (o : Option CommitTimeOrder) → IsNameIn name o → (from hidden ids : List ObjectId) → ListsBy objects parents followed o from hidden ids → turns.Lists parents followed time from hidden name ids
     listed name o named from hidden ids l = (
       are_distinct ids l.once,
       λ i m. shown from hidden i ((l.exact i).0 m),
@@ -102,10 +105,10 @@ module _ (objects : Objects) (parents : ObjectId → List ObjectId) where
   is_name_in name option mode.First (sorting.ByCommitTimeCutoff by seconds) named chosen = absurd chosen
 
   in_order_down : (name : List ℕ) (by : TopoSorting) → IsNameOf name (Topo by) → (tips ends ids : List ObjectId) → IsSorted by time parents (IsInWalk parents parents tips ends) tips ids → IsInOrder parents tips ends ids name
-  in_order_down name topo.DateOrder e tips ends ids l = subst (IsInOrder parents tips ends ids) (sym e) (λ taken rest c. let t = in_date_order parents time tips ends ids l taken rest c in page.date t.0 t.1 t.2)
-  in_order_down name topo.TopoOrder e tips ends ids l = subst (IsInOrder parents tips ends ids) (sym e) (λ taken rest c. let t = in_topo_order parents time tips ends ids l taken rest c in page.topo t.0 t.1 t.2)
+  in_order_down name topo.DateOrder e tips ends ids l = subst (IsInOrder parents tips ends ids) (sym e) (λ taken rest c. let t = in_date_order parents time tips ends ids l taken rest c in turns.date t.0 t.1 t.2)
+  in_order_down name topo.TopoOrder e tips ends ids l = subst (IsInOrder parents tips ends ids) (sym e) (λ taken rest c. let t = in_topo_order parents time tips ends ids l taken rest c in turns.topo t.0 t.1 t.2)
 
-  pub listed_down : (name : List ℕ) (by : TopoSorting) → IsNameOf name (Topo by) → (tips ends ids : List ObjectId) → ListsDown objects parents by tips ends ids → page.Lists parents parents time tips ends name ids
+  pub listed_down : (name : List ℕ) (by : TopoSorting) → IsNameOf name (Topo by) → (tips ends ids : List ObjectId) → ListsDown objects parents by tips ends ids → turns.Lists parents parents time tips ends name ids
   listed_down name by named tips ends ids l = (
     are_distinct ids l.once,
     λ i m. let s = l.shown i m in shown parents tips ends i (record { reached = s.0; outside = s.1 }),

@@ -15,7 +15,7 @@ use Rattle.gix_hash.specs.declared.ObjectId.TheVariants as id
 use Rattle.gix_object.specs.TreeItems.{is_octal, octal_from, mode_of}
 use Rattle.gix_records.specs.Decimal.{digits_behind, decimal}
 use Rattle.gix_statement.proofs.WrittenHex.{decoded, written}
-use Rattle.gix_commands.specs.WholeStatement.{Counts}
+use Rattle.gix_statement.specs.WholeStatement.{Counts}
 
 -- how many digits an id of a kind has
 abbrev pub width_of : Kind → ℕ

@@ -1,8 +1,8 @@
 -- What commits reach, breadth order and time order are those of the statement.
 use Rattle.std.proofs.Common.{◌≡◌, ◌≢◌, ◌≤◌, ℕ, ℤ, List, [], ◌∷◌, ◌++◌, length, take, slice_get, find, filter, Bool, true, false, cond, not, ◌&&◌, ◌||◌, ◌⊎◌, Option, Some, None, MatchOption, AllPairs, Contains, flat_map, refl, sym, ap}
 use Rattle.std.proofs.Common.{subst, ◌∙◌, inl, inr, ⊎_elim, arith, length-append}
-use Rattle.gix_commands.proofs.Common.{false≢true, cond-true, cond-false, or_cases, All-nil, All-cons, Contains-append_left, Contains-append_right, Contains-append_cases, Contains-get_or, same_Some, none-some, ObjectId, is_among}
-use Rattle.gix_commands.proofs.Common.{is_same, among_from, among_is, same_is, Contains-here, Contains-there, Contains-cons_cases, no_member, CommitTimeOrder, IsBreadthOrder, named_by, new_ids, IsTimeOrder, IsNoWorse, IsFirst}
+use Rattle.gix_commands.proofs.Common.{false≢true, All-nil, All-cons, Contains-append_left, Contains-append_right, Contains-append_cases, Contains-get_or, same_Some, none-some, ObjectId, is_among}
+use Rattle.gix_commands.proofs.Common.{is_same, among_from, among_is, Contains-here, Contains-there, Contains-cons_cases, no_member, CommitTimeOrder, IsBreadthOrder, named_by, new_ids, IsTimeOrder, IsNoWorse}
 use Rattle.std.proofs.lemmas.List.Kept.{AllPairs-cons}
 use Rattle.std.proofs.Math.Seq.{take-append_seam}
 use Rattle.gix_hash.specs.Reach as reach
@@ -13,7 +13,8 @@ use Rattle.gix_revwalk.specs.TimeOrder.{is_no_worse}
 use Rattle.gix_revwalk.proofs.NewIds.{find-filter, find-new, times_among, times-fresh}
 use Rattle.std.proofs.lemmas.List.Elements.{All-weaker}
 use Rattle.std.proofs.lemmas.Int.{ints}
-use Rattle.gix_commands.specs.WholeStatement.{Reaches, start, parent, IsBest, IsFirstBest, IsPending}
+use Rattle.gix_statement.specs.WholeStatement.{Reaches, start, parent, IsBest, IsPending}
+use Rattle.gix_commands.proofs.Turns.{IsFirst, IsFirstBest}
 
 pub reaches : (parents : ObjectId → List ObjectId) (starts : List ObjectId) (i : ObjectId) → reach.Reaches parents starts i → Reaches parents starts i
 reaches parents starts i (reach.start s) = start s

@@ -1,12 +1,13 @@
 -- The parents that the texts of commits name are those of the statement.
 use Rattle.std.proofs.Common.{◌≡◌, ◌≢◌, ◌⊎◌, ◌≤◌, ℕ, zero, suc, List, [], ◌∷◌, ◌++◌, length, Some, codes, refl, sym, ap, subst, ◌∙◌, inl, inr, arith, length-append}
 use Rattle.gix_hash.specs.declared.Kind.{Kind}
-use Rattle.gix_commands.proofs.Common.{ObjectId, scanned, Spells, AreParentLines}
+use Rattle.gix_commands.proofs.Common.{ObjectId, scanned, Spells}
 use Rattle.gix_object.specs.CommitItems.{Tree, Parent, Author, AtTree, AtParents, AtCommitter, Front, Found, Faulty, Ended, tree_front, parent_front, front, unfolded, items_within, items_from, commit_items}
 use Rattle.gix_object.proofs.Commits.Items.{Stands, ended, faulty, tree, parent, author, stands, items_from-step}
 use Rattle.gix_object.proofs.Commits.Lines.{id_line_at-append}
 use Rattle.gix_revwalk.specs.declared.Parents.TheVariants as mode
 use Rattle.gix_commands.proofs.SameCommits.{HasNoMore}
+use Rattle.gix_commands.proofs.TextLines.{AreParentLines}
 use Rattle.gix_commands.proofs.SameNumbers.{spelled, spells_again, width_of}
 
 -- a text names these parents, and the rest is behind them

@@ -18,8 +18,8 @@ use Rattle.gix_tree.specs.Paths.{HaveNames, IsName, joined}
 use Rattle.gix_tree.specs.Script as script
 use Rattle.gix_tree.proofs.All.{all_left, all_right}
 use Rattle.gix_tree.proofs.Theorems.SameRecords.{GoOn}
-use Rattle.gix_commands.specs.WholeStatement as page
-use Rattle.gix_commands.specs.WholeStatement.{Unfolds}
+use Rattle.gix_statement.specs.WholeStatement as page
+use Rattle.gix_statement.specs.WholeStatement.{Unfolds}
 use Rattle.gix_commands.specs.Pages.{page_objects}
 use Rattle.gix_commands.proofs.SameNumbers.{is_octal_number, width_of}
 use Rattle.gix_commands.proofs.SameCommits.{IsHeld, held}

@@ -2,7 +2,7 @@
 use Rattle.std.proofs.Common.{◌≡◌, ◌≢◌, ◌-◌, ℤ, List, [], ◌∷◌, ◌++◌, length, map, take, filter, Bool, true, false, not, Option, None, Some, Ok, Contains, refl, sym, ap, subst, ◌∙◌, arith}
 use Rattle.gix_commands.proofs.Common.{by_mode, ReadsParents, Yields, transport, false≢true, Contains-append_left, ObjectId, is_among, among_from, among_is, filter_within, Objects, GraphRow, CommitTimeOrder, Info, Parents, IsAgreeing, parents_of, time_of}
 use Rattle.gix_commands.proofs.Common.{ids_of, new_ids, text_next, reach_more, reached_list, text_whole, GivesBeginning, IsBeginning, IsBegunRun, time_order, all_kept, begun_once, begun_whole, no_start, whole_from, named_all}
-use Rattle.gix_commands.proofs.Common.{reached_known, AreWhole, IsSimpleBy, IsSimpleList, ListsBy, followed, kept_tips, StartsFrom, objects_of, never_faulty, accepts_all}
+use Rattle.gix_commands.proofs.Common.{reached_known, AreWhole, StartsFrom, objects_of, never_faulty, accepts_all}
 use Rattle.std.proofs.lemmas.List.{length-map}
 use Rattle.gix_hash.specs.Reach.{Reaches, Tells}
 use Rattle.gix_simple.specs.declared.Sorting.{Sorting}
@@ -12,10 +12,11 @@ use Rattle.gix_simple.proofs.Faultless.{text_beginning}
 use Rattle.gix_commands.specs.Walked.{Walk, Answers, given}
 use Rattle.gix_commands.proofs.GoesOn.{order_goes_on}
 use Rattle.gix_commands.proofs.KeptLists.{followed_within, kept, list_of, starts_kept}
-use Rattle.gix_commands.proofs.Parts.{by_parents, by_texts}
+use Rattle.gix_commands.proofs.Parts.{by_texts}
 use Rattle.gix_commands.proofs.SameBeginnings.{front}
 use Rattle.gix_commands.proofs.TopoRuns.{named_whole}
 use Rattle.gix_commands.proofs.SimpleRuns.{PaintedWhole, by_test, fresh, from_pending, given_for, left_whole, names_kept, no_faults, no_ids, opened, pending, same, same_ids, test, unrefused, was_read}
+use Rattle.gix_commands.proofs.ListedCommits.{IsSimpleBy, ListsBy, followed, kept_tips}
 
 -- the ids are the first of such a list
 abbrev pub AreFirstOf : (List ObjectId → Type 0) → List ObjectId → Type 0
@@ -42,23 +43,19 @@ module _ (objects : Objects) (m : Parents) (by : Sorting) (tips hidden : List Ob
   abbrev texts : ObjectId → List ObjectId
   texts = followed objects (text_next objects) m by
 
-  of_texts : (ids : List ObjectId) → AreFirstOf (IsSimpleBy objects (text_next objects) m by tips hidden) ids → AreFirstOf (IsSimpleList objects m by tips hidden) ids
-  of_texts ids f = (f.0, record { read = f.1; whole = λ w. by_parents objects m by (kept_tips objects by tips) hidden (time_order m by) f.0 w f.1 }, f.2)
-
   -- without hidden tips what begins a list by the parents that texts name begins such a list
-  pub first_of_text : hidden ≡ [] → (ids : List ObjectId) → IsBeginning (time_order m by) (time_of objects) texts (new_ids (λ i. false) (kept_tips objects by tips)) ids → AreFirstOf (IsSimpleList objects m by tips hidden) ids
+  pub first_of_text : hidden ≡ [] → (ids : List ObjectId) → IsBeginning (time_order m by) (time_of objects) texts (new_ids (λ i. false) (kept_tips objects by tips)) ids → AreFirstOf (IsSimpleBy objects (text_next objects) m by tips hidden) ids
   first_of_text none ids h =
-      of_texts ids
-      (first_of objects (text_next objects) texts (followed_within objects (text_next objects) m by) (λ c i n. n) (time_order m by) (kept_tips objects by tips) hidden (λ i. false)
+      first_of objects (text_next objects) texts (followed_within objects (text_next objects) m by) (λ c i n. n) (time_order m by) (kept_tips objects by tips) hidden (λ i. false)
       (λ i. (λ e. absurd (false≢true e), λ r. absurd (no_start (text_next objects) hidden i r none))) ids
-      (transport (λ k. IsBeginning (time_order m by) (time_of objects) (λ c. sym (all_kept (texts c)) k) (sym (all_kept (new_ids (λ i. false) (kept_tips objects by tips))) k) ids) h))
+      (transport (λ k. IsBeginning (time_order m by) (time_of objects) (λ c. sym (all_kept (texts c)) k) (sym (all_kept (new_ids (λ i. false) (kept_tips objects by tips))) k) ids) h)
 
   -- no commit was asked for
-  pub first_none : AreFirstOf (IsSimpleList objects m by tips hidden) []
+  pub first_none : AreFirstOf (IsSimpleBy objects (text_next objects) m by tips hidden) []
   first_none =
       let below = reached_list (text_next objects) hidden (hidden ++ named_all objects) (reached_known objects (text_next objects) hidden (λ c i n. n)) in
-      of_texts [] (first_of objects (text_next objects) texts (followed_within objects (text_next objects) m by) (λ c i n. n) (time_order m by) (kept_tips objects by tips) hidden (λ i. is_among i below.0)
-      (λ i. (λ e. (below.1 i).0 (among_is i below.0 e), λ r. among_from i below.0 ((below.1 i).1 r))) [] (none_begins (time_order m by) (time_of objects) _ _))
+      first_of objects (text_next objects) texts (followed_within objects (text_next objects) m by) (λ c i n. n) (time_order m by) (kept_tips objects by tips) hidden (λ i. is_among i below.0)
+      (λ i. (λ e. (below.1 i).0 (among_is i below.0 e), λ r. among_from i below.0 ((below.1 i).1 r))) [] (none_begins (time_order m by) (time_of objects) _ _)
 
 module _ (objects : Objects) (rows : List GraphRow) (m : Parents) (by : Sorting) (tips hidden : List ObjectId) (walk : Walk) (starts : StartsFrom objects rows m by tips hidden walk) (agreeing : IsAgreeing objects rows) where
   abbrev before : Walk
@@ -92,7 +89,7 @@ module _ (objects : Objects) (rows : List GraphRow) (m : Parents) (by : Sorting)
       pub begun_text : IsBeginning (time_order m by) (time_of objects) (followed objects (text_next objects) m by) (new_ids (λ i. false) left) ids
       begun_text = transport (λ k. IsBeginning (time_order m by) (time_of objects) (followed objects (text_next objects) m by) (pending_tips k) (sym text_ids k)) begun.begins
 
-      first_by_text : AreFirstOf (IsSimpleList objects m by tips hidden) ids
+      first_by_text : AreFirstOf (IsSimpleBy objects (text_next objects) m by tips hidden) ids
       first_by_text = first_of_text objects m by tips hidden none ids begun_text
 
       -- each but the last was read, and what is named behind it was given with it
@@ -135,11 +132,11 @@ module _ (objects : Objects) (rows : List GraphRow) (m : Parents) (by : Sorting)
       by_text : (c i : ObjectId) → Contains (parents_of objects c) i → Contains (text_next objects c) i
       by_text c i n = subst (λ xs. Contains xs i) (text_whole objects c (whole_from objects c (named_whole objects c i n))) n
 
-      first_whole : AreWhole objects (left ++ hidden) → AreFirstOf (IsSimpleList objects m by tips hidden) ids
+      first_whole : AreWhole objects (left ++ hidden) → AreFirstOf (IsSimpleBy objects (text_next objects) m by tips hidden) ids
       first_whole all =
           let f = first_of objects (parents_of objects) (followed objects (parents_of objects) m by) (followed_within objects (parents_of objects) m by) by_text (time_order m by) left hidden hides tells ids
           (transport (λ k. IsBeginning (time_order m by) (time_of objects) (names_kept objects rows m by tips hidden walk starts k) (filter (λ i. not (hides i)) (pending_tips k)) (sym ids_are k)) gave.begins) in
-          (f.0, record { read = by_texts objects m by left hidden (time_order m by) f.0 all f.1; whole = λ w. f.1 }, f.2)
+          (f.0, by_texts objects m by left hidden (time_order m by) f.0 all f.1, f.2)
 
       -- where no tip is left none was given
       pub none_given : left ≡ [] → ids ≡ []
@@ -153,11 +150,11 @@ module _ (objects : Objects) (rows : List GraphRow) (m : Parents) (by : Sorting)
       begun_whole objects_of never_faulty accepts_all before (fresh objects rows m by tips hidden walk starts).unbegun agreeing some behind (subst (λ w. Answers w (Some (Ok info)) new) is_before answer) (λ e s. cc)
 
   -- what a walk gave that was drawn so far are the first commits of a list
-  pub first_given : (infos : List Info) (last : Walk) → Yields Answers walk (given infos) last → AreFirstOf (IsSimpleList objects m by tips hidden) (map (λ info. info.id) infos)
+  pub first_given : (infos : List Info) (last : Walk) → Yields Answers walk (given infos) last → AreFirstOf (IsSimpleBy objects (text_next objects) m by tips hidden) (map (λ info. info.id) infos)
   first_given [] last drawn = first_none objects m by tips hidden
   first_given (info ∷ infos) last drawn = go hidden refl left refl
     where
-      go : (hs : List ObjectId) → hidden ≡ hs → (ls : List ObjectId) → left ≡ ls → AreFirstOf (IsSimpleList objects m by tips hidden) (map (λ info. info.id) (info ∷ infos))
+      go : (hs : List ObjectId) → hidden ≡ hs → (ls : List ObjectId) → left ≡ ls → AreFirstOf (IsSimpleBy objects (text_next objects) m by tips hidden) (map (λ info. info.id) (info ∷ infos))
       go [] e ls f = first_by_text (info ∷ infos) last drawn e
       go (j ∷ hs) e (l ∷ ls) f =
           let met : PaintedWhole objects rows m by tips hidden walk starts = met_before info drawn.0 drawn.1 (λ n. let c : [] ≡ j ∷ hs = sym n ∙ e in cc) in

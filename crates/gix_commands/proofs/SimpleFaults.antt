@@ -1,7 +1,7 @@
 -- A simple walk that reaches whole commits alone fails for memory alone.
 use Rattle.std.proofs.Common.{◌≡◌, ◌≢◌, ℕ, ℤ, List, [], ◌∷◌, ◌++◌, ◌⊎◌, Bool, true, Option, Some, None, Result, Ok, Err, Contains, refl, sym, ap, subst, ◌∙◌, ⊎_elim}
 use Rattle.gix_commands.proofs.Common.{Yields, Contains-append_left, Contains-append_right, Contains-append_cases, ObjectId, read_commit, IsExistingFault, kind_of, Objects, GraphRow, row_of, IsAgreeing, among_is, Contains-here}
-use Rattle.gix_commands.proofs.Common.{by_mode, Contains-there, Contains-cons_cases, no_member, Info, Parents, CommitTimeOrder, Pending, ReadsWhole, commit_at, commit_of_object, parents_in, parents_of, step, Treated, Enqueues, dropped, enqueued}
+use Rattle.gix_commands.proofs.Common.{by_mode, Contains-there, Contains-cons_cases, no_member, Info, Parents, Pending, ReadsWhole, commit_at, commit_of_object, parents_in, parents_of, step, Treated, Enqueues, dropped, enqueued}
 use Rattle.gix_commands.proofs.Common.{Treats, hidden, known, accepted, store_fails, no_memory_after, TreatsAll, none, more, stops, Concludes, broken, Takes, by_row, by_store, Chooses, Steps, took, FirstStep, unhidden, paints}
 use Rattle.gix_commands.proofs.Common.{faulty_history, initial, later, unrowed, ids_of, scan_is, no_fault, row_parents, walked_within, none_agree, kept_either, Fault, Simple, fault_of_walk, AreWhole, EndsWell, IsOutside, SimpleSucceeds}
 use Rattle.gix_commands.proofs.Common.{AheadSucceeds, stored, walked, not_walked, counted, not_ahead, not_behind, unserved, StartsFrom, FailsAtStart, Ends, finished, cut_short, enough, before, objects_of, never_faulty, accepts_all}

@@ -1,12 +1,11 @@
 -- What a simple walk over records gives that is drawn to its end, by what commits reach.
-use Rattle.std.proofs.Common.{◌≡◌, ◌≢◌, ◌≤◌, ℕ, zero, suc, length, take, take_all, arith, List, [], ◌∷◌, ◌++◌, map, filter, Bool, true, false, not, Option, None, Some, Ok, Err, Contains, All, IsSome, refl, sym, ap, subst, ◌∙◌, ⊎_elim}
+use Rattle.std.proofs.Common.{◌≡◌, ◌≢◌, ◌≤◌, ℕ, zero, suc, length, take, take_all, arith, List, [], ◌∷◌, ◌++◌, map, filter, Bool, true, false, not, Option, None, Ok, Err, Contains, All, IsSome, refl, sym, ap, subst, ◌∙◌, ⊎_elim}
 use Rattle.gix_commands.proofs.Common.{All-contains, commit_at, Pending, Contains-there, Drains, Yields, transport, false≢true, All-nil, All-cons, Contains-append_left, Contains-append_right, Contains-append_cases, among_from, among_is, Contains-here, Contains-cons_cases, no_member}
-use Rattle.gix_commands.proofs.Common.{ObjectId, is_among, get, Object, Objects, GraphRow, Info, Parents, CommitTimeOrder, ReadsWhole, by_mode, parents_of, time_of, IsAgreeing, new_ids, ids_of, text_next, IsFresh, IsGivenBy, IsNewWalk}
-use Rattle.gix_commands.proofs.Common.{ReadsParents, IsInOrder, next_of, is_older, cutoff, time_order, reached_list, all_kept, drawn_whole, loosened, no_start, named_all, reached_known, AreWhole, IsSimpleBy, followed, kept_tips}
+use Rattle.gix_commands.proofs.Common.{ObjectId, is_among, Objects, GraphRow, Info, Parents, CommitTimeOrder, ReadsWhole, by_mode, parents_of, time_of, IsAgreeing, new_ids, ids_of, text_next, IsFresh, IsGivenBy, IsNewWalk}
+use Rattle.gix_commands.proofs.Common.{ReadsParents, IsInOrder, next_of, is_older, cutoff, time_order, reached_list, all_kept, drawn_whole, loosened, no_start, named_all, reached_known, AreWhole}
 use Rattle.gix_commands.proofs.Common.{StartsFrom, objects_of, never_faulty, accepts_all, filter_within, filter_all, reach_more}
 use Rattle.std.specs.List.{AllZip}
 use Rattle.std.proofs.lemmas.List.{length-map}
-use Rattle.gix_object.specs.declared.Kind.TheVariants as object
 use Rattle.gix_revwalk.specs.declared.Parents.TheVariants as mode
 use Rattle.gix_simple.specs.declared.Error.{Error}
 use Rattle.gix_simple.specs.declared.Sorting.{Sorting}
@@ -23,6 +22,7 @@ use Rattle.gix_simple.proofs.MadeOfTips.{is_new_walk}
 use Rattle.gix_commands.specs.Walked.{Walk, Answers, IsSorted, given}
 use Rattle.gix_commands.proofs.KeptLists.{empty_order, filter_both, followed_within, kept, kept_ids, list_of, new_kept}
 use Rattle.gix_commands.proofs.SameOrders.{in_new, new_in}
+use Rattle.gix_commands.proofs.ListedCommits.{IsSimpleBy, followed, kept_tips}
 
 pub unrefused : (infos : List Info) → All IsNoRefusal (given infos)
 unrefused [] = All-nil IsNoRefusal
@@ -274,10 +274,3 @@ module _ (objects : Objects) (rows : List GraphRow) (m : Parents) (by : Sorting)
         where
           same_length : length told.ids ≤ length infos
           same_length = let same : length ids ≡ length told.ids = ap length told_ids in let mapped : length ids ≡ length infos = length-map infos (λ (info : Info). info.id) in omega (arith, same, mapped)
-
-      -- all that the tips reach was read
-      pub all_stored : (i : ObjectId) → Reaches through left i → (thing : Object) × (get objects i ≡ Some thing)
-      all_stored i r =
-          let listed : Contains told.ids i = (told.reached i).1 (reach_more through left (ids_of walk.pending) is_pending i r) in
-          let c : ReadsParents objects m i = was_read objects (text_next objects) rows m (time_order m by) infos told.ids told.given i listed in
-          (record { kind = object.Commit; bytes = c.bytes }, c.stored)

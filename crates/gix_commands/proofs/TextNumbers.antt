@@ -1,8 +1,8 @@
 -- Where all that ids reach are whole commits, what they reach by the parents that texts name is what they reach.
 use Rattle.std.proofs.Common.{◌≡◌, ℕ, List, [], ◌∷◌, Contains, sym, subst, ⊎_elim}
-use Rattle.gix_commands.proofs.Common.{ObjectId, step, Contains-cons_cases, no_member, Objects, parents_of, text_next, reach_more, text_whole, whole_from, IsNumberOf, AreWhole, IsShownBy}
+use Rattle.gix_commands.proofs.Common.{ObjectId, step, Contains-cons_cases, no_member, Objects, parents_of, text_next, reach_more, text_whole, whole_from, IsNumberOf, AreWhole}
 use Rattle.gix_hash.specs.Reach.{Reaches, start}
-use Rattle.gix_commands.specs.Histories.{IsShown}
+use Rattle.gix_commands.proofs.ListedCommits.{IsShown, IsShownBy}
 
 module _ (objects : Objects) (ids : List ObjectId) (whole : AreWhole objects ids) where
   module _ (tip : ObjectId) (is_one : Contains ids tip) where

@@ -5,12 +5,12 @@ pub mod Opening
 pub mod Files
 pub mod Lister
 pub mod Ahead
+pub mod Readable
 pub mod Pages
 pub mod Run
 pub mod StoredRuns
 pub mod Histories
 pub mod Listings
 pub mod Output
-pub mod WholeStatement
 pub mod Everywhere
 pub mod Examples

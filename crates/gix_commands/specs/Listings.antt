@@ -1,7 +1,6 @@
 -- What a run writes of a tree, by its entries and the trees in it.
-use Rattle.std.specs.Prelude.{◌≡◌, ℕ, List, [], ◌∷◌, map, true, false, Option, Some, Result, Ok, Err, Contains}
+use Rattle.std.specs.Prelude.{◌≡◌, ℕ, List, [], ◌∷◌, true, false, Option, Some, Result, Ok, Err, Contains}
 use Rattle.std.specs.declared.ops.ControlFlow.TheVariants.{Continue}
-use Rattle.std.specs.Io.KnownBytes.{Appends}
 use Rattle.std.specs.List.{AllByRecursion}
 use Rattle.gix_hash.specs.declared.ObjectId.{ObjectId}
 use Rattle.gix_hash.specs.Reach.{Reaches}
@@ -9,15 +8,14 @@ use Rattle.gix_object.specs.Object.{Objects}
 use Rattle.gix_object.specs.TreeItems.{TreeEntry}
 use Rattle.gix_tree.specs.Preorder.{IsPreorder}
 use Rattle.gix_tree.specs.Laws.{AreSound, subtrees_of}
-use Rattle.gix_tree.specs.Paths.{HaveNames, IsName, known_root}
-use Rattle.gix_tree.specs.Recorder.{record_of}
+use Rattle.gix_tree.specs.Paths.{IsName, known_root}
 use Rattle.gix_tree.specs.Script.{entries_at}
 use Rattle.gix_tree.specs.Visits.{Visit}
 use Rattle.gix_tree.specs.Walk.{LookUpFails, trees_of}
 use Rattle.gix_words.specs.declared.fault.Fault.{Fault}
 use Rattle.gix_words.specs.declared.fault.Fault.TheVariants as fault
-use Rattle.gix_commands.specs.Files.{IsMisnamed, file_lines}
-use Rattle.gix_commands.specs.Histories.{EndsWell, IsPartOf}
+use Rattle.gix_commands.specs.Files.{IsMisnamed}
+use Rattle.gix_commands.specs.Histories.{EndsWell}
 use Rattle.gix_records.specs.Records.{Record, AreRecords, stored}
 use Rattle.gix_commands.specs.Run.{Runs}
 use Rattle.gix_commands.specs.Walked.{never_faulty}
@@ -27,23 +25,6 @@ use Rattle.gix_words.specs.Words.{Files, request_of}
 pub record Unfolds (objects : Objects) (tree : ObjectId) (visits : List Visit) : Type 0 where
   pub in_order : IsPreorder (entries_at (trees_of objects)) (known_root tree) (entries_at (trees_of objects) tree) visits false
   pub all : AllByRecursion (λ v. v.answer ≡ Continue true) visits
-
--- Over words that ask for it and records, a run of `files` that ends well writes a line for each entry of the tree and of the trees in
--- it, in preorder, with its path. Each name is one that can be a part of a path.
-abbrev pub FilesLists : Type 0
-FilesLists =
-    (words : List (List ℕ)) (input : List ℕ) (records : List Record) (ending : ℕ) (tree : ObjectId) (old new : Option (List ℕ)) →
-    request_of words ≡ Ok (Files ending tree) → AreRecords records input → Runs words (Some input) old (Ok tt) new →
-    (visits : List Visit) × Unfolds (stored records) tree visits × HaveNames visits × Appends old new (file_lines ending (map record_of visits))
-
--- Where the records are a part of a store, these are the lines of the whole store, whatever else is in it.
-abbrev pub FilesListsOfPart : Type 0
-FilesListsOfPart =
-    (words : List (List ℕ)) (input : List ℕ) (records : List Record) (ending : ℕ) (tree : ObjectId)
-    (old new : Option (List ℕ)) (objects : Objects) →
-    request_of words ≡ Ok (Files ending tree) → AreRecords records input → IsPartOf (stored records) objects →
-    Runs words (Some input) old (Ok tt) new →
-    (visits : List Visit) × Unfolds objects tree visits × HaveNames visits × Appends old new (file_lines ending (map record_of visits))
 
 -- the first name that is none, in preorder, is in the tree of this id, and this tree has an entry of such a name
 pub record Misnames (objects : Objects) (tree i : ObjectId) : Type 0 where

@@ -1,12 +1,15 @@
 -- The objects of a store and the rows of a commit-graph, as the page of what a run promises has them.
-use Rattle.std.specs.Prelude.{◌≡◌, ◌≢◌, ℕ, List, [], map, Option, Some, codes}
+use Rattle.std.specs.Prelude.{◌≡◌, ◌≢◌, ℕ, List, [], map, Option, Some, None, codes}
 use Rattle.std.specs.FinMap.{get}
 use Rattle.std.specs.Option.{option_map}
 use Rattle.gix_commitgraph.specs.Rows.{GraphRow}
 use Rattle.gix_graph_check.specs.HeadsReach.{ids_of_places}
+use Rattle.gix_hash.specs.Id.{kind_of}
 use Rattle.gix_hash.specs.declared.ObjectId.{ObjectId}
+use Rattle.gix_object.specs.CommitItems.{commit_items}
 use Rattle.gix_object.specs.Object.{Object, Objects}
 use Rattle.gix_records.specs.Records.{kind_word}
+use Rattle.gix_revwalk.specs.Texts.{scanned}
 use Rattle.gix_revwalk.specs.declared.Parents.TheVariants as mode
 use Rattle.gix_simple.specs.declared.Sorting.{Sorting}
 use Rattle.gix_statement.specs.WholeStatement as page
@@ -27,12 +30,12 @@ page_row rows row = record { id = row.id; tree = row.tree; parents = ids_of_plac
 abbrev pub page_rows : List GraphRow → List page.Row
 page_rows rows = map (page_row rows) rows
 
--- each object that is said to be a commit has the text of one, as far as its parents
+-- each object that is said to be a commit, and of which the first parent is read, has the text of one, as far as its parents
 abbrev pub AreCommits : page.Objects → Type 0
-AreCommits objects =
-    (i : ObjectId) (bytes : List ℕ) → objects i ≡ Some (record { kind = codes "commit"; bytes = bytes }) → page.IsThere objects [] i
+AreCommits objects = (i : ObjectId) (bytes : List ℕ) → objects i ≡ Some (record { kind = codes "commit"; bytes = bytes })
+    → (scanned mode.First (commit_items (kind_of i) bytes)).1 ≡ None → page.IsThere objects [] i
 
--- No object that is said to be a commit is empty, and where a request follows first parents each has the text of one as far as its parents.
+-- no object that is said to be a commit is empty, and where a request follows first parents each that is read has the text of one
 abbrev pub HaveTexts : Request → page.Objects → Type 0
 HaveTexts request objects =
     ((i : ObjectId) → objects i ≢ Some (record { kind = codes "commit"; bytes = [] }))

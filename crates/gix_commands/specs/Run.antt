@@ -32,6 +32,7 @@ use Rattle.gix_graph_store.specs.WithRows.{with_rows}
 use Rattle.gix_records.specs.Input.{Tells}
 use Rattle.gix_records.specs.Records.{Record, AreRecords, IsBadRecord, stored}
 use Rattle.gix_commands.specs.Opening.{Opens, FailsToOpen}
+use Rattle.gix_commands.specs.Readable.{readable, reads_all_lines}
 use Rattle.gix_commands.specs.TopoWalked as topo
 use Rattle.gix_commands.specs.Walked.{Walk, Answers, IsWalkFault, StartsFrom, FailsAtStart, EndsBy, given, line_of, lines_of, never_faulty}
 use Rattle.gix_words.specs.Words.{Request, Commits, Files, Ahead, Contained, request_of}
@@ -95,8 +96,8 @@ pub data Runs (words : List (List ℕ)) (has old : Option (List ℕ)) : Result (
   bad_record : (request : Request) (input : List ℕ) (n : ℕ) → request_of words ≡ Ok request → Tells has input → IsBadRecord n input
       → Runs words has old (Err (fault.Record n)) old
   served : (request : Request) (input : List ℕ) (records : List Record) {answer : Result (Unit {0}) Fault} {new : Option (List ℕ)}
-      → request_of words ≡ Ok request → Tells has input → AreRecords records input → Serves (stored records) [] old request answer new
-      → Runs words has old answer new
+      → request_of words ≡ Ok request → Tells has input → AreRecords records input
+      → Serves (readable (reads_all_lines request) (stored records)) [] old request answer new → Runs words has old answer new
 
 -- The same over the files of a commit-graph, lowest layer first: walks have its rows, and where nothing is stored at the id of a row there is
 -- the commit that the row says. Words are tested first, then the layers are opened, then the input is read, and then what is stored is

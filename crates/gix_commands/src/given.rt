@@ -3,10 +3,7 @@
 ghost use Rattle.std.specs.Prelude.{◌≡◌, ◌≢◌, ℕ, List, [], map, Some, Ok, Err, string_bytes};
 ghost use Rattle.gix_records.specs.Records.{Record, AreRecords};
 ghost use Rattle.gix_commands.specs.Run.{Runs};
-ghost use Rattle.gix_commands.specs.Everywhere.{AskForNoList, AskForNoTimes, HasTexts};
-ghost use Rattle.gix_commands.specs.WholeStatement.{Promises};
-ghost use Rattle.gix_statement.specs.WholeStatement as statement;
-ghost use Rattle.gix_statement.specs.WholeStatement.{AreFed};
+ghost use Rattle.gix_statement.specs.WholeStatement.{AreFed, Objects, Promises, Row};
 ghost use Rattle.gix_words.specs.Words.{request_of, request_of_command};
 
 use crate::serve;
@@ -31,12 +28,8 @@ pub fn run_in<W: Write>(
     // Bytes that are records are never rejected.
     ensures spelled { (those : List Record) (n : ℕ) → AreRecords those records.now → result ≢ Err (Fault.Record n) }
     ensures sound { result ≢ Err Fault.Internal }
-    // What was written by a run that ended well, from lists of bytes up.
-    ensures whole { Promises (map string_bytes words.now) (Some records.now) (W.contents writer.old) result (W.contents writer.new) }
-    // What was written where no list of commits is asked for is right of every repository that has what was read.
-    ensures everywhere { AskForNoList (map string_bytes words.now) → result ≢ Err Fault.Write → statement.Promises Fault.Write (map string_bytes words.now) (λ objects rows. AreFed (Some records.now) objects × (rows ≡ [])) (W.contents writer.old) result (W.contents writer.new) }
-    // So are lists, but for those by time, where no record of a commit is empty, and with `--first-parent` each has the text of one.
-    ensures lists { AskForNoTimes (map string_bytes words.now) → HasTexts (map string_bytes words.now) (Some records.now) → result ≢ Err Fault.Write → statement.Promises Fault.Write (map string_bytes words.now) (λ objects rows. AreFed (Some records.now) objects × (rows ≡ [])) (W.contents writer.old) result (W.contents writer.new) }
+    // What was written, from lists of bytes up, by a run that ended well or that failed.
+    ensures whole { Promises Fault.Write (map string_bytes words.now) (λ (objects : Objects) (rows : List Row). AreFed (Some records.now) objects × (rows ≡ [])) (W.contents writer.old) result (W.contents writer.new) }
 {
     let command = read_command(alloc, words)?;
     serve_records(alloc, command, records, writer)

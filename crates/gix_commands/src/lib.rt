@@ -9,10 +9,7 @@
 ghost use Rattle.std.specs.Prelude.{◌≡◌, ◌≢◌, ℕ, List, [], map, Some, Err, string_bytes};
 ghost use Rattle.gix_records.specs.Records.{Record, AreRecords};
 ghost use Rattle.gix_commands.specs.Run.{Runs, Serves};
-ghost use Rattle.gix_commands.specs.Everywhere.{AskForNoList, AskForNoTimes, HasTexts};
-ghost use Rattle.gix_commands.specs.WholeStatement.{Promises};
-ghost use Rattle.gix_statement.specs.WholeStatement as statement;
-ghost use Rattle.gix_statement.specs.WholeStatement.{AreFed};
+ghost use Rattle.gix_statement.specs.WholeStatement.{AreFed, Objects, Promises, Row};
 ghost use Rattle.gix_words.specs.Words.{Commits, request_of, request_of_command};
 ghost use Rattle.gix_graph_store.specs.WithRows.{with_rows};
 ghost use Rattle.gix_revwalk.specs.Agreeing.{rows_in};
@@ -79,13 +76,8 @@ pub fn run<R: Read, W: Write>(
     // Input that is records is never rejected.
     ensures spelled { (input : List ℕ) (records : List Record) (n : ℕ) → R.remaining reader.old ≡ Some input → AreRecords records input → result ≢ Err (Fault.Record n) }
     ensures sound { result ≢ Err Fault.Internal }
-    // What was written by a run that ended well, from lists of bytes up: this is all that a reader has to believe of such a run.
-    ensures whole { Promises (map string_bytes words.now) (R.remaining reader.old) (W.contents writer.old) result (W.contents writer.new) }
-    // What was written where no list of commits is asked for is right of every repository that has what was read: no missing commit passes
-    // for one without parents. A run that fails has written nothing, unless its writer failed.
-    ensures everywhere { AskForNoList (map string_bytes words.now) → result ≢ Err Fault.Write → statement.Promises Fault.Write (map string_bytes words.now) (λ objects rows. AreFed (R.remaining reader.old) objects × (rows ≡ [])) (W.contents writer.old) result (W.contents writer.new) }
-    // So are lists, but for those by time, where no record of a commit is empty, and with `--first-parent` each has the text of one.
-    ensures lists { AskForNoTimes (map string_bytes words.now) → HasTexts (map string_bytes words.now) (R.remaining reader.old) → result ≢ Err Fault.Write → statement.Promises Fault.Write (map string_bytes words.now) (λ objects rows. AreFed (R.remaining reader.old) objects × (rows ≡ [])) (W.contents writer.old) result (W.contents writer.new) }
+    // What was written, from lists of bytes up, by a run that ended well or that failed: this is all that a reader has to believe of it.
+    ensures whole { Promises Fault.Write (map string_bytes words.now) (λ (objects : Objects) (rows : List Row). AreFed (R.remaining reader.old) objects × (rows ≡ [])) (W.contents writer.old) result (W.contents writer.new) }
 {
     let command = read_command(alloc, words)?;
     let input = records::read_to_end(alloc, reader, records::READS)?;

@@ -1,10 +1,9 @@
 use Rattle.std.proofs.Common.{Err, ◌∙◌, ap}
 use Rattle.gix_commands.proofs.Common.{err_from_is_err_and}
 use Rattle.gix_records.proofs.ReadingFacts.{fails_to_read}
-use Rattle.gix_commands.proofs.FedRuns.{everywhere, lists_everywhere}
 use Rattle.gix_commands.proofs.GivenRuns.{runs_told}
 use Rattle.gix_commands.proofs.RunFacts.{no_rejection, runs_sound, runs_spelled, runs_words, runs_input}
-use Rattle.gix_commands.proofs.WholeRuns.{promises}
+use Rattle.gix_commands.proofs.PromisedRuns.{promises}
 use Rattle.gix_commands.proofs.run.Goals as goal
 
 pub returns-in_err-command-clause-runs : goal.returns-in_err-command-clause-runs
@@ -50,21 +49,3 @@ returns-in_err-input-clause-whole g c = promises (returns-in_err-input-clause-ru
 
 pub returns-clause-whole : goal.returns-clause-whole
 returns-clause-whole g c = promises (returns-clause-runs g c)
-
-pub returns-in_err-command-clause-everywhere : goal.returns-in_err-command-clause-everywhere
-returns-in_err-command-clause-everywhere g c = everywhere (returns-in_err-command-clause-runs g c)
-
-pub returns-in_err-input-clause-everywhere : goal.returns-in_err-input-clause-everywhere
-returns-in_err-input-clause-everywhere g c = everywhere (returns-in_err-input-clause-runs g c)
-
-pub returns-clause-everywhere : goal.returns-clause-everywhere
-returns-clause-everywhere g c = everywhere (returns-clause-runs g c)
-
-pub returns-in_err-command-clause-lists : goal.returns-in_err-command-clause-lists
-returns-in_err-command-clause-lists g c = lists_everywhere (returns-in_err-command-clause-runs g c)
-
-pub returns-in_err-input-clause-lists : goal.returns-in_err-input-clause-lists
-returns-in_err-input-clause-lists g c = lists_everywhere (returns-in_err-input-clause-runs g c)
-
-pub returns-clause-lists : goal.returns-clause-lists
-returns-clause-lists g c = lists_everywhere (returns-clause-runs g c)

@@ -1,9 +1,8 @@
 use Rattle.std.proofs.Common.{map, string_bytes, Err, refl, sym, ap, ◌∙◌}
 use Rattle.gix_commands.proofs.Common.{err_from_is_err_and}
-use Rattle.gix_commands.proofs.FedRuns.{everywhere, lists_everywhere}
 use Rattle.gix_commands.proofs.GivenRuns.{words_unread}
 use Rattle.gix_commands.proofs.RunFacts.{err_same, runs_sound, runs_spelled, runs_words}
-use Rattle.gix_commands.proofs.WholeRuns.{promises}
+use Rattle.gix_commands.proofs.PromisedRuns.{promises}
 use Rattle.gix_commands.proofs.given.run_in.Goals as goal
 
 pub returns-in_err-command-clause-runs : goal.returns-in_err-command-clause-runs
@@ -36,15 +35,3 @@ returns-clause-sound g c = runs_sound (returns-clause-runs g c)
 
 pub returns-clause-whole : goal.returns-clause-whole
 returns-clause-whole g c = promises (returns-clause-runs g c)
-
-pub returns-in_err-command-clause-everywhere : goal.returns-in_err-command-clause-everywhere
-returns-in_err-command-clause-everywhere g c = everywhere (returns-in_err-command-clause-runs g c)
-
-pub returns-clause-everywhere : goal.returns-clause-everywhere
-returns-clause-everywhere g c = everywhere (returns-clause-runs g c)
-
-pub returns-in_err-command-clause-lists : goal.returns-in_err-command-clause-lists
-returns-in_err-command-clause-lists g c = lists_everywhere (returns-in_err-command-clause-runs g c)
-
-pub returns-clause-lists : goal.returns-clause-lists
-returns-clause-lists g c = lists_everywhere (returns-clause-runs g c)

@@ -2,7 +2,7 @@ use Rattle.std.proofs.Common.{map, string_bytes, Err, None, ap, ◌∙◌}
 use Rattle.gix_commands.proofs.Common.{err_from_is_err_and}
 use Rattle.gix_commands.proofs.RunFacts.{runs_sound, runs_words, serves_sound}
 use Rattle.gix_commands.proofs.OverStores.{stored_words, stored_unagreed, unagreed_sound, stored_runs}
-use Rattle.gix_commands.proofs.WholeRuns.{promises}
+use Rattle.gix_commands.proofs.PromisedRuns.{promises}
 use Rattle.gix_commands.specs.StoredRuns.{served}
 use Rattle.gix_commands.proofs.stored.run_stored.Goals as goal
 
