@@ -1,57 +1,63 @@
--- What a run over a store and rows has written is what the page promises of what is stored and of these rows.
-use Rattle.std.proofs.Common.{◌≡◌, ℕ, List, [], Option, Result, Ok, Err, Contains, inl, inr}
-use Rattle.gix_commands.proofs.Common.{Appends, Fault, GraphRow, IsAgreeing, no_member, Objects, ObjectId, Request, request_of, stored, with_rows}
+-- What a run over rows answers is what the page promises: over a store, or over the files of a commit-graph and records.
+use Rattle.std.proofs.Common.{◌≡◌, ℕ, List, [], Option, Result, Ok, Contains, refl, inl, inr}
+use Rattle.gix_commands.proofs.Common.{Fault, GraphRow, IsAgreeing, no_member, Objects, ObjectId, Request, request_of, stored, with_rows}
 use Rattle.gix_commitgraph.specs.Packed.{AreGraphRows}
 use Rattle.gix_commitgraph.specs.Renumbering.{HasSameRows, HaveDistinctIds, HavePlacesWithin}
 use Rattle.gix_graph_check.specs.Sound.{AreSound}
 use Rattle.gix_graph_store.specs.Laws.{StoredAgree}
-use Rattle.gix_records.specs.Input.{Tells}
-use Rattle.gix_records.specs.Records.{Record, AreRecords}
+use Rattle.gix_statement.specs.CommitGraph.{AreLayers}
 use Rattle.gix_statement.specs.WholeStatement as page
-use Rattle.gix_statement.specs.WholeStatement.{Agree, AreFed, Entry, IsCommit, IsText, IsTree, Promises, Row}
+use Rattle.gix_statement.specs.WholeStatement.{Agree, AreFed, Entry, IsCommit, IsTree, Promises, Row}
 use Rattle.gix_words.specs.declared.fault.Fault.TheVariants as fault
 use Rattle.gix_commands.specs.Opening.{Opens}
-use Rattle.gix_commands.specs.Pages.{HaveTexts, page_objects, page_rows}
+use Rattle.gix_commands.specs.Pages.{page_objects, page_rows}
+use Rattle.gix_commands.specs.Readable.{readable, reads_all_lines}
 use Rattle.gix_commands.specs.Run as run
 use Rattle.gix_commands.specs.Run.{RunsOver, Serves}
 use Rattle.gix_commands.specs.StoredRuns as store
 use Rattle.gix_commands.specs.StoredRuns.{RunsStored}
 use Rattle.gix_commands.proofs.FedCommits.{whole_text}
 use Rattle.gix_commands.proofs.FedRuns.{AreRead, right}
-use Rattle.gix_commands.proofs.Promised.{promised, unwritten}
+use Rattle.gix_commands.proofs.Promised.{promised}
+use Rattle.gix_commands.proofs.ReadableObjects.{readable_agrees}
+use Rattle.gix_commands.proofs.ReadableTexts.{have_texts, text_kept, tree_kept}
 use Rattle.gix_commands.proofs.RowsAsTexts.{every_agree, rows_agree, text_is_commit, tree_is_tree}
 use Rattle.gix_commands.proofs.SameCommits.{are_fed}
 use Rattle.gix_commands.proofs.SortedRows.{sorted_has, unsorted_apart, unsorted_has}
 
--- What a command reads of all objects that there are: each object that is said to be a commit has a text, and there is no other commit or
--- tree than there is.
-pub record IsReadOf (request : Request) (rows : List GraphRow) (every read : Objects) : Type 0 where
-  pub texts : HaveTexts request (page_objects read)
-  pub text : (r : Row) → IsText (page_objects read) r → IsText (page_objects every) r
-  pub tree : (i : ObjectId) (entries : List Entry) → IsTree (page_objects read) i entries → IsTree (page_objects every) i entries
-  pub agrees : IsAgreeing every rows → IsAgreeing read rows
-  pub reached : IsAgreeing every rows → AreRead read rows
+-- what a command reads of a store that has a commit for each row
+abbrev pub seen : Request → List GraphRow → Objects → Objects
+seen request rows objects = readable (reads_all_lines request) (with_rows rows objects)
+
+-- topological walks of this command read what their tips and ends reach
+abbrev pub ReadsReached : List GraphRow → Objects → Type 0
+ReadsReached rows objects = (request : Request) → AreRead (seen request rows objects) rows
 
 module _ (words : List (List ℕ)) (request : Request) (asked : request_of words ≡ Ok request) (rows : List GraphRow) (objects : Objects) (graph : AreGraphRows rows) (sound : AreSound rows) (agree : StoredAgree rows objects)
-    (read : Objects) (reading : IsReadOf request rows (with_rows rows objects) read) (AreGiven : page.Objects → List Row → Type 0) (old : Option (List ℕ)) (answer : Result (Unit {0}) Fault) (new : Option (List ℕ)) (served : Serves read rows old request answer new) where
+    (reached : AreRead (seen request rows objects) rows) (AreGiven : page.Objects → List Row → Type 0) (old : Option (List ℕ)) (answer : Result (Unit {0}) Fault) (new : Option (List ℕ)) (served : Serves (seen request rows objects) rows old request answer new) where
+  all_lines_of : IsAgreeing (seen request rows objects) rows
+  all_lines_of = readable_agrees (reads_all_lines request) (with_rows rows objects) rows (every_agree whole_text rows objects graph sound agree)
+
   -- rows in any order
   module _ (those : List Row) (all : (r : Row) → Contains (page_rows rows) r → Contains those r) (consistent : Agree (page_objects objects) those) (given : AreGiven (page_objects objects) those) where
-    commit_on : (r : Row) → IsCommit (page_objects read) [] r → IsCommit (page_objects objects) those r
-    commit_on r (inl text) = of_rows (text_is_commit whole_text rows objects graph sound agree r (reading.text r text))
-      where
-        of_rows : IsCommit (page_objects objects) (page_rows rows) r → IsCommit (page_objects objects) those r
-        of_rows (inl text) = inl text
-        of_rows (inr (none, c)) = inr (none, all r c)
+    of_rows : (r : Row) → IsCommit (page_objects objects) (page_rows rows) r → IsCommit (page_objects objects) those r
+    of_rows r (inl text) = inl text
+    of_rows r (inr (none, c)) = inr (none, all r c)
+
+    commit_on : (r : Row) → IsCommit (page_objects (seen request rows objects)) [] r → IsCommit (page_objects objects) those r
+    commit_on r (inl text) = of_rows r (text_is_commit whole_text rows objects graph sound agree r (text_kept (reads_all_lines request) (with_rows rows objects) r text))
     commit_on r (inr (none, c)) = absurd (no_member r c)
 
-    pub served_over : Promises fault.Write words AreGiven old answer new
-    served_over =
-        let agrees = every_agree whole_text rows objects graph sound agree in
-        promised (page_objects read) (page_objects objects) those commit_on (λ i entries t. tree_is_tree whole_text rows objects graph sound agree i entries (reading.tree i entries t)) AreGiven given consistent words old answer new
-        (right read rows (reading.agrees agrees) (reading.reached agrees) old words request asked reading.texts answer new served)
+    tree_on : (i : ObjectId) (entries : List Entry) → IsTree (page_objects (seen request rows objects)) i entries → IsTree (page_objects objects) i entries
+    tree_on i entries tree = tree_is_tree whole_text rows objects graph sound agree i entries (tree_kept (reads_all_lines request) (with_rows rows objects) i entries tree)
 
-  pub served_promised : AreGiven (page_objects objects) (page_rows rows) → Promises fault.Write words AreGiven old answer new
-  served_promised given = served_over (page_rows rows) (λ r c. c) (rows_agree whole_text rows objects graph sound agree) given
+    served_over : Promises fault.Write words AreGiven old answer new
+    served_over =
+        promised (page_objects (seen request rows objects)) (page_objects objects) those commit_on tree_on AreGiven given consistent words old answer new
+        (right (seen request rows objects) rows all_lines_of reached old words request asked (have_texts request (with_rows rows objects)) answer new served)
+
+  pub served_sorted : AreGiven (page_objects objects) (page_rows rows) → Promises fault.Write words AreGiven old answer new
+  served_sorted given = served_over (page_rows rows) (λ r c. c) (rows_agree whole_text rows objects graph sound agree) given
 
   -- the rows of a list of which the graph was made
   module _ (list : List GraphRow) (distinct : HaveDistinctIds list) (within : HavePlacesWithin list) (same : HasSameRows list rows) where
@@ -60,3 +66,31 @@ module _ (words : List (List ℕ)) (request : Request) (asked : request_of words
 
     pub served_unsorted : AreGiven (page_objects objects) (page_rows list) → Promises fault.Write words AreGiven old answer new
     served_unsorted given = served_over (page_rows list) (unsorted_has list rows distinct within same graph) list_agrees given
+
+-- what is stored, and the rows
+abbrev pub AreStored : Objects → List GraphRow → page.Objects → List Row → Type 0
+AreStored stored graph objects rows = (objects ≡ page_objects stored) × (rows ≡ page_rows graph)
+
+pub stored_promises : {words : List (List ℕ)} {objects : Objects} {rows : List GraphRow} {old new : Option (List ℕ)} {answer : Result (Unit {0}) Fault} → AreGraphRows rows → ReadsReached rows objects → RunsStored words objects rows old answer new
+    → Promises fault.Write words (AreStored objects rows) old answer new
+stored_promises graph reached store.without_memory = inl refl
+stored_promises graph reached (store.no_command t) = inl refl
+stored_promises graph reached (store.not_agreed request t f) = inl refl
+stored_promises {words} {objects} {rows} {old} {new} {answer} graph reached (store.served request t sound agree s) =
+    served_sorted words request t rows objects graph sound agree (reached request) (AreStored objects rows) old answer new s (refl, refl)
+
+-- the objects of records, and the rows of files
+abbrev pub AreFedOver : (layers : List (List ℕ)) → (has : Option (List ℕ)) → page.Objects → List Row → Type 0
+AreFedOver layers has objects rows = AreFed has objects × AreLayers [] layers [] rows
+
+pub over_promises : {words layers : List (List ℕ)} {has old new : Option (List ℕ)} {answer : Result (Unit {0}) Fault} → ((rows : List GraphRow) (opens : Opens layers rows) → AreLayers [] layers [] (page_rows opens.chain.rows))
+    → ((rows : List GraphRow) (objects : Objects) → ReadsReached rows objects) → RunsOver words layers has old answer new → Promises fault.Write words (AreFedOver layers has) old answer new
+over_promises files reached run.without_memory = inl refl
+over_promises files reached (run.no_command t) = inl refl
+over_promises files reached (run.not_opened request t f) = inl refl
+over_promises files reached (run.not_read request rows t o) = inl refl
+over_promises files reached (run.bad_record request rows input n t o h b) = inl refl
+over_promises files reached (run.disagrees request rows input records i t o h are d) = inl refl
+over_promises {words} {layers} {has} {old} {new} {answer} files reached (run.served request rows input records t opens told are agree s) =
+    served_unsorted words request t rows (stored records) opens.chain.sound opens.sound agree (reached rows (stored records) request) (AreFedOver layers has) old answer new s
+    opens.chain.rows opens.chain.accepted.2 opens.chain.accepted.3 opens.chain.same (are_fed records has input told are, files rows opens)
