@@ -1,0 +1,6 @@
+use Rattle.std.proofs.Common.{refl}
+use Rattle.scratch_layers.proofs.laws.right.Goals as goal
+use Rattle.scratch_layers.proofs.FileNumbers as numbers
+
+pub returns : goal.returns
+returns c = λ n. refl

@@ -1,0 +1,4 @@
+use Rattle.std.specs.Prelude.{◌≡◌, ℕ}
+
+abbrev pub Claim : Type 0
+Claim = (n : ℕ) → n ≡ n

@@ -1,0 +1,8 @@
+//! Scratch.
+
+ghost use Rattle.scratch_layers.specs.Scratch.{Claim};
+
+/// Scratch.
+pub fn right()
+    ensures { Claim }
+{}
