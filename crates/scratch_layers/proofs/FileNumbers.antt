@@ -8,7 +8,7 @@ use Rattle.gix_commitgraph.proofs.Packed.RowTakes.{AreBytes-take, AreBytes-drop}
 use Rattle.gix_graph_file.specs.FileTable.{long_at}
 use Rattle.gix_statement.specs.CommitGraph.{number_from, number_at, bytes_at}
 
-four : (bytes : List ℕ) → length bytes ≡ 4 → number_from 0 bytes ≡ from_be_bytes w32 bytes
+pub four : (bytes : List ℕ) → length bytes ≡ 4 → number_from 0 bytes ≡ from_be_bytes w32 bytes
 four [] l = absurd (omega (arith, l))
 four (a ∷ []) l = absurd (omega (arith, l))
 four (a ∷ b ∷ []) l = absurd (omega (arith, l))

@@ -1,1 +1,3 @@
 pub mod FileNumbers
+pub mod FileChunks
+pub mod FileParents
