@@ -1,3 +1,4 @@
 pub mod FileNumbers
 pub mod FileChunks
 pub mod FileParents
+pub mod FileRows
