@@ -6,7 +6,7 @@ use Rattle.std.specs.Option.{unwrap_or}
 use Rattle.std.specs.Int.{from_be_bytes, to_be_bytes}
 use Rattle.std.proofs.lemmas.Bool.{false≢true}
 use Rattle.std.proofs.lemmas.List.{map-append, length-map, length_push, flat_map_more, append-nil}
-use Rattle.std.proofs.lemmas.List.Elements.{All-nil, All-push}
+use Rattle.std.proofs.lemmas.List.Elements.{All-nil, All-push, All-head, All-tail}
 use Rattle.gix_hash.specs.declared.Kind.{Kind}
 use Rattle.gix_hash.specs.declared.Kind.TheVariants as kind
 use Rattle.gix_hash.specs.declared.ObjectId.{ObjectId}
@@ -183,3 +183,70 @@ module _ (files : List (List ℕ)) (lower : Lower) (file : List ℕ) (next : Low
 
       some_hashes : 0 < length (lower.hashes ++ hash_of k file)
       some_hashes = let l = chunks.fits in omega (arith, l, some_width k, length-append lower.hashes (hash_of k file), length-drop (length file - id_len k) file)
+
+-- ---- a chain of them
+
+record Adds (files : List (List ℕ)) (lower : Lower) (file : List ℕ) (next : Lower) : Type 0 where
+  rows : List GraphRow
+  rows_are : next.rows ≡ lower.rows ++ rows
+  below : IsBelow next (files ++ file ∷ [])
+  layer : (all rest : List GraphRow) → all ≡ (lower.rows ++ rows) ++ rest → NoFaults all → IsLayer files file (map (page_row all) lower.rows) (map (page_row all) rows)
+
+adds : (number : ℕ) (files : List (List ℕ)) (lower : Lower) (file : List ℕ) (next : Lower) → number ≡ length files → AreBytes file → IsBelow lower files → with_layer number lower file ≡ Ok next → Adds files lower file next
+unfolding with_layer
+adds number files lower file next counted small below e =
+    let a = then_is (read_layer number file) _ next e in
+    let h = parts_are number file a.0 a.1 in
+    let has = has_rows lower file a.0 next a.2 in
+    let head = subst (λ n. IsHead n file a.0.kind) counted h.0 in
+    record {
+      rows = has.rows;
+      rows_are = ap (λ (x : Lower). x.rows) (sym has.next_is);
+      below = subst (λ (x : Lower). IsBelow x (files ++ file ∷ [])) has.next_is (next_below files lower file next a.0 small below head h.1 has);
+      layer = layer_is files lower file next a.0 small below head h.1 has;
+    }
+
+-- a layer's rows come behind those below
+next_rows : (number : ℕ) (lower : Lower) (file : List ℕ) (next : Lower) → with_layer number lower file ≡ Ok next → (rows : List GraphRow) × (next.rows ≡ lower.rows ++ rows)
+unfolding with_layer
+next_rows number lower file next e =
+    let a = then_is (read_layer number file) _ next e in
+    let has = has_rows lower file a.0 next a.2 in
+    (has.rows, ap (λ (x : Lower). x.rows) (sym has.next_is))
+
+layer_then_is : (number : ℕ) (read : Result Lower Error) (more : Lower → Result (List GraphRow) ChainError) (all : List GraphRow) → layer_then number read more ≡ Ok all → (next : Lower) × (read ≡ Ok next) × (more next ≡ Ok all)
+layer_then_is number (Ok next) more all e = (next, refl, e)
+layer_then_is number (Err f) more all e = absurd (let no : ◌≡◌ {A = Result (List GraphRow) ChainError} (Err (chain.Layer number f)) (Ok all) = e in cc)
+
+last_rows : (number : ℕ) (lower : Lower) (all : List GraphRow) → chain_from number lower [] ≡ Ok all → all ≡ lower.rows
+unfolding chain_from
+last_rows number lower all e = let is : ◌≡◌ {A = Result (List GraphRow) ChainError} (Ok lower.rows) (Ok all) = e in cc
+
+first_layer : (number : ℕ) (lower : Lower) (file : List ℕ) (files : List (List ℕ)) (all : List GraphRow) → chain_from number lower (file ∷ files) ≡ Ok all → (next : Lower) × (with_layer number lower file ≡ Ok next) × (chain_from (number + 1) next files ≡ Ok all)
+unfolding chain_from
+first_layer number lower file files all e = layer_then_is number (with_layer number lower file) (λ (next : Lower). chain_from (number + 1) next files) all e
+
+rows_grow : (number : ℕ) (lower : Lower) (files : List (List ℕ)) (all : List GraphRow) → chain_from number lower files ≡ Ok all → (rest : List GraphRow) × (all ≡ lower.rows ++ rest)
+rows_grow number lower [] all e = ([], last_rows number lower all e ∙ sym (append-nil lower.rows))
+rows_grow number lower (file ∷ files) all e =
+    let a = first_layer number lower file files all e in
+    let m = rows_grow (number + 1) a.0 files all a.2 in
+    let n = next_rows number lower file a.0 a.1 in
+    (n.0 ++ m.0, m.1 ∙ ap (λ (x : List GraphRow). x ++ m.0) n.1 ∙ append_assoc lower.rows n.0 m.0)
+
+chain_is : (number : ℕ) (lower : Lower) (under files : List (List ℕ)) (all : List GraphRow) → number ≡ length under → IsBelow lower under → All AreBytes files → chain_from number lower files ≡ Ok all → NoFaults all
+    → AreLayers under files (map (page_row all) lower.rows) (page_rows all)
+chain_is number lower under [] all numbered below small e sound = ap (map (page_row all)) (last_rows number lower all e)
+chain_is number lower under (file ∷ files) all numbered below small e sound =
+    let a = first_layer number lower file files all e in
+    let added = adds number under lower file a.0 numbered (All-head AreBytes file files small) below a.1 in
+    let m = rows_grow (number + 1) a.0 files all a.2 in
+    let all_are : all ≡ (lower.rows ++ added.rows) ++ m.0 = m.1 ∙ ap (λ (x : List GraphRow). x ++ m.0) added.rows_are in
+    let counted_on : number + 1 ≡ length (under ++ file ∷ []) = ap (λ n. n + 1) numbered ∙ sym (length_push under file) in
+    let more = chain_is (number + 1) a.0 (under ++ file ∷ []) files all counted_on added.below (All-tail AreBytes file files small) a.2 sound in
+    (map (page_row all) added.rows, added.layer all m.0 all_are sound,
+    subst (λ (x : List page.Row). AreLayers (under ++ file ∷ []) files x (page_rows all)) (ap (map (page_row all)) added.rows_are ∙ map-append (page_row all) lower.rows added.rows) more)
+
+-- the rows that the reader finds are those of the page, where no place is corrupt
+pub layers_are : (files : List (List ℕ)) (rows : List GraphRow) → All AreBytes files → read_chain files ≡ Ok rows → NoFaults rows → AreLayers [] files [] (page_rows rows)
+layers_are files rows small e sound = chain_is 0 nothing [] files rows refl (record { kinds = λ k same. All-nil _; hashes = λ k same. refl; some = inl refl }) small e sound

@@ -4,3 +4,4 @@ pub mod FileParents
 pub mod FileRows
 pub mod FileHeads
 pub mod FileLayers
+pub mod FileOrder

@@ -1,6 +1,6 @@
 use Rattle.std.proofs.Common.{refl}
 use Rattle.scratch_layers.proofs.laws.right.Goals as goal
-use Rattle.scratch_layers.proofs.FileLayers as layers
+use Rattle.scratch_layers.proofs.FileOrder as order
 
 pub returns : goal.returns
 returns c = λ n. refl
