@@ -40,6 +40,13 @@ mod ContainedRuns
 mod TextNumbers
 mod OverGraphs
 mod OverStores
+mod FileNumbers
+mod FileChunks
+mod FileParents
+mod FileRows
+mod FileHeads
+mod FileLayers
+mod FileOrder
 mod ToldRuns
 mod SameNumbers
 mod SameCommits

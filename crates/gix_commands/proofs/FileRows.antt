@@ -1,5 +1,5 @@
 -- The rows that the reader finds in a file are those of the page, by the bytes of the file's chunks.
-use Rattle.std.proofs.Common.{◌≡◌, ◌⊎◌, ℕ, zero, suc, ◌+◌, ◌-◌, ◌*◌, ◌%◌, ◌^◌, ◌<◌, ◌≤◌, true, false, cond, eqb, List, [], ◌∷◌, take, drop, length, map, slice_get, pos, Option, Some, None, Result, Ok, Err, refl, sym, ap, subst, ◌∙◌, arith, w32, w64, ⊎_elim, inl, inr, drop-drop}
+use Rattle.std.proofs.Common.{◌≡◌, ℕ, zero, suc, ◌+◌, ◌-◌, ◌*◌, ◌%◌, ◌^◌, ◌<◌, ◌≤◌, eqb, List, [], ◌∷◌, take, drop, length, map, slice_get, pos, Option, Some, None, Result, Ok, Err, refl, sym, ap, subst, ◌∙◌, arith, w32, w64, ⊎_elim, drop-drop}
 use Rattle.std.specs.Int.{from_be_bytes}
 use Rattle.std.specs.List.{AllByRecursion}
 use Rattle.std.proofs.lemmas.List.{drop-take, take-take}
@@ -7,7 +7,7 @@ use Rattle.gix_hash.specs.declared.Kind.{Kind}
 use Rattle.gix_hash.specs.declared.ObjectId.{ObjectId}
 use Rattle.gix_hash.specs.Id.{id_len, id_of}
 use Rattle.gix_commitgraph.specs.declared.ParentPlace.{ParentPlace}
-use Rattle.gix_commitgraph.specs.declared.ParentPlace.TheVariants.{At, Fault}
+use Rattle.gix_commitgraph.specs.declared.ParentPlace.TheVariants.{At}
 use Rattle.gix_commitgraph.specs.Rows.{GraphRow}
 use Rattle.gix_commitgraph.specs.PackedReading.{word_at, is_above}
 use Rattle.gix_commitgraph.proofs.Packed.Takes.{chosen}
@@ -16,8 +16,8 @@ use Rattle.gix_graph_file.specs.declared.error.Error.TheVariants as error
 use Rattle.gix_graph_file.specs.FileTable.{long_at}
 use Rattle.gix_graph_file.specs.FileRows.{Parents, parents_said, row_said, with_row, row_then, rows_from}
 use Rattle.gix_statement.specs.CommitGraph.{number_at, bytes_at, AreParents}
-use Rattle.scratch_layers.proofs.FileNumbers.{word_is, long_is}
-use Rattle.scratch_layers.proofs.FileParents.{NoFault, Left, Reads, parents_say}
+use Rattle.gix_commands.proofs.FileNumbers.{word_is, long_is}
+use Rattle.gix_commands.proofs.FileParents.{NoFault, Left, parents_say}
 
 -- a row that is read, by the chunks' bytes; its parents are among so many rows
 pub record IsRead (k : Kind) (ids data_of edges : List ℕ) (n j : ℕ) (row : GraphRow) : Type 0 where
@@ -102,16 +102,18 @@ module _ (k : Kind) (n m count : ℕ) (ids data_of edges : List ℕ) (long : len
       let one = word_part (id_len k) at 0 (at + id_len k) data_of (omega arith) (omega arith) (omega (arith, fits)) in
       let two = word_part (id_len k) at 4 (at + id_len k + 4) data_of (omega arith) refl (omega (arith, fits)) in
       let seconds = long_part (id_len k) at 8 (at + id_len k + 8) data_of (omega arith) refl (omega (arith, fits)) in
-      let said = parents_say n m (word_at 0 numbers) (word_at 4 numbers) edges words read has e sound in
-      (record {
-        id = refl;
-        tree = refl;
-        numbers = said.numbers;
-        parents = subst (λ (T : Type 0). T) (λ i. AreParents edges (one i) (two i) said.numbers) said.are;
-        places = said.places;
-        within = said.within;
-        time = ap (λ (x : ℕ). pos (x % 2 ^ 34)) seconds;
-      }, said.left)
+      let said = parents_say n m (word_at 0 numbers) (word_at 4 numbers) edges words read has e sound in (
+        record {
+          id = refl;
+          tree = refl;
+          numbers = said.numbers;
+          parents = subst (λ (T : Type 0). T) (λ i. AreParents edges (one i) (two i) said.numbers) said.are;
+          places = said.places;
+          within = said.within;
+          time = ap (λ (x : ℕ). pos (x % 2 ^ 34)) seconds;
+        },
+        said.left,
+      )
     where
       fit : (w r left count : ℕ) → r + suc left ≡ count → length data_of ≡ (w + 16) * count → (w + 16) * r + w + 16 ≤ length data_of
       fit w r left count counted long =

@@ -1,5 +1,5 @@
 -- The parents that two words say are the page's, where each names a row.
-use Rattle.std.proofs.Common.{◌≡◌, ◌≢◌, ◌⊎◌, ℕ, zero, suc, ◌+◌, ◌-◌, ◌*◌, ◌<◌, ◌≤◌, Bool, true, false, cond, eqb, ltb, List, [], ◌∷◌, take, drop, length, map, Option, Some, None, refl, sym, ap, subst, ◌∙◌, arith, ⊎_elim, inl, inr, eqb-true, ltb-true, ltb-false, drop-drop}
+use Rattle.std.proofs.Common.{◌≡◌, ◌≢◌, ℕ, suc, ◌+◌, ◌-◌, ◌*◌, ◌<◌, Bool, true, false, cond, eqb, ltb, List, [], ◌∷◌, take, drop, length, map, Option, Some, None, refl, sym, ap, subst, ◌∙◌, arith, ⊎_elim, eqb-true, ltb-true, ltb-false, drop-drop}
 use Rattle.std.specs.List.{AllByRecursion}
 use Rattle.gix_commitgraph.specs.declared.ParentPlace.{ParentPlace}
 use Rattle.gix_commitgraph.specs.declared.ParentPlace.TheVariants.{At, Fault}
@@ -7,8 +7,8 @@ use Rattle.gix_commitgraph.specs.PackedReading.{words_of}
 use Rattle.gix_commitgraph.proofs.Packed.Takes.{chosen}
 use Rattle.gix_graph_file.specs.FileRows.{no_parent, flag, place_named, Parents, with_parent, edge_list, long_edge_list, second_said, parents_said}
 use Rattle.gix_statement.specs.CommitGraph.{number_from, number_at, AreParents, none, single, pair, many, AreFurther, last, next}
-use Rattle.scratch_layers.proofs.FileNumbers.{four}
-use Rattle.scratch_layers.proofs.FileChunks.{eqb-false}
+use Rattle.gix_commands.proofs.FileNumbers.{four}
+use Rattle.gix_commands.proofs.FileChunks.{eqb-false}
 
 -- a place that names a row
 abbrev pub IsAt : ParentPlace → Type 0

@@ -1,5 +1,5 @@
 -- What the reader has found of a file that it takes: its head, its chunks and their sizes.
-use Rattle.std.proofs.Common.{◌≡◌, ◌⊎◌, ℕ, zero, suc, ◌+◌, ◌-◌, ◌*◌, ◌<◌, ◌≤◌, Bool, true, false, not, cond, eqb, ltb, List, [], ◌∷◌, ◌++◌, take, length, codes, slice_index, Option, Some, None, Result, Ok, Err, refl, sym, ap, subst, ◌∙◌, arith, ⊎_elim, inl, inr, eqb-true, ltb-false, nat_eq}
+use Rattle.std.proofs.Common.{◌≡◌, ℕ, ◌+◌, ◌-◌, ◌*◌, ◌≤◌, Bool, true, false, not, cond, eqb, ltb, List, [], ◌∷◌, ◌++◌, take, length, codes, slice_index, Option, Some, None, Result, Ok, Err, refl, sym, ap, subst, ◌∙◌, arith, ⊎_elim, eqb-true, ltb-false, nat_eq}
 use Rattle.std.specs.Cmp.Lexicographic.{same_text}
 use Rattle.std.specs.List.{starts_with}
 use Rattle.std.specs.Option.{ok_or, unwrap_or}
@@ -12,9 +12,9 @@ use Rattle.gix_graph_file.specs.declared.error.Error.{Error}
 use Rattle.gix_graph_file.specs.declared.error.Error.TheVariants as error
 use Rattle.gix_graph_file.specs.declared.error.Chunk.{Chunk}
 use Rattle.gix_graph_file.specs.declared.error.Chunk.TheVariants as chunk
-use Rattle.gix_graph_file.specs.FileTable.{◌>>=◌, kind_placed, kind_said, chunk_count, table_len, is_table_from, chunk_from, name_of, needed, Parts, sized_parts, parts_of, read_layer}
+use Rattle.gix_graph_file.specs.FileTable.{◌>>=◌, kind_placed, kind_said, chunk_count, table_len, chunk_from, name_of, needed, Parts, sized_parts, parts_of, read_layer}
 use Rattle.gix_statement.specs.CommitGraph.{number_at, bytes_at}
-use Rattle.scratch_layers.proofs.FileNumbers.{byte_is}
+use Rattle.gix_commands.proofs.FileNumbers.{byte_is}
 
 -- ---- what was read well
 
@@ -132,15 +132,17 @@ chunks_are k file p e =
     let i = then_is (needed file count chunk.Ids) _ p f.2 in
     let d = then_is (needed file count chunk.Data) _ p i.2 in
     let s = sizes_are k f.0 i.0 d.0 (unwrap_or (chunk_from file (name_of chunk.Edges) count 0) []) p d.2 in
-    let long = ltb-false (length file - id_len k) (table_len count) a.0 in
-    (s.kind_is, record {
-      fits = subst (λ j. table_len count ≤ length file - id_len j) s.kind_is long;
-      ids = needed_is file count chunk.Ids i.0 i.1 ∙ ap (λ (x : List ℕ). Some x) s.ids_are;
-      data_of = needed_is file count chunk.Data d.0 d.1 ∙ ap (λ (x : List ℕ). Some x) s.commits_are;
-      edges = sym s.edges_are;
-      ids_len = ap length (sym s.ids_are) ∙ s.ids_len ∙ ap (λ j. id_len j * p.count) s.kind_is;
-      data_len = ap length (sym s.commits_are) ∙ s.data_len ∙ ap (λ j. id_len j * p.count + 16 * p.count) s.kind_is;
-    })
+    let long = ltb-false (length file - id_len k) (table_len count) a.0 in (
+      s.kind_is,
+      record {
+        fits = subst (λ j. table_len count ≤ length file - id_len j) s.kind_is long;
+        ids = needed_is file count chunk.Ids i.0 i.1 ∙ ap (λ (x : List ℕ). Some x) s.ids_are;
+        data_of = needed_is file count chunk.Data d.0 d.1 ∙ ap (λ (x : List ℕ). Some x) s.commits_are;
+        edges = sym s.edges_are;
+        ids_len = ap length (sym s.ids_are) ∙ s.ids_len ∙ ap (λ j. id_len j * p.count) s.kind_is;
+        data_len = ap length (sym s.commits_are) ∙ s.data_len ∙ ap (λ j. id_len j * p.count + 16 * p.count) s.kind_is;
+      },
+    )
 
 pub parts_are : (number : ℕ) (file : List ℕ) (p : Parts) → read_layer number file ≡ Ok p → IsHead number file p.kind × HasChunks file p
 parts_are number file p e =

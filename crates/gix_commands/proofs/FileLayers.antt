@@ -1,5 +1,5 @@
 -- The layers that the reader takes have the rows that the page says.
-use Rattle.std.proofs.Common.{◌≡◌, ◌⊎◌, ℕ, zero, suc, ◌+◌, ◌-◌, ◌*◌, ◌%◌, ◌^◌, ◌<◌, ◌≤◌, Bool, true, false, not, cond, List, [], ◌∷◌, ◌++◌, take, drop, length, map, slice_get, get_or, pos, codes, bytes_eq, Option, Some, None, option_map, Result, Ok, Err, All, refl, sym, ap, subst, ◌∙◌, arith, w32, w64, ⊎_elim, inl, inr, length-append, length-drop, append_assoc}
+use Rattle.std.proofs.Common.{◌≡◌, ◌⊎◌, ℕ, zero, suc, ◌+◌, ◌-◌, ◌*◌, ◌<◌, ◌≤◌, true, not, List, [], ◌∷◌, ◌++◌, drop, length, map, slice_get, codes, bytes_eq, Option, Some, None, option_map, Result, Ok, Err, All, refl, sym, ap, subst, ◌∙◌, arith, w32, ⊎_elim, inl, inr, length-append, length-drop, append_assoc}
 use Rattle.std.specs.Cmp.Lexicographic.{same_text}
 use Rattle.std.specs.List.{AllByRecursion, flat_map}
 use Rattle.std.specs.Option.{unwrap_or}
@@ -11,8 +11,7 @@ use Rattle.gix_hash.specs.declared.Kind.{Kind}
 use Rattle.gix_hash.specs.declared.Kind.TheVariants as kind
 use Rattle.gix_hash.specs.declared.ObjectId.{ObjectId}
 use Rattle.gix_hash.specs.Id.{id_len, id_of}
-use Rattle.gix_commitgraph.specs.declared.ParentPlace.{ParentPlace}
-use Rattle.gix_commitgraph.specs.declared.ParentPlace.TheVariants.{At, Fault}
+use Rattle.gix_commitgraph.specs.declared.ParentPlace.TheVariants.{At}
 use Rattle.gix_commitgraph.specs.Packed.{AreBytes}
 use Rattle.gix_commitgraph.specs.PackedReading.{words_of}
 use Rattle.gix_commitgraph.specs.Rows.{GraphRow, row_at}
@@ -26,13 +25,13 @@ use Rattle.gix_graph_file.specs.declared.error.ChainError.TheVariants as chain
 use Rattle.gix_graph_file.specs.FileTable.{Parts, chunk_count, table_len, name_of, read_layer}
 use Rattle.gix_graph_file.specs.Chain.{Lower, is_kind, hash_of, base_of, layer_rows, with_rows, with_parts, with_layer, layer_then, chain_from, nothing, read_chain}
 use Rattle.gix_statement.specs.WholeStatement as page
-use Rattle.gix_statement.specs.CommitGraph.{number_at, bytes_at, AreLayers, IsLayer, IsRow, IsChunk, AreParents}
-use Rattle.scratch_layers.specs.Pages.{page_row, page_rows}
-use Rattle.scratch_layers.proofs.FileNumbers.{byte_is}
-use Rattle.scratch_layers.proofs.FileChunks.{chunk_found}
-use Rattle.scratch_layers.proofs.FileParents.{NoFault, Left}
-use Rattle.scratch_layers.proofs.FileRows.{IsRead, AreRead, rows_say}
-use Rattle.scratch_layers.proofs.FileHeads.{no_ok, ok_is, then_is, passed, true_is, version, IsHead, HasChunks, chunk_of, parts_are}
+use Rattle.gix_statement.specs.CommitGraph.{number_at, bytes_at, AreLayers, IsLayer, IsRow, IsChunk}
+use Rattle.gix_commands.specs.Pages.{page_row, page_rows}
+use Rattle.gix_commands.proofs.FileNumbers.{byte_is}
+use Rattle.gix_commands.proofs.FileChunks.{chunk_found}
+use Rattle.gix_commands.proofs.FileParents.{NoFault}
+use Rattle.gix_commands.proofs.FileRows.{IsRead, AreRead, rows_say}
+use Rattle.gix_commands.proofs.FileHeads.{ok_is, then_is, passed, true_is, version, IsHead, HasChunks, chunk_of, parts_are}
 
 abbrev pub NoFaults : List GraphRow → Type 0
 NoFaults rows = AllByRecursion (λ (row : GraphRow). NoFault row.parents) rows
@@ -69,12 +68,16 @@ row_is : (k : Kind) (ids data_of edges : List ℕ) (all pre rest : List GraphRow
     → IsRow (id_len k) ids data_of edges (map (page_row all) pre) j (page_row all row)
 row_is k ids data_of edges all pre rest j row are read =
     let id_bytes = bytes_at (id_len k * j) (id_len k) ids in
-    let tree_bytes = bytes_at ((id_len k + 16) * j) (id_len k) data_of in
-    (read.numbers, ap page.digits_in read.id ∙ digits_are k id_bytes, ap page.bytes_in read.id ∙ bytes_are k id_bytes,
-    ap page.digits_in read.tree ∙ digits_are k tree_bytes, ap page.bytes_in read.tree ∙ bytes_are k tree_bytes,
-    read.parents,
-    (λ i. map (λ (x : ObjectId). Some x) (ids_of_places (are i) (read.places i))) ∙ ids_at pre rest (page_row all) read.numbers (λ _. refl) read.within,
-    read.time)
+    let tree_bytes = bytes_at ((id_len k + 16) * j) (id_len k) data_of in (
+      read.numbers,
+      ap page.digits_in read.id ∙ digits_are k id_bytes,
+      ap page.bytes_in read.id ∙ bytes_are k id_bytes,
+      ap page.digits_in read.tree ∙ digits_are k tree_bytes,
+      ap page.bytes_in read.tree ∙ bytes_are k tree_bytes,
+      read.parents,
+      (λ i. map (λ (x : ObjectId). Some x) (ids_of_places (are i) (read.places i))) ∙ ids_at pre rest (page_row all) read.numbers (λ _. refl) read.within,
+      read.time,
+    )
 
 -- ---- a layer
 
@@ -158,18 +161,25 @@ module _ (files : List (List ℕ)) (lower : Lower) (file : List ℕ) (next : Low
       (λ j r e. let g = got_row (page_row all) has.rows j r e in
       let zero_more : 0 + j ≡ j = omega arith in
       let one : IsRead k p.ids p.commits p.edges (length (lower.rows ++ has.rows)) j g.0 = subst (λ (T : Type 0). T) (λ i. IsRead k p.ids p.commits p.edges (limit i) (zero_more i) g.0) (read.1 j g.0 g.1) in
-      subst (λ (T : Type 0). T) (λ i. IsRow (id_len k) p.ids p.commits p.edges (map-append (page_row all) lower.rows has.rows i) j (g.2 i)) (row_is k p.ids p.commits p.edges all (lower.rows ++ has.rows) rest j g.0 are one)) in
-      (id_len k, p.ids, p.commits, p.edges, head.letters, widths k (number_at 5 1 file) head.version_is, head.layers,
-      (λ i d l. below.kinds k has.same i d l ∙ sym head.version_is),
-      ⊎_elim (λ e. inl e)
-      (λ l. inr (subst (IsChunk file (codes "BASE")) (below.hashes k has.same) (chunk_is chunk.Base (codes "BASE") lower.hashes refl refl (base_there (chunk_of file chunk.Base) lower.hashes has.base l))))
-      below.some,
-      chunk_is chunk.Ids (codes "OIDL") p.ids refl refl chunks.ids,
-      chunk_is chunk.Data (codes "CDAT") p.commits refl refl chunks.data_of,
-      ⊎_elim (λ e. inl (chunk_is chunk.Edges (codes "EDGE") p.edges refl refl e)) (λ e. inr e) (edges_there (chunk_of file chunk.Edges) p.edges chunks.edges),
-      chunks.ids_len ∙ ap (λ n. id_len k * n) (sym count),
-      long ∙ sym distributed ∙ ap (λ n. (id_len k + 16) * n) (sym count),
-      each)
+      subst (λ (T : Type 0). T) (λ i. IsRow (id_len k) p.ids p.commits p.edges (map-append (page_row all) lower.rows has.rows i) j (g.2 i)) (row_is k p.ids p.commits p.edges all (lower.rows ++ has.rows) rest j g.0 are one)) in (
+        id_len k,
+        p.ids,
+        p.commits,
+        p.edges,
+        head.letters,
+        widths k (number_at 5 1 file) head.version_is,
+        head.layers,
+        (λ i d l. below.kinds k has.same i d l ∙ sym head.version_is),
+        ⊎_elim (λ e. inl e)
+            (λ l. inr (subst (IsChunk file (codes "BASE")) (below.hashes k has.same) (chunk_is chunk.Base (codes "BASE") lower.hashes refl refl (base_there (chunk_of file chunk.Base) lower.hashes has.base l))))
+            below.some,
+        chunk_is chunk.Ids (codes "OIDL") p.ids refl refl chunks.ids,
+        chunk_is chunk.Data (codes "CDAT") p.commits refl refl chunks.data_of,
+        ⊎_elim (λ e. inl (chunk_is chunk.Edges (codes "EDGE") p.edges refl refl e)) (λ e. inr e) (edges_there (chunk_of file chunk.Edges) p.edges chunks.edges),
+        chunks.ids_len ∙ ap (λ n. id_len k * n) (sym count),
+        long ∙ sym distributed ∙ ap (λ n. (id_len k + 16) * n) (sym count),
+        each,
+      )
 
   next_below : IsBelow (with_rows lower file k has.rows) (files ++ file ∷ [])
   next_below = record {
@@ -243,9 +253,11 @@ chain_is number lower under (file ∷ files) all numbered below small e sound =
     let m = rows_grow (number + 1) a.0 files all a.2 in
     let all_are : all ≡ (lower.rows ++ added.rows) ++ m.0 = m.1 ∙ ap (λ (x : List GraphRow). x ++ m.0) added.rows_are in
     let counted_on : number + 1 ≡ length (under ++ file ∷ []) = ap (λ n. n + 1) numbered ∙ sym (length_push under file) in
-    let more = chain_is (number + 1) a.0 (under ++ file ∷ []) files all counted_on added.below (All-tail AreBytes file files small) a.2 sound in
-    (map (page_row all) added.rows, added.layer all m.0 all_are sound,
-    subst (λ (x : List page.Row). AreLayers (under ++ file ∷ []) files x (page_rows all)) (ap (map (page_row all)) added.rows_are ∙ map-append (page_row all) lower.rows added.rows) more)
+    let more = chain_is (number + 1) a.0 (under ++ file ∷ []) files all counted_on added.below (All-tail AreBytes file files small) a.2 sound in (
+      map (page_row all) added.rows,
+      added.layer all m.0 all_are sound,
+      subst (λ (x : List page.Row). AreLayers (under ++ file ∷ []) files x (page_rows all)) (ap (map (page_row all)) added.rows_are ∙ map-append (page_row all) lower.rows added.rows) more,
+    )
 
 -- the rows that the reader finds are those of the page, where no place is corrupt
 pub layers_are : (files : List (List ℕ)) (rows : List GraphRow) → All AreBytes files → read_chain files ≡ Ok rows → NoFaults rows → AreLayers [] files [] (page_rows rows)

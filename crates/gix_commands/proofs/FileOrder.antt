@@ -1,8 +1,7 @@
 -- A graph has the rows of a chain, by other numbers: as the page has them, they are the same.
-use Rattle.std.proofs.Common.{◌≡◌, ◌≢◌, ◌⊎◌, ◌↔◌, ℕ, zero, suc, ◌+◌, ◌<◌, ◌≤◌, Bool, true, false, cond, eqb, List, [], ◌∷◌, length, map, slice_get, get_or, Option, Some, None, option_map, All, AllPairs, Contains, refl, sym, ap, subst, ◌∙◌, arith, ⊎_elim, inl, inr, eq-eqb, ne_eqb}
+use Rattle.std.proofs.Common.{◌≡◌, ◌≢◌, ◌⊎◌, ◌↔◌, ℕ, zero, suc, ◌<◌, false, cond, eqb, List, [], ◌∷◌, length, map, slice_get, get_or, Option, Some, None, option_map, All, AllPairs, Contains, refl, sym, ap, subst, ◌∙◌, arith, ⊎_elim, inl, inr, eq-eqb, ne_eqb}
 use Rattle.std.specs.List.{AllByRecursion, IsDistinct}
 use Rattle.std.proofs.lemmas.Bool.{false≢true}
-use Rattle.std.proofs.lemmas.List.{length-map}
 use Rattle.gix_hash.specs.declared.ObjectId.{ObjectId}
 use Rattle.gix_hash.specs.Id.{is_same}
 use Rattle.gix_hash.proofs.Ids.Membership.{same_from}
@@ -17,9 +16,10 @@ use Rattle.gix_graph_file.specs.Chain.{HasChain}
 use Rattle.gix_statement.proofs.HaveHistory.{below}
 use Rattle.gix_statement.specs.WholeStatement as page
 use Rattle.gix_statement.specs.CommitGraph.{AreLayers}
-use Rattle.scratch_layers.specs.Pages.{page_row, page_rows}
-use Rattle.scratch_layers.proofs.FileParents.{IsAt, NoFault}
-use Rattle.scratch_layers.proofs.FileLayers.{NoFaults, layers_are}
+use Rattle.gix_commands.specs.Opening.{Opens}
+use Rattle.gix_commands.specs.Pages.{page_row, page_rows}
+use Rattle.gix_commands.proofs.FileParents.{NoFault}
+use Rattle.gix_commands.proofs.FileLayers.{NoFaults, layers_are}
 
 -- ---- elements at places
 
@@ -190,13 +190,23 @@ map_twice : {X Y Z : Type 0} (f : X → Y) (g : Y → Z) (xs : List X) → map g
 map_twice f g [] = refl
 map_twice f g (x ∷ xs) = ap (λ ys. g (f x) ∷ ys) (map_twice f g xs)
 
--- The files of a chain have page rows, those of the graph in another order, and their ids differ.
+-- the files of a chain have page rows, those of the rows that were read
+pub chain_layers : (layers : List (List ℕ)) (graph : List GraphRow) → All AreBytes layers → (has : HasChain layers graph) → AreSound graph → AreLayers [] layers [] (page_rows has.rows)
+chain_layers layers graph small has sound = layers_are layers has.rows small has.read (no_faults has.rows graph has.same sound)
+
+-- and these are those of the graph, in another order, and their ids differ
 pub layers_have_rows : (layers : List (List ℕ)) (graph : List GraphRow) → All AreBytes layers → HasChain layers graph → AreSound graph
     → (those : List page.Row) × AreLayers [] layers [] those × ((r : page.Row) → Contains those r ↔ Contains (page_rows graph) r) × AllPairs (λ (r s : page.Row). r.id ≢ s.id) those
 layers_have_rows layers graph small has sound =
     let rows = has.rows in
     let distinct = has.accepted.2 in
-    let within = has.accepted.3 in
-    (page_rows rows, layers_are layers rows small has.read (no_faults rows graph has.same sound),
-    (λ r. (forth rows graph has.same within distinct r, back rows graph has.same within distinct r)),
-    apart (λ (r : page.Row). r.id) (page_rows rows) (subst (IsDistinct is_same) (sym (map_twice (page_row rows) (λ (r : page.Row). r.id) rows)) distinct))
+    let within = has.accepted.3 in (
+      page_rows rows,
+      chain_layers layers graph small has sound,
+      (λ r. (forth rows graph has.same within distinct r, back rows graph has.same within distinct r)),
+      apart (λ (r : page.Row). r.id) (page_rows rows) (subst (IsDistinct is_same) (sym (map_twice (page_row rows) (λ (r : page.Row). r.id) rows)) distinct),
+    )
+
+-- the rows of opened layers
+pub opened_layers : (layers : List (List ℕ)) (rows : List GraphRow) (opens : Opens layers rows) → AreLayers [] layers [] (page_rows opens.chain.rows)
+opened_layers layers rows opens = chain_layers layers rows opens.bytes opens.chain opens.sound

@@ -1,5 +1,5 @@
 -- The chunk that the reader finds by a name is the page's.
-use Rattle.std.proofs.Common.{◌≡◌, ◌≢◌, ◌⊎◌, ℕ, zero, suc, ◌+◌, ◌-◌, ◌*◌, ◌<◌, ◌≤◌, Bool, true, false, eqb, List, [], take, drop, length, Option, Some, None, refl, sym, ap, subst, ◌∙◌, arith, w32, ⊎_elim, inl, inr, eqb-true, eq-eqb}
+use Rattle.std.proofs.Common.{◌≡◌, ◌≢◌, ℕ, zero, suc, ◌+◌, ◌-◌, ◌*◌, ◌<◌, ◌≤◌, false, eqb, List, take, drop, length, Option, Some, None, sym, ap, subst, ◌∙◌, arith, w32, ⊎_elim, eqb-true, eq-eqb}
 use Rattle.std.proofs.lemmas.Bool.{false≢true}
 use Rattle.std.specs.Int.{from_be_bytes, to_be_bytes}
 use Rattle.gix_commitgraph.specs.Packed.{AreBytes}
@@ -7,7 +7,7 @@ use Rattle.gix_commitgraph.proofs.Packed.Takes.{chosen}
 use Rattle.gix_graph_file.specs.FileTable.{table_len, name_at, offset_at, chunk_from}
 use Rattle.gix_statement.proofs.HaveHistory.{below}
 use Rattle.gix_statement.specs.CommitGraph.{number_at, bytes_at, IsChunk}
-use Rattle.scratch_layers.proofs.FileNumbers.{letters_from, letters_other, long_is}
+use Rattle.gix_commands.proofs.FileNumbers.{letters_from, letters_other, long_is}
 
 pub eqb-false : (a b : ℕ) → eqb a b ≡ false → a ≢ b
 eqb-false a b e same = false≢true (sym e ∙ eq-eqb a b same)
@@ -36,9 +36,13 @@ module _ (file letters : List ℕ) (name count : ℕ) (small : AreBytes file) (f
   unfolding chunk_from
   chunk_found zero entry bytes ends before e = absurd (let no : ◌≡◌ {A = Option (List ℕ)} None (Some bytes) = e in cc)
   chunk_found (suc left) entry bytes ends before e = ⊎_elim
-      (λ h. let is : take (offset_at file (entry + 1) - offset_at file entry) (drop (offset_at file entry) file) ≡ bytes = (let s = h.1 in cc) in
-      (entry, omega (arith, ends, counted), named entry (omega (arith, ends)) (eqb-true (name_at file entry) name h.0), before,
-      sym is ∙ (same_bytes file (sym (offset entry (omega (arith, ends)))) (sym (next_offset entry (omega (arith, ends)))))))
+      (λ h. let is : take (offset_at file (entry + 1) - offset_at file entry) (drop (offset_at file entry) file) ≡ bytes = (let s = h.1 in cc) in (
+        entry,
+        omega (arith, ends, counted),
+        named entry (omega (arith, ends)) (eqb-true (name_at file entry) name h.0),
+        before,
+        sym is ∙ (same_bytes file (sym (offset entry (omega (arith, ends)))) (sym (next_offset entry (omega (arith, ends))))),
+      ))
       (λ h. chunk_found left (entry + 1) bytes (omega (arith, ends)) (later (eqb-false (name_at file entry) name h.0)) h.1)
       (chosen (eqb (name_at file entry) name) (Some (take (offset_at file (entry + 1) - offset_at file entry) (drop (offset_at file entry) file))) (chunk_from file name left (entry + 1)) (Some bytes) e)
     where
