@@ -38,6 +38,13 @@ mod OverGraphs
 mod OverStores
 mod Turns
 mod TextLines
+mod FileNumbers
+mod FileChunks
+mod FileParents
+mod FileRows
+mod FileHeads
+mod FileLayers
+mod FileOrder
 mod SameNumbers
 mod SameCommits
 mod SameTexts

@@ -1,6 +1,7 @@
 -- The layers of Git's commit-graph, opened as rows that can be used without a store.
-use Rattle.std.specs.Prelude.{◌≡◌, ◌≢◌, ◌⊎◌, ℕ, List, map, Vec, vec_items}
+use Rattle.std.specs.Prelude.{◌≡◌, ◌≢◌, ◌⊎◌, ℕ, List, map, All, Vec, vec_items}
 use Rattle.gix_hash.specs.declared.ObjectId.{ObjectId}
+use Rattle.gix_commitgraph.specs.Packed.{AreBytes}
 use Rattle.gix_commitgraph.specs.Rows.{GraphRow}
 use Rattle.gix_graph_check.specs.Sound.{AreSound, IsFirstUnsound}
 use Rattle.gix_graph_file.specs.declared.error.ChainError.{ChainError}
@@ -13,8 +14,9 @@ use Rattle.gix_words.specs.declared.fault.Fault.TheVariants as fault
 abbrev pub layers_seen : {Z : Type 0} → List (Vec ℕ Z) → List (List ℕ)
 layers_seen layers = map vec_items layers
 
--- the layers are a chain that reads as these rows, and all of them are sound
+-- the layers are bytes, and a chain that reads as these rows, and all of them are sound
 pub record Opens (layers : List (List ℕ)) (rows : List GraphRow) : Type 0 where
+  pub bytes : All AreBytes layers
   pub chain : HasChain layers rows
   pub sound : AreSound rows
 

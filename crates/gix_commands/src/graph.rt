@@ -1,5 +1,6 @@
 //! Git's commit-graph as rows that can be used without a store.
-ghost use Rattle.std.specs.Prelude.{◌≡◌, IfErr, IfOk};
+ghost use Rattle.std.specs.Prelude.{◌≡◌, All, IfErr, IfOk};
+ghost use Rattle.gix_commitgraph.specs.Packed.{AreBytes};
 ghost use Rattle.gix_graph_file.specs.Chain.{HasChain};
 ghost use Rattle.gix_graph_file.specs.ChainSteps.{files_seen};
 ghost use Rattle.gix_commands.specs.Opening.{FailsToOpen, Opens, layers_seen};
@@ -29,6 +30,7 @@ pub(crate) fn open(alloc: Global, layers: &[Vec<u8>]) -> Result<Graph, Fault>
 /// The rows of the layers.
 fn read_chain(alloc: Global, layers: &[Vec<u8>]) -> Result<Graph, Fault>
     ensures ok { IfOk result (HasChain (layers_seen layers.now)) }
+    ensures bytes { IfOk result (λ _. All AreBytes (layers_seen layers.now)) }
     ensures err { IfErr result (FailsToOpen (layers_seen layers.now)) }
 {
     let files = lend(alloc, layers)?;
@@ -41,11 +43,20 @@ fn read_chain(alloc: Global, layers: &[Vec<u8>]) -> Result<Graph, Fault>
 
 /// The bytes of each layer.
 fn lend(alloc: Global, layers: &[Vec<u8>]) -> Result<Vec<&[u8]>, AllocError>
-    ensures { IfOk result (λ files. files_seen files.items ≡ layers_seen layers.now) }
+    ensures files { IfOk result (λ files. files_seen files.items ≡ layers_seen layers.now) }
+    ensures bytes { IfOk result (λ files. All AreBytes (files_seen files.items)) }
 {
     let mut files = Vec::new(alloc);
     for layer in layers {
-        files.push(layer.as_slice())?;
+        files.push(bytes_of(layer))?;
     }
     Ok(files)
+}
+
+/// The bytes of a layer.
+fn bytes_of(layer: &Vec<u8>) -> &[u8]
+    ensures value { result.now ≡ layer.now.items }
+    ensures bytes { AreBytes result.now }
+{
+    layer.as_slice()
 }
