@@ -62,7 +62,7 @@ module _ (objects : Objects) where
   abbrev pub row_at : ObjectId → Commit → Row
   row_at i c = record { id = i; tree = c.tree; parents = c.parents; time = c.time }
 
-  whole_text : (i : ObjectId) (c : Commit) → commit_at objects i ≡ Some c → IsText (page_objects objects) (row_at i c)
+  pub whole_text : (i : ObjectId) (c : Commit) → commit_at objects i ≡ Some c → IsText (page_objects objects) (row_at i c)
   whole_text i c e =
       let at = commit_stored objects i (record { commit = c; stored = e }) in
       let t = (reads_texts (kind_of i) at.0 c).0 at.2 in
