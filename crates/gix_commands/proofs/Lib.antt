@@ -3,6 +3,7 @@ mod WordFaults
 mod WalkFaults
 mod MemoryFaults
 mod OutputFacts
+mod BrokenOff
 mod InternalFacts
 mod TreeFacts
 mod TopoInternalFacts
