@@ -5,8 +5,10 @@ use Rattle.gix_revwalk.specs.declared.Parents.TheVariants as mode
 use Rattle.gix_simple.specs.declared.Sorting.TheVariants as sorting
 use Rattle.gix_words.specs.declared.fault.Fault.TheVariants as fault
 use Rattle.gix_commands.specs.Ahead.{Counts, FailsToCount, Numbers, ahead_line}
-use Rattle.gix_commands.specs.Run.{Serves, not_written}
+use Rattle.gix_commands.specs.Output.{BreaksOff}
+use Rattle.gix_commands.specs.Run.{Serves}
 use Rattle.gix_commands.specs.Walked.{Walk, Answers, IsWalkFault, given, failed}
+use Rattle.gix_commands.proofs.BrokenOff.{written_or_begun}
 use Rattle.gix_commands.proofs.MemoryFaults.{failed_so}
 
 module _ {W E : Type 0} (Steps : W → Option (Result Info E) → W → Type 0) (Tells : E → Fault → Type 0) (walk : W) (infos : List Info) where
@@ -45,6 +47,5 @@ module _ (objects : Objects) (rows : List GraphRow) (old : Option (List ℕ)) (o
 
   -- the line was written, or the writer failed
   pub ahead_written : (new : Option (List ℕ)) (ahead behind : ℕ) (line : List ℕ) (result : Result (Unit {0}) Fault) → Counts objects rows one other ahead → Counts objects rows other one behind → line ≡ ahead_line ahead behind
-      → OnOk result (Appends old new line) → IfErr result (λ e. e ≡ fault.Write) → Serves objects rows old (Ahead one other) result new
-  ahead_written new ahead behind line (Ok done) a b is h k = counted ahead behind a b (subst (Appends old new) is h)
-  ahead_written new ahead behind line (Err e) a b is h k = subst (λ (f : Fault). Serves objects rows old (Ahead one other) (Err f) new) (sym k) not_written
+      → OnOk result (Appends old new line) → IfErr result (BreaksOff old new line) → Serves objects rows old (Ahead one other) result new
+  ahead_written new ahead behind line result a b is = written_or_begun objects rows old (Ahead one other) line (λ full h. counted ahead behind a b (subst (Appends old full) is h)) new result

@@ -9,7 +9,7 @@ use Rattle.gix_records.specs.Records.{Record, AreRecords}
 use Rattle.gix_commands.specs.Run.{Serves}
 use Rattle.gix_commands.specs.Walked.{Walk, Answers, IsWalkFault}
 use Rattle.gix_commands.proofs.SimpleRuns.{all_read, listed_none, listed_text, listed_whole}
-use Rattle.gix_commands.proofs.Parts.{by_texts}
+use Rattle.gix_commands.proofs.OtherParents.{by_texts}
 use Rattle.gix_commands.proofs.ListedCommits.{IsSimpleBy, kept_tips, lines_of_ids}
 
 abbrev pub ids_in : List Info → List ObjectId

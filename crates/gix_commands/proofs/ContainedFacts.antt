@@ -5,7 +5,9 @@ use Rattle.gix_contained.specs.declared.Error.{Error as ContainedError}
 use Rattle.gix_contained.specs.declared.Error.TheVariants as contained_error
 use Rattle.gix_contained.specs.Contained.{Selects, FailsBy}
 use Rattle.gix_words.specs.declared.fault.Fault.TheVariants as fault
-use Rattle.gix_commands.specs.Run.{Serves, not_written}
+use Rattle.gix_commands.specs.Output.{BreaksOff}
+use Rattle.gix_commands.specs.Run.{Serves}
+use Rattle.gix_commands.proofs.BrokenOff.{written_or_begun}
 use Rattle.gix_commands.proofs.MemoryFaults.{failed_so}
 
 module _ (objects : Objects) (rows : List GraphRow) (old : Option (List ℕ)) (tip : ObjectId) (ids : List ObjectId) where
@@ -26,6 +28,6 @@ module _ (objects : Objects) (rows : List GraphRow) (old : Option (List ℕ)) (t
 
     -- the lines were written, or the writer failed
     pub contained_written : (new : Option (List ℕ)) (those : List ObjectId) (lines : List ℕ) (result : Result (Unit {0}) Fault) → Selects store rows (tip ∷ []) asked those → lines ≡ flat_map line_of those
-        → OnOk result (Appends old new lines) → IfErr result (λ e. e ≡ fault.Write) → ServesSo result new
-    contained_written new those lines (Ok done) s is h k = selected those (subst (λ xs. Selects objects rows (tip ∷ []) xs those) of_ids (subst (λ all. Selects all rows (tip ∷ []) asked those) same s)) (subst (Appends old new) is h)
-    contained_written new those lines (Err e) s is h k = subst (λ (f : Fault). ServesSo (Err f) new) (sym k) not_written
+        → OnOk result (Appends old new lines) → IfErr result (BreaksOff old new lines) → ServesSo result new
+    contained_written new those lines result s is = written_or_begun objects rows old (Contained tip ids) lines
+        (λ full h. selected those (subst (λ xs. Selects objects rows (tip ∷ []) xs those) of_ids (subst (λ all. Selects all rows (tip ∷ []) asked those) same s)) (subst (Appends old full) is h)) new result

@@ -7,7 +7,9 @@ use Rattle.std.proofs.Math.Nat.{sub-zero}
 use Rattle.gix_tree.specs.Recorder.{Record}
 use Rattle.gix_words.specs.declared.fault.Fault.TheVariants as fault
 use Rattle.gix_commands.specs.Files.{IsWalkFaultOf, IsNameFaultOf}
-use Rattle.gix_commands.specs.Run.{Serves, listed, misnamed, not_written}
+use Rattle.gix_commands.specs.Output.{BreaksOff}
+use Rattle.gix_commands.specs.Run.{Serves, listed, misnamed}
+use Rattle.gix_commands.proofs.BrokenOff.{written_or_begun}
 use Rattle.gix_commands.proofs.MemoryFaults.{failed_so}
 
 -- six places, filled up with zeros
@@ -42,6 +44,7 @@ module _ (objects : Objects) (rows : List GraphRow) (old : Option (List ℕ)) (e
   files_failed store is result e same h = failed_so (λ r. Serves objects rows old (Files ending tree) r old) unserved result e same (λ other. tree_failed e (subst (λ o. IsTreeFault o tree e) is h other))
 
   -- the lines were written, or the writer failed
-  pub files_written : (store : Objects) → store ≡ objects → (new : Option (List ℕ)) (lines : List ℕ) (result : Result (Unit {0}) Fault) → AreLinesOf ending store tree lines → OnOk result (Appends old new lines) → IfErr result (λ e. e ≡ fault.Write) → Serves objects rows old (Files ending tree) result new
-  files_written store is new lines (Ok done) are h k = let so : AreLinesOf ending objects tree lines = subst (λ o. AreLinesOf ending o tree lines) is are in listed so.0 so.1 so.2 (subst (Appends old new) so.3 h)
-  files_written store is new lines (Err e) are h k = subst (λ (f : Fault). Serves objects rows old (Files ending tree) (Err f) new) (sym k) not_written
+  pub files_written : (store : Objects) → store ≡ objects → (new : Option (List ℕ)) (lines : List ℕ) (result : Result (Unit {0}) Fault) → AreLinesOf ending store tree lines → OnOk result (Appends old new lines) → IfErr result (BreaksOff old new lines) → Serves objects rows old (Files ending tree) result new
+  files_written store is new lines result are =
+      let so : AreLinesOf ending objects tree lines = subst (λ o. AreLinesOf ending o tree lines) is are in
+      written_or_begun objects rows old (Files ending tree) lines (λ full h. listed so.0 so.1 so.2 (subst (Appends old full) so.3 h)) new result

@@ -5,6 +5,8 @@ use Rattle.std.proofs.lemmas.List.{map-append}
 use Rattle.std.proofs.lemmas.Grind.{flat_map-append}
 use Rattle.std.proofs.KnownBytes.{Appends-nil, Appends-trans}
 use Rattle.gix_words.specs.declared.fault.Fault.TheVariants as fault
+use Rattle.std.specs.Io.KnownBytes.{append_known}
+use Rattle.gix_commands.specs.Output.{AddsBegun, AddsNone, BreaksOff, WritesBegun, added, broken_off, written, cut}
 use Rattle.gix_commands.specs.Walked.{given, failed}
 
 -- nothing was written
@@ -21,6 +23,15 @@ grows_more a b c x y z p q h k = (
 -- all that is buffered is written
 pub grows_end : (old mid new : Option (List ℕ)) (waits bytes : List ℕ) → Grows old [] mid waits bytes → Appends mid new waits → Appends old new bytes
 grows_end old mid new waits bytes h k = subst (Appends old new) (sym h.2) (Appends-trans old mid new h.0 waits h.1 k)
+
+-- what is written, and more
+pub appends_behind : (new : Option (List ℕ)) (more : List ℕ) → Appends new (append_known new more) more
+appends_behind None more = tt
+appends_behind (Some bytes) more = refl
+
+none_before : (some more : List ℕ) → some ++ more ≡ [] → some ≡ []
+none_before [] more e = refl
+none_before (b ∷ some) more e = cc
 
 pub lines_last : (infos : List Info) (info : Info) → lines_of (infos ++ info ∷ []) ≡ lines_of infos ++ line_of info.id
 lines_last infos info = flat_map-append (λ (i : Info). line_of i.id) infos (info ∷ []) ∙ ap (λ x. lines_of infos ++ x) (append-nil (line_of info.id))
@@ -62,43 +73,74 @@ module _ {W E : Type 0} where
 
       -- the walk's answer was a fault
       pub adds_failed : (limit : Option ℕ) (walk at drawn : W) (infos : List Info) (by : ByLimit limit walk infos) (answer : Result Info E) (e : E) (f : Fault) (old new : Option (List ℕ)) (waiting waits : List ℕ)
-          → Yields Steps walk (given infos) at → Steps at (Some answer) drawn → answer ≡ Err e → Tells e f → Grows old waiting new waits (lines_of infos) → Adds Steps Tells limit walk old waiting (Err f) new waits
-      adds_failed limit walk at drawn infos by answer e f old new waiting waits h step is tells grows = record {
+          → Yields Steps walk (given infos) at → Steps at (Some answer) drawn → answer ≡ Err e → Tells e f → Grows old waiting new waits (lines_of infos) → AddsBegun Steps Tells limit walk old waiting (Err f) new waits
+      adds_failed limit walk at drawn infos by answer e f old new waiting waits h step is tells grows = added (record {
         infos = infos;
         ends = by (Err f) (failed e f drawn (at, h, subst (λ (a : Result Info E). Steps at (Some a) drawn) is step) tells);
         grows = grows;
-      }
+      })
 
       -- a line couldn't be added
       pub adds_cut : (limit : Option ℕ) (walk at drawn : W) (infos : List Info) (by : ByLimit limit walk infos) (next : Result Info E) (info : Info) (e : Fault) (result : Result (Unit {0}) Fault) (a b c : Option (List ℕ)) (x y z : List ℕ)
-          → Yields Steps walk (given infos) at → Steps at (Some next) drawn → next ≡ Ok info → Grows a x b y (lines_of infos) → result ≡ Err e → (result ≡ Err fault.Write → ⊥) → (e ≡ fault.Write) ⊎ ((e ≡ fault.Memory) × Grows b y c z []) → Adds Steps Tells limit walk a x result c z
-      adds_cut limit walk at drawn infos by next info e result a b c x y z h step is grows same other (inl w) = absurd (other (same ∙ ap (λ f. Err f) w))
-      adds_cut limit walk at drawn infos by next info e result a b c x y z h step is grows same other (inr (m, more)) = record {
+          → Yields Steps walk (given infos) at → Steps at (Some next) drawn → next ≡ Ok info → Grows a x b y (lines_of infos) → result ≡ Err e → AddsNone b y c z e → AddsBegun Steps Tells limit walk a x result c z
+      adds_cut limit walk at drawn infos by next info e result a b c x y z h step is grows same (inl (breaks, empty)) =
+          subst (λ (r : Result (Unit {0}) Fault). AddsBegun Steps Tells limit walk a x r c z) (sym (same ∙ ap (λ f. Err f) breaks.0))
+          (broken_off {answer = Err fault.Memory} breaks.1.1 empty (record {
+            infos = infos;
+            ends = by (Err fault.Memory) (cut_short info drawn (at, h, subst (λ (a : Result Info E). Steps at (Some a) drawn) is step));
+            grows = (
+              grows.0 ++ breaks.1.0,
+              Appends-trans a b c grows.0 breaks.1.0 grows.1 breaks.1.3,
+              grows.2 ∙ ap (λ w. grows.0 ++ w) breaks.1.2 ∙ sym (append_assoc grows.0 breaks.1.0 breaks.1.1),
+            );
+          }))
+      adds_cut limit walk at drawn infos by next info e result a b c x y z h step is grows same (inr (m, more)) = added (record {
         infos = infos;
         ends = by result (subst (Ends Steps Tells walk infos) (sym (same ∙ ap (λ f. Err f) m)) (cut_short info drawn (at, h, subst (λ (a : Result Info E). Steps at (Some a) drawn) is step)));
         grows = subst (Grows a x c z) (append-nil (lines_of infos)) (grows_more a b c x y z (lines_of infos) [] grows more);
-      }
+      })
 
       -- the walk ended
-      pub adds_all : (limit : Option ℕ) (walk at drawn : W) (infos : List Info) (by : ByLimit limit walk infos) (old new : Option (List ℕ)) (waiting waits : List ℕ) → Yields Steps walk (given infos) at → Steps at None drawn → Grows old waiting new waits (lines_of infos) → Adds Steps Tells limit walk old waiting (Ok tt) new waits
-      adds_all limit walk at drawn infos by old new waiting waits h step grows = record {
+      pub adds_all : (limit : Option ℕ) (walk at drawn : W) (infos : List Info) (by : ByLimit limit walk infos) (old new : Option (List ℕ)) (waiting waits : List ℕ) → Yields Steps walk (given infos) at → Steps at None drawn → Grows old waiting new waits (lines_of infos) → AddsBegun Steps Tells limit walk old waiting (Ok tt) new waits
+      adds_all limit walk at drawn infos by old new waiting waits h step grows = added (record {
         infos = infos;
         ends = by (Ok tt) (finished drawn (at, h, step));
         grows = grows;
-      }
+      })
 
       -- as many were drawn as were asked for
-      pub adds_enough : (n : ℕ) (walk at : W) (infos : List Info) (old new : Option (List ℕ)) (waiting waits : List ℕ) → Yields Steps walk (given infos) at → length infos ≡ n → Grows old waiting new waits (lines_of infos) → Adds Steps Tells (Some n) walk old waiting (Ok tt) new waits
-      adds_enough n walk at infos old new waiting waits h all grows = record {
+      pub adds_enough : (n : ℕ) (walk at : W) (infos : List Info) (old new : Option (List ℕ)) (waiting waits : List ℕ) → Yields Steps walk (given infos) at → length infos ≡ n → Grows old waiting new waits (lines_of infos) → AddsBegun Steps Tells (Some n) walk old waiting (Ok tt) new waits
+      adds_enough n walk at infos old new waiting waits h all grows = added (record {
         infos = infos;
         ends = enough at h all;
         grows = grows;
-      }
+      })
 
-      -- what was buffered was written
-      pub all_written : (limit : Option ℕ) (walk : W) (old mid new : Option (List ℕ)) (waiting waits : List ℕ) (answer : Result (Unit {0}) Fault) → Adds Steps Tells limit walk old waiting answer mid waits → waiting ≡ [] → Appends mid new waits → WritesAll Steps Tells limit walk old answer new
-      all_written limit walk old mid new waiting waits answer h none k = record {
-        infos = h.infos;
-        ends = h.ends;
-        appends = grows_end old mid new waits (lines_of h.infos) (subst (λ (w : List ℕ). Grows old w mid waits (lines_of h.infos)) none h.grows) k;
-      }
+      module _ (limit : Option ℕ) (walk : W) (old mid new : Option (List ℕ)) (waiting : List ℕ) (none : waiting ≡ []) where
+        -- what was added goes on behind what is written
+        added_behind : (waits : List ℕ) (answer : Result (Unit {0}) Fault) (some more : List ℕ) → Adds Steps Tells limit walk old waiting answer mid waits → waits ≡ some ++ more → Appends mid new some → WritesBegun Steps Tells limit walk old (Err fault.Write) new
+        added_behind waits answer some more h whole a =
+            let start = Appends-trans old mid new h.grows.0 some h.grows.1 a in
+            cut {answer = answer} {full = append_known new more} (h.grows.0 ++ some) more (record {
+              infos = h.infos;
+              ends = h.ends;
+              appends = subst (Appends old (append_known new more)) (sym (ap (λ w. w ++ lines_of h.infos) (sym none) ∙ h.grows.2 ∙ ap (λ w. h.grows.0 ++ w) whole ∙ sym (append_assoc h.grows.0 some more)))
+              (Appends-trans old new (append_known new more) (h.grows.0 ++ some) more start (appends_behind new more));
+            }) start (appends_behind new more)
+
+        -- what was buffered was written
+        pub all_written : {waits : List ℕ} {answer : Result (Unit {0}) Fault} → AddsBegun Steps Tells limit walk old waiting answer mid waits → Appends mid new waits → WritesBegun Steps Tells limit walk old answer new
+        all_written {waits} {answer} (added h) k = written (record {
+          infos = h.infos;
+          ends = h.ends;
+          appends = grows_end old mid new waits (lines_of h.infos) (subst (λ (w : List ℕ). Grows old w mid waits (lines_of h.infos)) none h.grows) k;
+        })
+        all_written (broken_off {answer = answer} more empty h) k = added_behind more answer [] more h refl (subst (Appends mid new) empty k)
+
+        -- the writer failed, and a beginning of what was buffered was written
+        pub begun_written : {waits : List ℕ} {answer result : Result (Unit {0}) Fault} (e : Fault) → AddsBegun Steps Tells limit walk old waiting answer mid waits → BreaksOff mid new waits e → result ≡ Err e → WritesBegun Steps Tells limit walk old result new
+        begun_written {waits} {answer} {result} e h breaks same = subst (λ (r : Result (Unit {0}) Fault). WritesBegun Steps Tells limit walk old r new) (sym (same ∙ ap (λ f. Err f) breaks.0)) (go h breaks.1.2)
+          where
+            go : {answer : Result (Unit {0}) Fault} {waits : List ℕ} → AddsBegun Steps Tells limit walk old waiting answer mid waits → waits ≡ breaks.1.0 ++ breaks.1.1 → WritesBegun Steps Tells limit walk old (Err fault.Write) new
+            go {answer} {waits} (added h) whole = added_behind waits answer breaks.1.0 breaks.1.1 h whole breaks.1.3
+            go (broken_off {answer = answer} more empty h) whole = added_behind more answer [] more h refl (subst (Appends mid new) (none_before breaks.1.0 breaks.1.1 (sym whole ∙ empty)) breaks.1.3)

@@ -7,8 +7,8 @@ use Rattle.gix_statement.specs.WholeStatement.{AreFed, IsCommit, Promises, Row}
 use Rattle.gix_commands.specs.Everywhere.{PromisedEverywhere}
 use Rattle.gix_commands.specs.Pages.{page_objects}
 use Rattle.gix_commands.specs.Readable.{readable, reads_all_lines}
-use Rattle.gix_commands.proofs.FedCommits.{agree}
-use Rattle.gix_commands.proofs.FedRuns.{right, unrowed_read}
+use Rattle.gix_commands.proofs.PageCommits.{agree}
+use Rattle.gix_commands.proofs.RightRuns.{right, unrowed_read}
 use Rattle.gix_commands.proofs.Promised.{promised}
 use Rattle.gix_commands.proofs.ReadableTexts.{have_texts, text_kept, tree_kept}
 use Rattle.gix_commands.proofs.SameCommits.{are_fed}

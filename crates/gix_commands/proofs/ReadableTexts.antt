@@ -13,10 +13,10 @@ use Rattle.gix_statement.specs.WholeStatement as page
 use Rattle.gix_statement.specs.WholeStatement.{Entry, IsText, IsThere, IsTree, Row}
 use Rattle.gix_commands.specs.Pages.{AreCommits, HaveTexts, as_page, page_objects}
 use Rattle.gix_commands.specs.Readable.{is_faultless, is_text, or_zero, readable, readable_bytes, readable_object, reads_all_lines}
-use Rattle.gix_commands.proofs.FedTexts.{text_there}
+use Rattle.gix_commands.proofs.PageTexts.{text_there}
 use Rattle.gix_commands.proofs.ReadableObjects.{get-readable}
 use Rattle.gix_commands.proofs.SameCommits.{held_back}
-use Rattle.gix_commands.proofs.SameHistory.{is_commit_kind}
+use Rattle.gix_commands.proofs.SameCommits.{is_commit_kind}
 
 -- an object of a kind, as it was, and what is read of it
 record IsReadOf (all_lines : Bool) (objects : Objects) (i : ObjectId) (word bytes : List ℕ) : Type 0 where

@@ -17,8 +17,10 @@ use Rattle.gix_records.specs.Reading as reading
 use Rattle.gix_records.specs.Records.{Record, AreRecords}
 use Rattle.gix_simple.specs.declared.Sorting.TheVariants as sorting
 use Rattle.gix_commands.specs.Checked.{CheckedWalk, Checks, first_lost}
+use Rattle.gix_commands.specs.Output as output
+use Rattle.gix_commands.specs.Output.{WritesBegun, cut}
 use Rattle.gix_commands.specs.Run as run
-use Rattle.gix_commands.specs.Run.{Serves, listed, misnamed, not_written}
+use Rattle.gix_commands.specs.Run.{Serves, listed, misnamed, cut_off}
 use Rattle.gix_commands.specs.TopoWalked as topo
 use Rattle.gix_commands.specs.Walked.{Walk, Answers, IsWalkFault, failed}
 use Rattle.gix_commands.proofs.CheckedWalks.{IsChecked, IsItself, from_by, well, lacking}
@@ -82,7 +84,7 @@ serves_sound agreeing (not_behind n a f) = ends_sound f.1.ends
 serves_sound agreeing (selected those s a) = λ e. cc
 serves_sound {objects} {rows} agreeing (not_selected {tip = tip} {ids = ids} why f) = λ same. contained_sound objects rows (tip ∷ []) ids why f (err_same same)
 serves_sound agreeing unserved = λ e. cc
-serves_sound agreeing not_written = λ e. cc
+serves_sound agreeing (cut_off some more s a b) = λ e. cc
 
 pub runs_sound : {words : List (List ℕ)} {has old : Option (List ℕ)} {answer : Result (Unit {0}) Fault} {new : Option (List ℕ)} → Runs words has old answer new → answer ≢ Err fault.Internal
 runs_sound without_memory = λ e. cc
@@ -123,30 +125,16 @@ module _ (words : List (List ℕ)) (has old : Option (List ℕ)) where
     runs_served result s = served request read.0 read.1 t read.2 read.3 (subst (λ (o : Objects). Serves o [] old request result new) (without_rows objects ∙ read.4) s)
 
 module _ (objects : Objects) (rows : List GraphRow) (old : Option (List ℕ)) (order : Order) (limit : Option ℕ) (tips hidden : List ObjectId) where
-  -- the walk was drawn
-  module _ {W E : Type 0} (Steps : W → Option (Result Info E) → W → Type 0) (Tells : E → Fault → Type 0) (new : Option (List ℕ)) (walk : W) (serves : (result : Result (Unit {0}) Fault) → WritesAll Steps Tells limit walk old result new → Serves objects rows old (Commits order limit tips hidden) result new) where
-    serves_drawn : (result : Result (Unit {0}) Fault) → (result ≢ Err fault.Write → WritesAll Steps Tells limit walk old result new) → Serves objects rows old (Commits order limit tips hidden) result new
-    serves_drawn (Err fault.Write) w = not_written
-    serves_drawn (Ok done) w = serves _ (w (λ e. cc))
-    serves_drawn (Err fault.Memory) w = serves _ (w (λ e. cc))
-    serves_drawn (Err fault.Usage) w = serves _ (w (λ e. cc))
-    serves_drawn (Err (fault.Id n)) w = serves _ (w (λ e. cc))
-    serves_drawn (Err (fault.Record n)) w = serves _ (w (λ e. cc))
-    serves_drawn (Err (fault.Missing i)) w = serves _ (w (λ e. cc))
-    serves_drawn (Err (fault.WrongKind i)) w = serves _ (w (λ e. cc))
-    serves_drawn (Err fault.Broken) w = serves _ (w (λ e. cc))
-    serves_drawn (Err (fault.Cycle i)) w = serves _ (w (λ e. cc))
-    serves_drawn (Err (fault.Name i)) w = serves _ (w (λ e. cc))
-    serves_drawn (Err (fault.Graph e)) w = serves _ (w (λ e. cc))
-    serves_drawn (Err (fault.Row i)) w = serves _ (w (λ e. cc))
-    serves_drawn (Err (fault.Disagrees i)) w = serves _ (w (λ e. cc))
-    serves_drawn (Err fault.Read) w = serves _ (w (λ e. cc))
-    serves_drawn (Err fault.Internal) w = serves _ (w (λ e. cc))
+  -- the walk was drawn, and all of its lines were written or a beginning of them
+  module _ {W E : Type 0} (Steps : W → Option (Result Info E) → W → Type 0) (Tells : E → Fault → Type 0) (walk : W) (serves : (result : Result (Unit {0}) Fault) (new : Option (List ℕ)) → WritesAll Steps Tells limit walk old result new → Serves objects rows old (Commits order limit tips hidden) result new) where
+    serves_drawn : {result : Result (Unit {0}) Fault} {new : Option (List ℕ)} → WritesBegun Steps Tells limit walk old result new → Serves objects rows old (Commits order limit tips hidden) result new
+    serves_drawn {result} {new} (output.written w) = serves result new w
+    serves_drawn (cut {answer = answer} {full = full} some more w a b) = cut_off some more (serves answer full w) a b
 
 module _ (objects : Objects) (rows : List GraphRow) (old : Option (List ℕ)) (m : Parents) (by : Sorting) (limit : Option ℕ) (tips hidden : List ObjectId) where
   -- breadth first
-  pub serves_walk : (new : Option (List ℕ)) (walk : Walk) → by ≡ sorting.BreadthFirst → StartsFrom objects rows m by tips hidden walk → (result : Result (Unit {0}) Fault) → (result ≢ Err fault.Write → WritesAll Answers IsWalkFault limit walk old result new) → Serves objects rows old (Commits (Simple m by) limit tips hidden) result new
-  serves_walk new walk breadth starts = serves_drawn objects rows old (Simple m by) limit tips hidden Answers IsWalkFault new walk (λ _ w. walked walk w.infos starts w.ends (λ other. absurd (other breadth)) w.appends)
+  pub serves_walk : (new : Option (List ℕ)) (walk : Walk) → by ≡ sorting.BreadthFirst → StartsFrom objects rows m by tips hidden walk → (result : Result (Unit {0}) Fault) → WritesBegun Answers IsWalkFault limit walk old result new → Serves objects rows old (Commits (Simple m by) limit tips hidden) result new
+  serves_walk new walk breadth starts result = serves_drawn objects rows old (Simple m by) limit tips hidden Answers IsWalkFault walk (λ _ _ w. walked walk w.infos starts w.ends (λ other. absurd (other breadth)) w.appends)
 
   -- by time, by a checked walk
   checked_so : (new : Option (List ℕ)) (walk : Walk) → by ≢ sorting.BreadthFirst → StartsFrom objects rows m by tips hidden walk → (infos : List Info) → Appends old new (lines_of infos) → {result : Result (Unit {0}) Fault} → IsChecked objects rows walk limit infos result → Serves objects rows old (Commits (Simple m by) limit tips hidden) result new
@@ -154,9 +142,9 @@ module _ (objects : Objects) (rows : List GraphRow) (old : Option (List ℕ)) (m
   checked_so new walk other starts infos written (lacking at h more l) = run.lost walk at infos other starts h more l written
 
   pub serves_checked : (new : Option (List ℕ)) (walk : Walk) (checked : CheckedWalk) → checked ≡ record { walk = walk; objects = objects; rows = rows; lost = None } → by ≢ sorting.BreadthFirst → StartsFrom objects rows m by tips hidden walk
-      → (result : Result (Unit {0}) Fault) → (result ≢ Err fault.Write → WritesAll Checks IsItself limit checked old result new) → Serves objects rows old (Commits (Simple m by) limit tips hidden) result new
-  serves_checked new walk checked is other starts = serves_drawn objects rows old (Simple m by) limit tips hidden Checks IsItself new checked
-      (λ result w. checked_so new walk other starts w.infos w.appends (from_by objects rows walk limit w.infos result (subst (λ c. EndsBy Checks IsItself limit c w.infos result) is w.ends)))
+      → (result : Result (Unit {0}) Fault) → WritesBegun Checks IsItself limit checked old result new → Serves objects rows old (Commits (Simple m by) limit tips hidden) result new
+  serves_checked _ walk checked is other starts _ = serves_drawn objects rows old (Simple m by) limit tips hidden Checks IsItself checked
+      (λ result new w. checked_so new walk other starts w.infos w.appends (from_by objects rows walk limit w.infos result (subst (λ c. EndsBy Checks IsItself limit c w.infos result) is w.ends)))
 
   not_started : (e : Fault) → (why : Error) × FailsAtStart objects by tips why × (e ≡ fault_of_walk why) → Serves objects rows old (Commits (Simple m by) limit tips hidden) (Err e) old
   not_started e h = subst (λ (f : Fault). Serves objects rows old (Commits (Simple m by) limit tips hidden) (Err f) old) (sym h.2) (not_walked h.0 h.1)
@@ -166,8 +154,8 @@ module _ (objects : Objects) (rows : List GraphRow) (old : Option (List ℕ)) (m
   serves_no_walk result e same h = failed_so (λ r. Serves objects rows old (Commits (Simple m by) limit tips hidden) r old) unserved result e same (λ other. not_started e (h other))
 
 module _ (objects : Objects) (rows : List GraphRow) (old : Option (List ℕ)) (by : TopoSorting) (limit : Option ℕ) (tips ends : List ObjectId) where
-  pub serves_topo : (new : Option (List ℕ)) (walk : topo.Walk) → topo.IsBuiltFrom objects rows by tips ends (Ok walk) → (result : Result (Unit {0}) Fault) → (result ≢ Err fault.Write → WritesAll topo.Answers topo.IsWalkFault limit walk old result new) → Serves objects rows old (Commits (Topo by) limit tips ends) result new
-  serves_topo new walk built = serves_drawn objects rows old (Topo by) limit tips ends topo.Answers topo.IsWalkFault new walk (λ _ w. walked_down walk w.infos built w.ends w.appends)
+  pub serves_topo : (new : Option (List ℕ)) (walk : topo.Walk) → topo.IsBuiltFrom objects rows by tips ends (Ok walk) → (result : Result (Unit {0}) Fault) → WritesBegun topo.Answers topo.IsWalkFault limit walk old result new → Serves objects rows old (Commits (Topo by) limit tips ends) result new
+  serves_topo new walk built result = serves_drawn objects rows old (Topo by) limit tips ends topo.Answers topo.IsWalkFault walk (λ _ _ w. walked_down walk w.infos built w.ends w.appends)
 
   topo_not_built : (e : Fault) → (why : TopoError) × topo.IsBuiltFrom objects rows by tips ends (Err why) × (e ≡ fault_of_topo_walk why) → Serves objects rows old (Commits (Topo by) limit tips ends) (Err e) old
   topo_not_built e h = subst (λ (f : Fault). Serves objects rows old (Commits (Topo by) limit tips ends) (Err f) old) (sym h.2) (not_built h.0 h.1)

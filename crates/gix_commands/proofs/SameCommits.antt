@@ -250,3 +250,9 @@ is_time signature = ⊎_elim
     (λ h. subst (IsTime signature) (sym (ap seconds_behind h.1)) (unsigned h.0))
     (λ h. let s : Spaced h.0 = spaced h.0 in subst (IsTime signature) (sym (ap seconds_behind h.2)) (signed signature h.0 (without_spaces h.0) s.spaces h.1 s.whole s.stops))
     (behind None signature)
+
+pub is_commit_kind : (k : ObjectKind) → kind_word k ≡ codes "commit" → k ≡ kind.Commit
+is_commit_kind kind.Commit e = refl
+is_commit_kind kind.Tree e = cc
+is_commit_kind kind.Blob e = cc
+is_commit_kind kind.Tag e = cc

@@ -161,3 +161,8 @@ front n (b ∷ text) = go (front (10 * n + (b - 48)) text) (is_ascii_digit b) re
 
 pub counts : (text : List ℕ) → Counts text (digits_from 0 text)
 counts text = let f : Front 0 text = front 0 text in (f.number, f.rest, f.whole, f.all, f.stops, f.value)
+
+-- an id has as many digits as its kind
+pub own_width : (i : ObjectId) → width_of (kind_of i) ≡ digits_in i
+own_width (id.Sha1 bytes) = refl
+own_width (id.Sha256 bytes) = refl

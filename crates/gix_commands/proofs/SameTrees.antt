@@ -23,7 +23,7 @@ use Rattle.gix_statement.specs.WholeStatement.{Unfolds}
 use Rattle.gix_commands.specs.Pages.{page_objects}
 use Rattle.gix_commands.proofs.SameNumbers.{is_octal_number, width_of}
 use Rattle.gix_commands.proofs.SameCommits.{IsHeld, held}
-use Rattle.gix_commands.proofs.SameHistory.{own_width}
+use Rattle.gix_commands.proofs.SameNumbers.{own_width}
 use Rattle.gix_commands.proofs.TreeFacts.{leaves_mode, enters_mode}
 
 -- an entry, as the statement has it

@@ -1,6 +1,6 @@
 -- What a simple walk over records gives up to a limit: the first commits of a list of what is reached.
-use Rattle.std.proofs.Common.{◌≡◌, ◌≢◌, ◌-◌, ℤ, List, [], ◌∷◌, ◌++◌, length, map, take, filter, Bool, true, false, not, Option, None, Some, Ok, Contains, refl, sym, ap, subst, ◌∙◌, arith}
-use Rattle.gix_commands.proofs.Common.{by_mode, ReadsParents, Yields, transport, false≢true, Contains-append_left, ObjectId, is_among, among_from, among_is, filter_within, Objects, GraphRow, CommitTimeOrder, Info, Parents, IsAgreeing, parents_of, time_of}
+use Rattle.std.proofs.Common.{◌≡◌, ◌≢◌, ◌≤◌, ◌-◌, ℕ, zero, suc, ⊎_elim, ℤ, List, [], ◌∷◌, ◌++◌, length, map, take, filter, Bool, true, false, not, Option, None, Some, Ok, Contains, refl, sym, ap, subst, ◌∙◌, arith}
+use Rattle.gix_commands.proofs.Common.{by_mode, ReadsParents, Yields, transport, false≢true, Contains-append_left, Contains-cons_cases, Contains-here, Contains-there, no_member, ObjectId, is_among, among_from, among_is, filter_within, Objects, GraphRow, CommitTimeOrder, Info, Parents, IsAgreeing, parents_of, time_of}
 use Rattle.gix_commands.proofs.Common.{ids_of, new_ids, text_next, reach_more, reached_list, text_whole, GivesBeginning, IsBeginning, IsBegunRun, time_order, all_kept, begun_once, begun_whole, no_start, whole_from, named_all}
 use Rattle.gix_commands.proofs.Common.{reached_known, AreWhole, StartsFrom, objects_of, never_faulty, accepts_all}
 use Rattle.std.proofs.lemmas.List.{length-map}
@@ -12,11 +12,21 @@ use Rattle.gix_simple.proofs.Faultless.{text_beginning}
 use Rattle.gix_commands.specs.Walked.{Walk, Answers, given}
 use Rattle.gix_commands.proofs.GoesOn.{order_goes_on}
 use Rattle.gix_commands.proofs.KeptLists.{followed_within, kept, list_of, starts_kept}
-use Rattle.gix_commands.proofs.Parts.{by_texts}
-use Rattle.gix_commands.proofs.SameBeginnings.{front}
+use Rattle.gix_commands.proofs.OtherParents.{by_texts}
 use Rattle.gix_commands.proofs.TopoRuns.{named_whole}
 use Rattle.gix_commands.proofs.SimpleRuns.{PaintedWhole, by_test, fresh, from_pending, given_for, left_whole, names_kept, no_faults, no_ids, opened, pending, same, same_ids, test, unrefused, was_read}
 use Rattle.gix_commands.proofs.ListedCommits.{IsSimpleBy, ListsBy, followed, kept_tips}
+
+-- the first of a list are among more of the first
+pub take_less : (k n : ℕ) (xs : List ObjectId) (i : ObjectId) → k ≤ n → Contains (take k xs) i → Contains (take n xs) i
+take_less zero n xs i less c = absurd (no_member i c)
+take_less (suc k) zero xs i less c = absurd (omega arith)
+take_less (suc k) (suc n) [] i less c = c
+take_less (suc k) (suc n) (x ∷ xs) i less c = ⊎_elim (λ e. subst (λ y. Contains (x ∷ take n xs) y) e (Contains-here x (take n xs))) (λ m. Contains-there i x (take n xs) (take_less k n xs i (omega arith) m)) (Contains-cons_cases i x (take k xs) c)
+
+-- all but the last
+abbrev pub front : List ObjectId → List ObjectId
+front ids = take (length ids - 1) ids
 
 -- the ids are the first of such a list
 abbrev pub AreFirstOf : (List ObjectId → Type 0) → List ObjectId → Type 0

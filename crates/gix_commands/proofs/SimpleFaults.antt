@@ -210,7 +210,7 @@ module _ (objects : Objects) (rows : List GraphRow) (agreeing : IsAgreeing objec
       failed_so EndsWell tt (Err why) why refl (λ not_memory. let no : None ≡ Some why = sym (none_lost objects tips hiders whole rows agreeing ms by walk starts infos at h l.last last) ∙ l.lacks not_memory in cc)
   well ms by limit tips hiders whole answer new (not_walked e f) = started_well objects tips hiders whole by e f
   well ms by limit tips hiders whole answer new unserved = tt
-  well ms by limit tips hiders whole answer new (cut_off some more s a b) = tt
+  well ms by limit tips hiders whole answer new (cut_off some behind s a b) = tt
 
   pub ahead_well : (one other : ObjectId) → AreWhole objects (one ∷ other ∷ []) → (answer : Result (Unit {0}) Fault) (new : Option (List ℕ)) → Serves objects rows old (Ahead one other) answer new → EndsWell answer
   ahead_well one other whole answer new (counted ahead behind a b written) = tt
@@ -220,7 +220,7 @@ module _ (objects : Objects) (rows : List GraphRow) (agreeing : IsAgreeing objec
       turned : AreWhole objects (other ∷ one ∷ [])
       turned i r = whole i (reach_more (parents_of objects) (other ∷ one ∷ []) (one ∷ other ∷ []) (λ j c. ⊎_elim (λ e. Contains-there j one (other ∷ []) (subst (λ k. Contains (other ∷ []) k) e (Contains-here other []))) (λ m. ⊎_elim (λ e. subst (λ k. Contains (one ∷ other ∷ []) k) e (Contains-here one (other ∷ []))) (λ n. absurd (no_member j n)) (Contains-cons_cases j one [] m)) (Contains-cons_cases j other (one ∷ []) c)) i r)
   ahead_well one other whole answer new unserved = tt
-  ahead_well one other whole answer new (cut_off some more s a b) = tt
+  ahead_well one other whole answer new (cut_off some behind s a b) = tt
 
 pub simple_succeeds : SimpleSucceeds
 simple_succeeds words input records ms by limit tips hiders answer old new asked are whole runs =

@@ -17,7 +17,7 @@ use Rattle.gix_words.specs.declared.fault.Fault.TheVariants as fault
 use Rattle.gix_commands.specs.Checked.{first_lost}
 use Rattle.gix_commands.specs.Opening.{IsOpeningFault}
 use Rattle.gix_commands.specs.Run as run
-use Rattle.gix_commands.specs.Run.{Serves, listed, misnamed, not_written}
+use Rattle.gix_commands.specs.Run.{Serves, listed, misnamed, cut_off}
 use Rattle.gix_commands.specs.TopoWalked as topo
 use Rattle.gix_commands.specs.Walked.{Answers, IsWalkFault, failed}
 use Rattle.gix_commands.proofs.LostParents.{lost_so}
@@ -113,7 +113,7 @@ serves_of_walk (not_behind n a f) = ends_of_walk simple_tells f.1.ends
 serves_of_walk (selected those s a) = tt
 serves_of_walk (not_selected why f) = contained_of_walk why
 serves_of_walk unserved = tt
-serves_of_walk not_written = tt
+serves_of_walk (cut_off some more s a b) = tt
 
 -- a walk has no fault of layers that aren't opened
 pub walk_opened : {answer : Result (Unit {0}) Fault} (e : Fault) → OfWalk answer → answer ≡ Err e → IsOpeningFault e → ⊥

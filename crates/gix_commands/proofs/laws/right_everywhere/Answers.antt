@@ -1,4 +1,4 @@
-use Rattle.gix_commands.proofs.FedRuns as fed
+use Rattle.gix_commands.proofs.RightRuns as fed
 use Rattle.gix_commands.proofs.laws.right_everywhere.Goals as goal
 
 pub returns : goal.returns

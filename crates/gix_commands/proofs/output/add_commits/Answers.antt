@@ -11,12 +11,12 @@ loop-answer-init g c = record {
 }
 
 pub returns-in-Err : goal.returns-in-Err
-returns-in-Err g c = λ _. adds_failed g.I.Iterator.next_gives g.E.Into.converts None _ _ _ _ (λ answer ends. ends) _ _ _ _ _ _ _ c.loop-answer.invariant.drawn c.in-Some.ensures.steps c.in-Err.is c.into.ensures c.loop-answer.invariant.grows
+returns-in-Err g c = adds_failed g.I.Iterator.next_gives g.E.Into.converts None _ _ _ _ (λ answer ends. ends) _ _ _ _ _ _ _ c.loop-answer.invariant.drawn c.in-Some.ensures.steps c.in-Err.is c.into.ensures c.loop-answer.invariant.grows
 
 pub returns-in_err-add_line : goal.returns-in_err-add_line
 returns-in_err-add_line g c =
     let p = err_from_is_err_and c.from_residual.result c.from_residual.ensures.1 in
-    λ other. adds_cut g.I.Iterator.next_gives g.E.Into.converts None _ _ _ _ (λ answer ends. ends) _ _ _ _ _ _ _ _ _ _ c.loop-answer.invariant.drawn c.in-Some.ensures.steps c.in-Ok.is c.loop-answer.invariant.grows (p.1 ∙ ap (λ f. Err f) p.2) other c.in_err-add_line.ensures.err
+    adds_cut g.I.Iterator.next_gives g.E.Into.converts None _ _ _ _ (λ answer ends. ends) _ _ _ _ _ _ _ _ _ _ c.loop-answer.invariant.drawn c.in-Some.ensures.steps c.in-Ok.is c.loop-answer.invariant.grows (p.1 ∙ ap (λ f. Err f) p.2) c.in_err-add_line.ensures.err
 
 pub loop-answer-preserved-in_ok-add_line : goal.loop-answer-preserved-in_ok-add_line
 loop-answer-preserved-in_ok-add_line g c = record {
@@ -33,4 +33,4 @@ loop-answer-preserved g c = record {
 }
 
 pub returns : goal.returns
-returns g c = λ _. adds_all g.I.Iterator.next_gives g.E.Into.converts None _ _ _ _ (λ answer ends. ends) _ _ _ _ c.loop-answer.invariant.drawn c.in-None.ensures.steps c.loop-answer.invariant.grows
+returns g c = adds_all g.I.Iterator.next_gives g.E.Into.converts None _ _ _ _ (λ answer ends. ends) _ _ _ _ c.loop-answer.invariant.drawn c.in-None.ensures.steps c.loop-answer.invariant.grows

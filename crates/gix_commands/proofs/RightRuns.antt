@@ -16,10 +16,10 @@ use Rattle.gix_commands.specs.Run.{Serves, cut_off, misnamed}
 use Rattle.gix_commands.specs.TopoWalked.{Walk as TopoWalk}
 use Rattle.gix_commands.proofs.AheadRuns.{counted_so, counted_whole}
 use Rattle.gix_commands.proofs.ContainedRuns.{selected_so}
-use Rattle.gix_commands.proofs.FedSimple.{simple_right}
-use Rattle.gix_commands.proofs.FedCommits.{all_there, fed_history, reached_there}
-use Rattle.gix_commands.proofs.FedTexts.{scan_faultless, text_there}
-use Rattle.gix_commands.proofs.FedTopo.{topo_right}
+use Rattle.gix_commands.proofs.RightSimple.{simple_right}
+use Rattle.gix_commands.proofs.PageCommits.{all_there, fed_history, reached_there}
+use Rattle.gix_commands.proofs.PageTexts.{scan_faultless, text_there}
+use Rattle.gix_commands.proofs.RightTopo.{topo_right}
 use Rattle.gix_commands.proofs.Right.{cut_right}
 use Rattle.gix_commands.proofs.SameCommits.{held}
 use Rattle.gix_commands.proofs.SameContained.{contained_kept}
@@ -27,7 +27,7 @@ use Rattle.gix_commands.proofs.SameLists.{id_lines, number_shown}
 use Rattle.gix_commands.proofs.SameWords.{AreWordsOf, are_words}
 use Rattle.gix_commands.proofs.TextNumbers.{number_by_texts}
 use Rattle.gix_commands.proofs.TopoRuns.{was_read}
-use Rattle.gix_commands.proofs.WholeRuns.{tree_written}
+use Rattle.gix_commands.proofs.RightTrees.{tree_written}
 
 -- a topological walk that was built has read all that its tips and ends reach
 abbrev pub AreRead : Objects → List GraphRow → Type 0

@@ -12,7 +12,8 @@ use Rattle.gix_commands.proofs.TextLines as named
 use Rattle.gix_commands.proofs.TextLines.{IsTime, unsigned, positive, negative}
 use Rattle.gix_commands.proofs.SameNumbers.{width_of}
 use Rattle.gix_commands.proofs.SameCommits.{IsTextOf, commit_text, commit_text_back, held, held_back, is_time, signed_rest}
-use Rattle.gix_commands.proofs.SameHistory.{is_commit_kind, own_width}
+use Rattle.gix_commands.proofs.SameCommits.{is_commit_kind}
+use Rattle.gix_commands.proofs.SameNumbers.{own_width}
 use Rattle.gix_commands.proofs.SameOrders.{reaches_back}
 use Rattle.gix_commands.proofs.SameTexts.{texts}
 use Rattle.gix_commands.proofs.TextNumbers.{by_commits}

@@ -12,7 +12,7 @@ use Rattle.gix_statement.proofs.HaveHistory.{a_time}
 use Rattle.gix_statement.specs.WholeStatement.{AreParentLines, IsText, IsThere, Row}
 use Rattle.gix_commands.specs.Pages.{page_objects}
 use Rattle.gix_commands.proofs.SameCommits.{held}
-use Rattle.gix_commands.proofs.SameHistory.{own_width}
+use Rattle.gix_commands.proofs.SameNumbers.{own_width}
 use Rattle.gix_commands.proofs.SameNumbers.{spelled, width_of}
 
 -- a text that isn't empty has something at its front

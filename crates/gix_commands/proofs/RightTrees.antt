@@ -1,4 +1,4 @@
--- A run that ended well has written what the statement promises.
+-- What a run of `files` wrote that ended well is the tree that the page has.
 use Rattle.std.proofs.Common.{◌≡◌, ℕ, List, [], map, false, Option, Ok, flat_map, refl, ap, subst, ◌∙◌}
 use Rattle.gix_commands.proofs.Common.{Appends, ObjectId, Objects, GraphRow, IsDepthScript, entries_at, Tracks, fresh_recorder, Ending, Whole, Broken, Failed, IsUnfailed}
 use Rattle.gix_commands.proofs.Common.{is_broken, LookUpFails, trees_of, depth_ok, depth_is_in_order, depth_is_recorded, file_lines, never_faulty, Files}

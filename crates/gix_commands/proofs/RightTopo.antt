@@ -14,10 +14,10 @@ use Rattle.gix_commands.specs.Walked.{failed, given}
 use Rattle.gix_commands.specs.Everywhere.{IsRight}
 use Rattle.gix_commands.specs.Pages.{page_objects}
 use Rattle.gix_commands.proofs.CommitRuns.{ids_in, lines_by_ids}
-use Rattle.gix_commands.proofs.FedSimple.{allowed}
-use Rattle.gix_commands.proofs.FedCommits.{fed_history}
-use Rattle.gix_commands.proofs.FedLists.{at_most, begins_so, first_cut, no_rest, whole_so}
-use Rattle.gix_commands.proofs.FedNames.{down_name, is_order}
+use Rattle.gix_commands.proofs.RightSimple.{allowed}
+use Rattle.gix_commands.proofs.PageCommits.{fed_history}
+use Rattle.gix_commands.proofs.PageLists.{at_most, begins_so, first_cut, no_rest, whole_so}
+use Rattle.gix_commands.proofs.OrderNames.{down_name, is_order}
 use Rattle.gix_commands.proofs.FirstCommits.{up_to_down}
 use Rattle.gix_commands.proofs.Turns.{Lists}
 use Rattle.gix_commands.proofs.Right.{begun_right, cut_right}

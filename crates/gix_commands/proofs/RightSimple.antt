@@ -20,19 +20,18 @@ use Rattle.gix_commands.specs.Walked.{Walk, Answers, IsWalkFault, failed, given}
 use Rattle.gix_commands.specs.Everywhere.{IsRight}
 use Rattle.gix_commands.specs.Pages.{page_objects}
 use Rattle.gix_commands.proofs.CommitRuns.{ids_in, lines_by_ids, listed}
-use Rattle.gix_commands.proofs.FedCommits.{fed_history, whole_there}
-use Rattle.gix_commands.proofs.FedLists.{begins_so, whole_so}
+use Rattle.gix_commands.proofs.PageCommits.{fed_history, whole_there}
+use Rattle.gix_commands.proofs.PageLists.{begins_so, whole_so}
 use Rattle.gix_commands.proofs.KeptLists.{followed_reaches}
 use Rattle.gix_commands.proofs.LostParents.{whole_all}
-use Rattle.gix_commands.proofs.Parts.{by_parents_reached, take_within}
-use Rattle.gix_commands.proofs.SameBeginnings.{front, take_less}
+use Rattle.gix_commands.proofs.OtherParents.{by_parents_reached, take_within}
 use Rattle.gix_commands.proofs.SameLists.{id_lines, is_followed, is_name_in, listed as is_list}
 use Rattle.gix_commands.proofs.SameOrders.{reaches_back}
 use Rattle.gix_commands.proofs.SameWords.{AreBehind, IsNameOf, IsOptionOf}
-use Rattle.gix_commands.proofs.FedNames.{all_parents, is_order, simple_name}
+use Rattle.gix_commands.proofs.OrderNames.{all_parents, is_order, simple_name}
 use Rattle.gix_commands.proofs.Turns.{Lists}
 use Rattle.gix_commands.proofs.Right.{begun_right, cut_right}
-use Rattle.gix_commands.proofs.SimpleBegins.{first_given, given_first, met_before, none_given, read_first}
+use Rattle.gix_commands.proofs.SimpleBegins.{front, take_less, first_given, given_first, met_before, none_given, read_first}
 use Rattle.gix_commands.proofs.SimpleRuns.{all_read, given_with, left_whole, no_ids, tips_read}
 use Rattle.gix_commands.proofs.ListedCommits.{IsSimpleBy, followed, kept_tips}
 
