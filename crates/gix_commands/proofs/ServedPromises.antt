@@ -16,8 +16,8 @@ use Rattle.gix_commands.specs.Run as run
 use Rattle.gix_commands.specs.Run.{RunsOver, Serves}
 use Rattle.gix_commands.specs.StoredRuns as store
 use Rattle.gix_commands.specs.StoredRuns.{RunsStored}
-use Rattle.gix_commands.proofs.FedCommits.{whole_text}
-use Rattle.gix_commands.proofs.FedRuns.{AreRead, right}
+use Rattle.gix_commands.proofs.PageCommits.{whole_text}
+use Rattle.gix_commands.proofs.RightRuns.{AreRead, right}
 use Rattle.gix_commands.proofs.Promised.{promised}
 use Rattle.gix_commands.proofs.ReadableObjects.{readable_agrees}
 use Rattle.gix_commands.proofs.ReadableTexts.{have_texts, text_kept, tree_kept}
