@@ -42,18 +42,3 @@ module _ (words : List (List ℕ)) (objects : Objects) (rows : List GraphRow) (o
 
 pub unagreed_sound : {rows : List GraphRow} {objects : Objects} (result : Result (Unit {0}) Fault) (e : Fault) → result ≡ Err e → FailsToAgree rows objects e → result ≢ Err fault.Internal
 unagreed_sound result e same h = λ internal. fails_known h (err_same (sym same ∙ internal))
-
--- a run without rows over the objects of records is one over the records
-stored_alone : {words : List (List ℕ)} {objects : Objects} {old new : Option (List ℕ)} {answer : Result (Unit {0}) Fault} → RunsStored words objects [] old answer new
-    → (input : List ℕ) (records : List Record) → AreRecords records input → objects ≡ stored records → Runs words (Some input) old answer new
-stored_alone without_memory input records are same = run.without_memory
-stored_alone (no_command t) input records are same = run.no_command t
-stored_alone {words} {objects} {old} (not_agreed request {e = e} t h) input records are same =
-    subst (λ (f : Fault). Runs words (Some input) old (Err f) old) (sym (fails_without_rows h)) run.without_memory
-stored_alone {words} {objects} {old} {new} {answer} (served request t sound agree s) input records are same =
-    run.served request input records t refl are (subst (λ (o : Objects). Serves o [] old request answer new) (without_rows objects ∙ same) s)
-
-pub stored_runs : {words : List (List ℕ)} {objects : Objects} {rows : List GraphRow} {old new : Option (List ℕ)} {answer : Result (Unit {0}) Fault} → RunsStored words objects rows old answer new
-    → (input : List ℕ) (records : List Record) → AreRecords records input → objects ≡ stored records → rows ≡ [] → Runs words (Some input) old answer new
-stored_runs {words} {objects} {rows} {old} {new} {answer} ran input records are same none =
-    stored_alone (subst (λ (r : List GraphRow). RunsStored words objects r old answer new) none ran) input records are same

@@ -1,5 +1,5 @@
 -- What is right of objects that were read is what the page promises of given objects and rows that have all of their commits and trees.
-use Rattle.std.proofs.Common.{◌≡◌, ℕ, List, [], Option, Result, Ok, Err, inl, inr, ⊎_elim}
+use Rattle.std.proofs.Common.{◌≡◌, ℕ, List, [], Option, Result, Ok, Err, inl, inr, ⊎_elim, refl, sym, subst}
 use Rattle.gix_hash.specs.declared.ObjectId.{ObjectId}
 use Rattle.gix_statement.specs.WholeStatement.{Objects, Row, Entry, Agree, IsCommit, IsTree, Promises}
 use Rattle.gix_words.specs.declared.fault.Fault.{Fault}
@@ -19,6 +19,6 @@ pub promises_more : {AreGiven AreToo : Objects → List Row → Type 0} → ((ob
 promises_more more words old (Ok done) new (objects, rows, given, agree, each) = (objects, rows, more objects rows given, agree, each)
 promises_more more words old (Err e) new p = ⊎_elim (λ same. inl same) (λ h. inr (h.0, h.1, more h.0 h.1 h.2, h.3, h.4)) p
 
--- nothing was written
-pub unwritten : (AreGiven : Objects → List Row → Type 0) (words : List (List ℕ)) (old : Option (List ℕ)) (e : Fault) → Promises fault.Write words AreGiven old (Err e) old
-unwritten AreGiven words old e = inl (λ k. old)
+-- a run that fails has written nothing
+pub unwritten : (AreGiven : Objects → List Row → Type 0) (words : List (List ℕ)) (old : Option (List ℕ)) (result : Result (Unit {0}) Fault) (e : Fault) → result ≡ Err e → Promises fault.Write words AreGiven old result old
+unwritten AreGiven words old result e same = subst (λ (r : Result (Unit {0}) Fault). Promises fault.Write words AreGiven old r old) (sym same) (inl refl)

@@ -1,5 +1,5 @@
 -- What a topological walk reaches over rows that agree was read or has a row, so it is stored as a commit whose text has no fault.
-use Rattle.std.proofs.Common.{◌≡◌, List, Some, None, Bool, sym, subst, ⊎_elim, ◌∙◌}
+use Rattle.std.proofs.Common.{◌≡◌, List, Some, None, Bool, true, sym, subst, ⊎_elim, ◌∙◌}
 use Rattle.gix_hash.specs.declared.ObjectId.{ObjectId}
 use Rattle.gix_hash.specs.Id.{kind_of}
 use Rattle.gix_object.specs.CommitItems.{commit_items}
@@ -10,8 +10,10 @@ use Rattle.gix_revwalk.specs.Commits.{ReadsWhole}
 use Rattle.gix_revwalk.proofs.Committer.{fault_unread}
 use Rattle.gix_revwalk.proofs.ReadsWhole.{row_stands}
 use Rattle.gix_revwalk.proofs.TextParents.{commit_stored}
-use Rattle.gix_topo.specs.Walk.{IsCommitRead, IsKnown}
+use Rattle.gix_topo.specs.Walk.{IsCommitRead, IsKnown, IsReached}
 use Rattle.gix_topo.proofs.Reading.Faultless.{faultless}
+use Rattle.gix_commands.specs.Walked.{objects_of}
+use Rattle.gix_commands.proofs.RightRuns.{AreRead}
 
 -- a commit that reads whole has a text without a fault
 pub whole_is_read : (objects : Objects) (i : ObjectId) → ReadsWhole objects i → IsCommitRead objects i
@@ -31,3 +33,8 @@ module _ (objects : Objects) (rows : List GraphRow) (agree : IsAgreeing objects 
   -- what has a row, or was read, was read
   pub known_is_read : (in_use : Bool) (i : ObjectId) → IsKnown objects rows in_use i → IsCommitRead objects i
   known_is_read in_use i k = ⊎_elim (λ r. rowed_is_read i r.1 r.2) (λ c. c) k
+
+  -- so a walk that was built has read all that its tips and ends reach, or their rows
+  pub reached_is_read : AreRead objects rows
+  reached_is_read by tips ends walk built i r =
+      known_is_read true i (subst (λ plan. IsAgreeing plan.store plan.rows → (j : ObjectId) → IsReached objects_of plan j → IsKnown plan.store plan.rows true j) built.0.plan built.1.known agree i r)

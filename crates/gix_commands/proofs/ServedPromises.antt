@@ -17,9 +17,11 @@ use Rattle.gix_commands.specs.Run.{RunsOver, Serves}
 use Rattle.gix_commands.specs.StoredRuns as store
 use Rattle.gix_commands.specs.StoredRuns.{RunsStored}
 use Rattle.gix_commands.proofs.PageCommits.{whole_text}
-use Rattle.gix_commands.proofs.RightRuns.{AreRead, right}
+use Rattle.gix_commands.proofs.RightRuns.{right}
+use Rattle.gix_commands.proofs.FileOrder.{opened_layers}
 use Rattle.gix_commands.proofs.Promised.{promised}
 use Rattle.gix_commands.proofs.ReadableObjects.{readable_agrees}
+use Rattle.gix_commands.proofs.ReachedIsRead.{reached_is_read}
 use Rattle.gix_commands.proofs.ReadableTexts.{have_texts, text_kept, tree_kept}
 use Rattle.gix_commands.proofs.RowsAsTexts.{every_agree, rows_agree, text_is_commit, tree_is_tree}
 use Rattle.gix_commands.proofs.SameCommits.{are_fed}
@@ -29,14 +31,10 @@ use Rattle.gix_commands.proofs.SortedRows.{sorted_has, unsorted_apart, unsorted_
 abbrev pub seen : Request → List GraphRow → Objects → Objects
 seen request rows objects = readable (reads_all_lines request) (with_rows rows objects)
 
--- topological walks of this command read what their tips and ends reach
-abbrev pub ReadsReached : List GraphRow → Objects → Type 0
-ReadsReached rows objects = (request : Request) → AreRead (seen request rows objects) rows
-
 module _ (words : List (List ℕ)) (request : Request) (asked : request_of words ≡ Ok request) (rows : List GraphRow) (objects : Objects) (graph : AreGraphRows rows) (sound : AreSound rows) (agree : StoredAgree rows objects)
-    (reached : AreRead (seen request rows objects) rows) (AreGiven : page.Objects → List Row → Type 0) (old : Option (List ℕ)) (answer : Result (Unit {0}) Fault) (new : Option (List ℕ)) (served : Serves (seen request rows objects) rows old request answer new) where
-  all_lines_of : IsAgreeing (seen request rows objects) rows
-  all_lines_of = readable_agrees (reads_all_lines request) (with_rows rows objects) rows (every_agree whole_text rows objects graph sound agree)
+    (AreGiven : page.Objects → List Row → Type 0) (old : Option (List ℕ)) (answer : Result (Unit {0}) Fault) (new : Option (List ℕ)) (served : Serves (seen request rows objects) rows old request answer new) where
+  seen_agrees : IsAgreeing (seen request rows objects) rows
+  seen_agrees = readable_agrees (reads_all_lines request) (with_rows rows objects) rows (every_agree whole_text rows objects graph sound agree)
 
   -- rows in any order
   module _ (those : List Row) (all : (r : Row) → Contains (page_rows rows) r → Contains those r) (consistent : Agree (page_objects objects) those) (given : AreGiven (page_objects objects) those) where
@@ -54,7 +52,7 @@ module _ (words : List (List ℕ)) (request : Request) (asked : request_of words
     served_over : Promises fault.Write words AreGiven old answer new
     served_over =
         promised (page_objects (seen request rows objects)) (page_objects objects) those commit_on tree_on AreGiven given consistent words old answer new
-        (right (seen request rows objects) rows all_lines_of reached old words request asked (have_texts request (with_rows rows objects)) answer new served)
+        (right (seen request rows objects) rows seen_agrees (reached_is_read (seen request rows objects) rows seen_agrees) old words request asked (have_texts request (with_rows rows objects)) answer new served)
 
   pub served_sorted : AreGiven (page_objects objects) (page_rows rows) → Promises fault.Write words AreGiven old answer new
   served_sorted given = served_over (page_rows rows) (λ r c. c) (rows_agree whole_text rows objects graph sound agree) given
@@ -71,26 +69,25 @@ module _ (words : List (List ℕ)) (request : Request) (asked : request_of words
 abbrev pub AreStored : Objects → List GraphRow → page.Objects → List Row → Type 0
 AreStored stored graph objects rows = (objects ≡ page_objects stored) × (rows ≡ page_rows graph)
 
-pub stored_promises : {words : List (List ℕ)} {objects : Objects} {rows : List GraphRow} {old new : Option (List ℕ)} {answer : Result (Unit {0}) Fault} → AreGraphRows rows → ReadsReached rows objects → RunsStored words objects rows old answer new
+pub stored_promises : {words : List (List ℕ)} {objects : Objects} {rows : List GraphRow} {old new : Option (List ℕ)} {answer : Result (Unit {0}) Fault} → AreGraphRows rows → RunsStored words objects rows old answer new
     → Promises fault.Write words (AreStored objects rows) old answer new
-stored_promises graph reached store.without_memory = inl refl
-stored_promises graph reached (store.no_command t) = inl refl
-stored_promises graph reached (store.not_agreed request t f) = inl refl
-stored_promises {words} {objects} {rows} {old} {new} {answer} graph reached (store.served request t sound agree s) =
-    served_sorted words request t rows objects graph sound agree (reached request) (AreStored objects rows) old answer new s (refl, refl)
+stored_promises graph store.without_memory = inl refl
+stored_promises graph (store.no_command t) = inl refl
+stored_promises graph (store.not_agreed request t f) = inl refl
+stored_promises {words} {objects} {rows} {old} {new} {answer} graph (store.served request t sound agree s) =
+    served_sorted words request t rows objects graph sound agree (AreStored objects rows) old answer new s (refl, refl)
 
 -- the objects of records, and the rows of files
 abbrev pub AreFedOver : (layers : List (List ℕ)) → (has : Option (List ℕ)) → page.Objects → List Row → Type 0
 AreFedOver layers has objects rows = AreFed has objects × AreLayers [] layers [] rows
 
-pub over_promises : {words layers : List (List ℕ)} {has old new : Option (List ℕ)} {answer : Result (Unit {0}) Fault} → ((rows : List GraphRow) (opens : Opens layers rows) → AreLayers [] layers [] (page_rows opens.chain.rows))
-    → ((rows : List GraphRow) (objects : Objects) → ReadsReached rows objects) → RunsOver words layers has old answer new → Promises fault.Write words (AreFedOver layers has) old answer new
-over_promises files reached run.without_memory = inl refl
-over_promises files reached (run.no_command t) = inl refl
-over_promises files reached (run.not_opened request t f) = inl refl
-over_promises files reached (run.not_read request rows t o) = inl refl
-over_promises files reached (run.bad_record request rows input n t o h b) = inl refl
-over_promises files reached (run.disagrees request rows input records i t o h are d) = inl refl
-over_promises {words} {layers} {has} {old} {new} {answer} files reached (run.served request rows input records t opens told are agree s) =
-    served_unsorted words request t rows (stored records) opens.chain.sound opens.sound agree (reached rows (stored records) request) (AreFedOver layers has) old answer new s
-    opens.chain.rows opens.chain.accepted.2 opens.chain.accepted.3 opens.chain.same (are_fed records has input told are, files rows opens)
+pub over_promises : {words layers : List (List ℕ)} {has old new : Option (List ℕ)} {answer : Result (Unit {0}) Fault} → RunsOver words layers has old answer new → Promises fault.Write words (AreFedOver layers has) old answer new
+over_promises run.without_memory = inl refl
+over_promises (run.no_command t) = inl refl
+over_promises (run.not_opened request t f) = inl refl
+over_promises (run.not_read request rows t o) = inl refl
+over_promises (run.bad_record request rows input n t o h b) = inl refl
+over_promises (run.disagrees request rows input records i t o h are d) = inl refl
+over_promises {words} {layers} {has} {old} {new} {answer} (run.served request rows input records t opens told are agree s) =
+    served_unsorted words request t rows (stored records) opens.chain.sound opens.sound agree (AreFedOver layers has) old answer new s
+    opens.chain.rows opens.chain.accepted.2 opens.chain.accepted.3 opens.chain.same (are_fed records has input told are, opened_layers layers rows opens)

@@ -2,6 +2,7 @@ use Rattle.std.proofs.Common.{Err, ◌∙◌, ap}
 use Rattle.gix_commands.proofs.Common.{err_from_is_err_and}
 use Rattle.gix_records.proofs.ReadingFacts.{read_from, fails_from, fails_to_read}
 use Rattle.gix_commands.proofs.RunFacts.{no_rejection}
+use Rattle.gix_commands.proofs.ServedPromises.{over_promises}
 use Rattle.gix_commands.proofs.OverGraphs.{over_sound, over_spelled, over_words, over_unopened, over_input, over_disagreement, over_served}
 use Rattle.gix_commands.proofs.WalkFaults.{serves_of_walk, walk_opened}
 use Rattle.gix_commands.proofs.over.run_over.Goals as goal
@@ -85,3 +86,21 @@ returns-clause-unread g c = no_rejection c.in_ok-command.ensures
 
 pub returns-clause-unopened : goal.returns-clause-unopened
 returns-clause-unopened g c = λ e same o. absurd (walk_opened e (serves_of_walk c.serve.ensures) same o)
+
+pub returns-in_err-command-clause-whole : goal.returns-in_err-command-clause-whole
+returns-in_err-command-clause-whole g c = over_promises (returns-in_err-command-clause-runs g c)
+
+pub returns-in_err-graph-clause-whole : goal.returns-in_err-graph-clause-whole
+returns-in_err-graph-clause-whole g c = over_promises (returns-in_err-graph-clause-runs g c)
+
+pub returns-in_err-input-clause-whole : goal.returns-in_err-input-clause-whole
+returns-in_err-input-clause-whole g c = over_promises (returns-in_err-input-clause-runs g c)
+
+pub returns-in_err-store-clause-whole : goal.returns-in_err-store-clause-whole
+returns-in_err-store-clause-whole g c = over_promises (returns-in_err-store-clause-runs g c)
+
+pub returns-in_err-check_stored-clause-whole : goal.returns-in_err-check_stored-clause-whole
+returns-in_err-check_stored-clause-whole g c = over_promises (returns-in_err-check_stored-clause-runs g c)
+
+pub returns-clause-whole : goal.returns-clause-whole
+returns-clause-whole g c = over_promises (returns-clause-runs g c)
