@@ -1,22 +1,22 @@
--- Where the number is 0, the lines are in the room.
-use Rattle.std.proofs.Common.{◌≡◌, ◌≢◌, ℕ, nat_le, List, length, Bool, true, false, if◌then◌else◌, refl, arith}
+-- Faults have numbers of their own, and where lines don't fit the room is as it was.
+use Rattle.std.proofs.Common.{◌≡◌, ◌≢◌, ◌≤◌, ℕ, nat_le, List, ◌++◌, length, drop, Bool, true, false, if◌then◌else◌, refl, arith}
 use Rattle.gix_words.specs.declared.fault.Fault.{Fault}
 use Rattle.gix_words.specs.declared.fault.Fault.TheVariants as fault
-use Rattle.gix_memory_commands.specs.Answers.{answer_to, of_fault, too_small, well}
+use Rattle.gix_memory_commands.specs.Answers.{answer_to, of_fault, put_in, too_small, well}
 use Rattle.gix_memory_commands.specs.declared.answer.Answer.{Answer}
 
-pub well_answered : (lines room : List ℕ) → (answer_to lines room).number ≡ 0 → answer_to lines room ≡ well (length lines)
-well_answered lines room = go (nat_le (length lines) (length room))
+pub room_stays : (lines room : List ℕ) → (answer_to lines room).number ≢ 0 → put_in lines room ≡ room
+room_stays lines room = go (nat_le (length lines) (length room))
   where
     chosen : Bool → Answer
     chosen fits = if fits then well (length lines) else too_small (length lines)
 
-    go : (fits : Bool) → (chosen fits).number ≡ 0 → chosen fits ≡ well (length lines)
-    go true h = refl
-    go false h = absurd (omega arith)
+    go : (fits : Bool) → (chosen fits).number ≢ 0 → (if fits then lines ++ drop (length lines) room else room) ≡ room
+    go true h = absurd (h refl)
+    go false h = refl
 
--- each fault has another number
-pub numbered : (e : Fault) → (of_fault e).number ≢ 0
+-- each fault has another number than 0 and 1
+pub numbered : (e : Fault) → (of_fault e).number ≤ 1 → ⊥
 numbered fault.Usage = λ h. omega arith
 numbered (fault.Id n) = λ h. omega arith
 numbered (fault.Record n) = λ h. omega arith

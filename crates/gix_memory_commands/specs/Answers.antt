@@ -1,12 +1,12 @@
 -- What a call answers, and what it leaves in the room for lines.
-use Rattle.std.specs.Prelude.{◌≡◌, ◌≢◌, ℕ, ◌-◌, nat_eq, nat_le, List, [], ◌++◌, map, length, drop, replicate, Some, Result, Ok, Err, if◌then◌else◌, codes}
+use Rattle.std.specs.Prelude.{◌≡◌, ◌≢◌, ◌≤◌, ℕ, ◌-◌, nat_eq, nat_le, List, [], ◌++◌, map, length, drop, replicate, Some, Result, Ok, Err, if◌then◌else◌, codes}
 use Rattle.std.specs.Str.Lossy.{utf8_lossy}
 use Rattle.gix_hash.specs.declared.ObjectId.{ObjectId}
 use Rattle.gix_hash.specs.Id.{bytes_of, id_len, kind_of}
 use Rattle.gix_words.specs.declared.fault.Fault.{Fault}
 use Rattle.gix_words.specs.declared.fault.Fault.TheVariants as fault
 use Rattle.gix_commands.specs.Run.{Runs}
-use Rattle.gix_commands.specs.WholeStatement.{Promises}
+use Rattle.gix_statement.specs.WholeStatement.{AreFed, Objects, Promises, Row}
 use Rattle.gix_memory_commands.specs.declared.answer.Answer.{Answer}
 use Rattle.gix_memory_commands.specs.WordsOf.{words_of}
 
@@ -50,9 +50,11 @@ of_fault (fault.Name i) = of_id 16 i
 abbrev pub RunsOver : List ℕ → List ℕ → Result (Unit {0}) Fault → List ℕ → Type 0
 RunsOver words records answer lines = Runs (map utf8_lossy (words_of words)) (Some records) (Some []) answer (Some lines)
 
--- what the statement promises of a run over them that ended well and wrote these lines
+-- what the page promises of a run over them that ended well and wrote these lines
 abbrev pub PromisesOver : List ℕ → List ℕ → List ℕ → Type 0
-PromisesOver words records lines = Promises {E = Fault} (map utf8_lossy (words_of words)) (Some records) (Some []) (Ok tt) (Some lines)
+PromisesOver words records lines =
+    Promises fault.Write (map utf8_lossy (words_of words)) (λ (objects : Objects) (rows : List Row). AreFed (Some records) objects × (rows ≡ []))
+    (Some []) (Ok tt) (Some lines)
 
 -- a run fails so. None does for the reader or the writer, or for what never happens
 pub record FailsOver (words records : List ℕ) (e : Fault) : Type 0 where
@@ -75,10 +77,12 @@ pub data Answers (words records room : List ℕ) : Answer → List ℕ → Type 
   ran : (lines : List ℕ) → RunsOver words records (Ok tt) lines → Answers words records room (answer_to lines room) (put_in lines room)
   failed : (e : Fault) → FailsOver words records e → Answers words records room (of_fault e) room
 
--- where all went well, the lines are those that the statement promises of a run that ended well, and they are in the room as far as they fit
+-- By the numbers 0 and 1 the run ended well, and its lines are those that the page promises: by 0 they are at the front of the room, and by 1
+-- the answer says how many bytes they have. By each number but 0 the room is as it was.
 abbrev pub IsWhole : (words records room : List ℕ) → Answer → List ℕ → Type 0
 IsWhole words records room answer new =
-    answer.number ≡ 0 → (lines : List ℕ) × PromisesOver words records lines × (answer ≡ well (length lines)) × (new ≡ put_in lines room)
+    (answer.number ≤ 1 → (lines : List ℕ) × PromisesOver words records lines × (answer ≡ answer_to lines room) × (new ≡ put_in lines room))
+    × (answer.number ≢ 0 → new ≡ room)
 
 -- the text of an answer of this number
 abbrev pub text_of : ℕ → List ℕ

@@ -1,6 +1,6 @@
-use Rattle.std.proofs.Common.{Ok, sym, ap, subst, ◌∙◌}
+use Rattle.std.proofs.Common.{◌≤◌, Ok, refl, sym, ap, subst, ◌∙◌}
 use Rattle.gix_memory_commands.specs.Answers.{Answers, PromisesOver, RunsOver, ran, failed, answer_to}
-use Rattle.gix_memory_commands.proofs.WholeAnswers.{numbered, well_answered}
+use Rattle.gix_memory_commands.proofs.WholeAnswers.{numbered, room_stays}
 use Rattle.gix_memory_commands.proofs.run_over_bytes.Goals as goal
 
 pub returns-in-Ok-clause-answers : goal.returns-in-Ok-clause-answers
@@ -12,12 +12,10 @@ returns-in-Ok-clause-answers c =
     (subst (told (answer_to lines c.args.room.now)) (sym c.put_lines.ensures.room) (ran lines runs))
 
 pub returns-in-Ok-clause-whole : goal.returns-in-Ok-clause-whole
-returns-in-Ok-clause-whole c = λ number.
+returns-in-Ok-clause-whole c =
     let lines = c.as_slice.result.now in (
-      lines,
-      subst (PromisesOver c.args.words.now c.args.records.now) (sym c.as_slice.ensures.value) c.in-Ok.ensures.whole,
-      c.put_lines.ensures.answer ∙ well_answered lines c.args.room.now (ap (λ answer. answer.number) (sym c.put_lines.ensures.answer) ∙ number),
-      c.put_lines.ensures.room,
+      λ number. (lines, subst (PromisesOver c.args.words.now c.args.records.now) (sym c.as_slice.ensures.value) c.in-Ok.ensures.whole, c.put_lines.ensures.answer, c.put_lines.ensures.room),
+      λ other. c.put_lines.ensures.room ∙ room_stays lines c.args.room.now (λ none. other (ap (λ answer. answer.number) c.put_lines.ensures.answer ∙ none)),
     )
 
 pub returns-in-Err-clause-answers : goal.returns-in-Err-clause-answers
@@ -25,4 +23,5 @@ returns-in-Err-clause-answers c =
     subst (λ answer. Answers c.args.words.now c.args.records.now c.args.room.now answer c.args.room.now) (sym c.of_fault.ensures) (failed c.in-Err.fault c.in-Err.ensures.err)
 
 pub returns-in-Err-clause-whole : goal.returns-in-Err-clause-whole
-returns-in-Err-clause-whole c = λ number. absurd (numbered c.in-Err.fault (ap (λ answer. answer.number) (sym c.of_fault.ensures) ∙ number))
+returns-in-Err-clause-whole c =
+    ((λ number. absurd (numbered c.in-Err.fault (subst (λ answer. answer.number ≤ 1) c.of_fault.ensures number))), λ other. refl)
