@@ -125,7 +125,7 @@ module _ {W E : Type 0} where
               infos = h.infos;
               ends = h.ends;
               appends = subst (Appends old (append_known new more)) (sym (ap (λ w. w ++ lines_of h.infos) (sym none) ∙ h.grows.2 ∙ ap (λ w. h.grows.0 ++ w) whole ∙ sym (append_assoc h.grows.0 some more)))
-              (Appends-trans old new (append_known new more) (h.grows.0 ++ some) more start (appends_behind new more));
+                  (Appends-trans old new (append_known new more) (h.grows.0 ++ some) more start (appends_behind new more));
             }) start (appends_behind new more)
 
         -- what was buffered was written

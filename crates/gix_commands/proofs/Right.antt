@@ -35,7 +35,10 @@ module _ (objects : Objects) (words : List (List ℕ)) (old : Option (List ℕ))
   pub cut_right : (answer : Result (Unit {0}) Fault) (full new : Option (List ℕ)) (some more : List ℕ) → RightSo answer full → Appends old new some → Appends new full more → RightSo (Err fault.Write) new
   cut_right (Ok done) full new some more each a b = inr (λ ps ts h. inr (refl, (full, some, more, a, b, inl (each ps ts h))))
   cut_right (Err e) full new some more (inl same) a b = inl (nothing_more old new some more a (subst (λ o. Appends new o more) same b))
-  cut_right (Err e) full new some more (inr each) a b = inr (λ ps ts h. inr (refl, ⊎_elim
-      (λ begun. (full, some, more, a, b, inr begun))
-      (λ cut. (cut.1.0, some, more ++ cut.1.2, a, then new full cut.1.0 more cut.1.2 b cut.1.4, cut.1.5))
-      (each ps ts h)))
+  cut_right (Err e) full new some more (inr each) a b = inr (λ ps ts h. inr (
+    refl,
+    ⊎_elim
+        (λ begun. (full, some, more, a, b, inr begun))
+        (λ cut. (cut.1.0, some, more ++ cut.1.2, a, then new full cut.1.0 more cut.1.2 b cut.1.4, cut.1.5))
+        (each ps ts h),
+  ))

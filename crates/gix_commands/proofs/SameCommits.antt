@@ -4,7 +4,6 @@ use Rattle.std.proofs.Common.{append_assoc, get_or, eqb-true, eq-eqb}
 use Rattle.std.specs.FinMap as map_of
 use Rattle.gix_commands.proofs.Common.{get, cond-true, cond-false, false≢true, All-nil, All-cons, All-contains, Contains-append_right, same_Some, none-some, ObjectId, id_cmp, is_same, id_total, same_is, same_from, Contains-here}
 use Rattle.gix_commands.proofs.Common.{Contains-there, Contains-cons_cases, no_member, behind_last, without_spaces, digits_from, signed_seconds, seconds_behind, seconds_of, Object, Objects, kind_word, put_in, stored, Spells}
-
 use Rattle.gix_hash.specs.declared.Kind.{Kind}
 use Rattle.gix_object.specs.declared.Kind.{Kind as ObjectKind}
 use Rattle.gix_object.specs.declared.Kind.TheVariants as kind
