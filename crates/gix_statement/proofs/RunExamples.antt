@@ -1,5 +1,5 @@
 -- Worked runs, and texts.
-use Rattle.std.proofs.Common.{◌≡◌, ◌≢◌, ℕ, ℤ, pos, List, [], ◌∷◌, ◌++◌, replicate, take, Bool, true, false, Some, None, Ok, Err, All, Contains, codes, flat_map, refl, sym, ap, subst, ◌∙◌, arith, inl, inr, ⊎_elim, suc, cond, append_assoc}
+use Rattle.std.proofs.Common.{◌≡◌, ◌≢◌, ℕ, ℤ, pos, neg_ℤ, List, [], ◌∷◌, ◌++◌, replicate, take, Bool, true, false, Some, None, Ok, Err, All, Contains, codes, flat_map, refl, sym, ap, subst, ◌∙◌, arith, inl, inr, ⊎_elim, suc, cond, append_assoc}
 use Rattle.std.proofs.lemmas.Bool.{false≢true}
 use Rattle.std.proofs.lemmas.List.Elements.{All-cons, All-nil}
 use Rattle.std.proofs.lemmas.List.Kept.{AllPairs-cons}
@@ -12,7 +12,7 @@ use Rattle.gix_hash.specs.declared.ObjectId.{ObjectId}
 use Rattle.gix_hash.specs.declared.ObjectId.TheVariants.{Sha1}
 use Rattle.gix_hash.specs.Id.{is_same}
 use Rattle.gix_statement.specs.WholeStatement as page
-use Rattle.gix_statement.specs.WholeStatement.{Object, Objects, Row, AreNamed, Agree, Allows, AreFed, AreRecords, IsLast, positive, AreEntries, AreParentLines, Clash, Entry, Follows, IsCommit, IsThere, IsHistory, IsHash, IsNumber, IsTime, IsText, Promises, Serves, commits, Lists, lists, Spells, bytes_in, Begins, IsWhole, id_line, entry_line, Reaches, start, parent, HasBegun, InEach, HaveHistory}
+use Rattle.gix_statement.specs.WholeStatement.{Object, Objects, Row, AreNamed, Agree, Allows, AreFed, AreRecords, IsLast, negative, positive, AreEntries, AreParentLines, Clash, Entry, Follows, IsCommit, IsThere, IsHistory, IsHash, IsNumber, IsTime, IsText, Promises, Serves, commits, Lists, lists, Spells, bytes_in, Begins, IsWhole, id_line, entry_line, Reaches, start, parent, HasBegun, InEach, HaveHistory}
 use Rattle.gix_statement.proofs.Tests.{all_digits, is_hex, without, not_among, not_alone, other_head}
 use Rattle.gix_statement.proofs.OrderExamples.{begun_one, newest_begun, newest_whole}
 
@@ -268,6 +268,24 @@ child_time : IsTime (codes "author A <a> 0\ncommitter A <a> 7 +0000\n") (pos 7)
 child_time = positive (codes "A <a") (codes "7 +0000") 1 7
     (codes "A <a> 0", [], without 10 (codes "A <a> 0") refl, without 10 (codes "A <a> 7 +0000") refl, refl)
     (without 62 (codes "7 +0000") refl) (codes "7", codes " +0000", refl, all_digits 10 (codes "7") refl, (λ d. absurd (omega (arith, d.0))), refl) (not_alone 32 (codes "7") refl) (not_alone 45 (codes "7") refl)
+
+-- a time has a sign, none is 0, and so is what is out of 64 bits
+early_time : IsTime (codes "author A <a> 0\ncommitter A <a@b>  -7\n") (neg_ℤ (pos 7))
+early_time = negative (codes "A <a@b") (codes "7") 2 7
+    (codes "A <a> 0", [], without 10 (codes "A <a> 0") refl, without 10 (codes "A <a@b>  -7") refl, refl)
+    (without 62 (codes "7") refl) (codes "7", [], refl, all_digits 10 (codes "7") refl, (λ d. refl), refl)
+
+no_time : IsTime (codes "author A <a> 0\ncommitter A <a@b>\n") (pos 0)
+no_time = positive (codes "A <a@b") [] 0 0
+    (codes "A <a> 0", [], without 10 (codes "A <a> 0") refl, without 10 (codes "A <a@b>") refl, refl)
+    (without 62 [] refl) ([], [], refl, all_digits 10 [] refl, (λ d. refl), refl) (λ e. cc) (λ e. cc)
+
+late_time : IsTime (codes "author A <a> 0\ncommitter A <a@b> 9223372036854775808 +0000\n") (pos 0)
+late_time = positive (codes "A <a@b") (codes "9223372036854775808 +0000") 1 9223372036854775808
+    (codes "A <a> 0", [], without 10 (codes "A <a> 0") refl, without 10 (codes "A <a@b> 9223372036854775808 +0000") refl, refl)
+    (without 62 (codes "9223372036854775808 +0000") refl)
+    (codes "9223372036854775808", codes " +0000", refl, all_digits 10 (codes "9223372036854775808") refl, (λ d. absurd (omega (arith, d.0))), refl)
+    (not_alone 32 (codes "9") refl) (not_alone 45 (codes "9") refl)
 
 root_is_text : IsText read_in (row root [] (pos 5))
 root_is_text = (
