@@ -296,6 +296,9 @@ module _ {F P : Type 0} (objects : F → Objects) (faulty : F → ObjectId → T
     pub counting : IsAgreeing (objects walk.plan.store) walk.plan.rows → IsCounting objects walk.plan walk.counted
     -- without rows, all that is reached was read
     pub read : walk.plan.rows ≡ [] → (i : ObjectId) → IsReached objects walk.plan i → IsCommitRead (objects walk.plan.store) i
+    -- where the rows agree, each id that is reached has a row, or was read
+    pub known : IsAgreeing (objects walk.plan.store) walk.plan.rows → (i : ObjectId) → IsReached objects walk.plan i
+        → IsKnown (objects walk.plan.store) walk.plan.rows true i
 
   -- the walk is this builder's
   pub record IsOf (builder : TopoBuilder F P) (walk : TopoWalk F P) : Type 0 where

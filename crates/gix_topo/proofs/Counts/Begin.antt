@@ -1,8 +1,8 @@
 -- What counting has found when it has begun.
-use Rattle.std.proofs.Common.{◌≡◌, ◌≤◌, ◌<◌, ℕ, min, List, [], ◌∷◌, ◌++◌, Bool, true, false, Some, None, refl, sym, ap, subst, inl, inr, ⊎_elim, ◌∙◌, arith, true≢false}
+use Rattle.std.proofs.Common.{◌≡◌, ◌≤◌, ◌<◌, ℕ, min, List, [], ◌∷◌, ◌++◌, Bool, true, false, Option, Some, None, refl, sym, ap, subst, inl, inr, ⊎_elim, ◌∙◌, arith, true≢false}
 use Rattle.std.specs.FinMap as map
-use Rattle.gix_topo.proofs.Common.{ObjectId, Objects, GraphRow, row_of, no_member, Error, Sorting, Side, Tips, Ends, Counting, IsAgreeing, infinity, known_generation, least, Explores, IsSamePlan, IsRested, IsExploringFault, rows_of}
-use Rattle.gix_topo.proofs.Common.{plan_by, counted_by, IsCounted, IsExplored, HasBegun, MeetsAll, IsDone, AreRead, HasCounted, IsFirstReady, IsBuildFault, IsCommitRead, IsCounting, IsReached}
+use Rattle.gix_topo.proofs.Common.{ObjectId, Objects, GraphRow, row_of, no_member, Error, Sorting, Side, Tips, Ends, Counting, IsAgreeing, infinity, generation_in, known_generation, least, Explores, IsSamePlan, IsRested, IsExploringFault, rows_of}
+use Rattle.gix_topo.proofs.Common.{plan_by, counted_by, IsCounted, IsExplored, HasBegun, MeetsAll, IsDone, AreRead, HasCounted, IsFirstReady, IsBuildFault, IsCommitRead, IsKnown, IsCounting, IsReached}
 use Rattle.gix_topo.proofs.Counts.ExploreKeeps.{explores_keep, explores_made, explores_same, explores_still}
 use Rattle.gix_topo.proofs.Counts.Expanded.{counts_on, explores_read}
 use Rattle.gix_topo.proofs.Counts.AllDownToDepth.{exact_there}
@@ -64,8 +64,8 @@ module _ {F : Type 0} (objects : F → Objects) (faulty : F → ObjectId → Typ
     counts : IsAgreeing (objects (plan_by low sorting tips ends).store) (plan_by low sorting tips ends).rows → HasCounted objects (plan_by low sorting tips ends) explored × IsCounting objects (plan_by low sorting tips ends) (counted_by explored)
     counts agrees = counts_on objects faulty sorting tips ends (λ i. false) low explored agrees (counted_low (λ i. false) (λ i. refl)) start.fresh.begun counts_low (λ i d. absurd (undone i d)) explores rested
 
-    low_depth : Rows ≡ [] → low.depth ≤ infinity
-    low_depth none = subst (λ d. d ≤ infinity) (sym start.depth) (least_below Rows infinity (tips ++ ends))
+    low_depth : low.depth ≤ infinity
+    low_depth = subst (λ d. d ≤ infinity) (sym start.depth) (least_below Rows infinity (tips ++ ends))
 
     idle : Rows ≡ [] → explored.frontier.queue ≡ []
     idle none = ⊎_elim (λ q. q) (λ r. no_members explored.frontier.queue (λ entry m.
@@ -73,18 +73,25 @@ module _ {F : Type 0} (objects : F → Objects) (faulty : F → ObjectId → Typ
         let k : entry.0 ≡ infinity = c.searched.keyed entry m ∙ unknown_generation Rows entry.1.id none in
         let l : entry.0 < explored.depth = r.1 entry m in
         let d : explored.depth ≡ low.depth = same.depth in
-        let h : low.depth ≤ infinity = low_depth none in
+        let h : low.depth ≤ infinity = low_depth in
         absurd (omega arith))) rested
 
     all_read : AreRead objects faulty (plan_by low sorting tips ends) explored
     all_read = explores_read objects faulty sorting tips ends (λ i. false) explores (λ i d. absurd (undone i d))
 
-    -- without rows what is known is read, and all that is reached was
+    -- what is reached has a row, or it isn't below the depth, so it was read
+    known : Agrees → (i : ObjectId) → IsReached objects (plan_by low sorting tips ends) i → IsKnown (objects low.reader.find) Rows true i
+    known agrees i r = by (row_of Rows i) refl
+      where
+        by : (row : Option GraphRow) → row_of Rows i ≡ row → IsKnown (objects low.reader.find) Rows true i
+        by (Some row) e = inl (refl, row, e)
+        by None e =
+            let high : low.depth ≤ known_generation Rows i = subst (λ g. low.depth ≤ g) (sym (ap generation_in e)) low_depth in
+            once_known objects faulty (plan_by low sorting tips ends) true refl (all_read i (⊎_elim (λ t. inl (there agrees Tips i t high)) (λ t. inr (there agrees Ends i t high)) r))
+
+    -- without rows all that is reached was read
     read : Rows ≡ [] → (i : ObjectId) → IsReached objects (plan_by low sorting tips ends) i → IsCommitRead (objects low.reader.find) i
-    read none i r =
-        let high : low.depth ≤ known_generation Rows i = subst (λ g. low.depth ≤ g) (sym (unknown_generation Rows i none)) (low_depth none) in
-        let done : IsDone explored.frontier i = ⊎_elim (λ t. inl (there (none_agree (objects low.reader.find) Rows none) Tips i t high)) (λ t. inr (there (none_agree (objects low.reader.find) Rows none) Ends i t high)) r in
-        ⊎_elim (λ q. absurd (rowless q.1 q.2)) (λ k. k) (once_known objects faulty (plan_by low sorting tips ends) true refl (all_read i done))
+    read none i r = ⊎_elim (λ q. absurd (rowless q.1 q.2)) (λ k. k) (known (none_agree (objects low.reader.find) Rows none) i r)
       where
         rowless : (row : GraphRow) → row_of Rows i ≡ Some row → ⊥
         rowless row e = let q : None ≡ Some row = sym (ap (λ those. row_of those i) none) ∙ e in cc
@@ -104,6 +111,7 @@ module _ {F : Type 0} (objects : F → Objects) (faulty : F → ObjectId → Typ
       dropped = explores_dropped objects faulty sorting tips ends (λ i. false) low (λ agrees. counted_low (λ i. false) (λ i. refl)) explores (λ e. absurd (true≢false (sym start.stands ∙ e)));
       idle = idle;
       read = read;
+      known = known;
     }
 
   -- the same, and why it fails, as the code comes there: both sides meet their starts, and the depth is lowered twice

@@ -239,6 +239,7 @@ module _ {F : Type 0} (objects : F → Objects) (faulty : F → ObjectId → Typ
     depth = all.ready.depth ∙ begun.depth;
     counting = λ agrees. (both_counts agrees).1;
     read = begun.read;
+    known = begun.known;
     found = found;
   })
 
@@ -269,4 +270,5 @@ started_as objects faulty answers w p h = record {
   depth = h.depth;
   counting = h.counting;
   read = h.read;
+  known = h.known;
 }

@@ -16,7 +16,7 @@ use Rattle.gix_topo.specs.Inside.Releasing.{plan_by, plan_of, counted_by, Pushes
 use Rattle.gix_topo.specs.Inside.Searched.{IsCounted, IsBegun, IsExplored}
 use Rattle.gix_topo.specs.Inside.Steady.{AreRead, AreDroppedFor, HasCounted}
 use Rattle.gix_topo.specs.TopoOrder.{by_time}
-use Rattle.gix_topo.specs.Walk.{TopoPlan, Ready, IsReached, first_depth, IsCommitRead, IsCounting}
+use Rattle.gix_topo.specs.Walk.{TopoPlan, Ready, IsReached, first_depth, IsCommitRead, IsKnown, IsCounting}
 
 -- by rising time, and at one time in the order given
 abbrev pub by_rising_time : List Ready → List Ready
@@ -44,6 +44,8 @@ module _ {F : Type 0} (objects : F → Objects) (faulty : F → ObjectId → Typ
     -- without rows, all that is walked was read
     pub idle : plan.rows ≡ [] → c.frontier.queue ≡ []
     pub read : plan.rows ≡ [] → (i : ObjectId) → IsReached objects plan i → IsCommitRead (objects plan.store) i
+    -- with rows that agree, what is walked has a row, or was read
+    pub known : IsAgreeing (objects plan.store) plan.rows → (i : ObjectId) → IsReached objects plan i → IsKnown (objects plan.store) plan.rows true i
 
   -- a tip becomes ready where it has no child and no end reaches it
   pub data Starts (old : Walk F) (i : ObjectId) : List Ready → Walk F → Type 0 where
