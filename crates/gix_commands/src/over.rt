@@ -1,6 +1,6 @@
 //! A run over a commit-graph.
 
-ghost use Rattle.std.specs.Prelude.{◌≡◌, ◌≢◌, ℕ, List, [], map, Some, Err, string_bytes};
+ghost use Rattle.std.specs.Prelude.{◌≡◌, ◌≢◌, ℕ, List, [], map, Some, Err, string_bytes, vec_items};
 ghost use Rattle.gix_records.specs.Records.{Record, AreRecords};
 ghost use Rattle.gix_statement.specs.CommitGraph.{AreLayers};
 ghost use Rattle.gix_statement.specs.WholeStatement.{AreFed, Objects, Promises, Row};
@@ -43,7 +43,7 @@ pub fn run_over<R: Read, W: Write>(
     ensures spelled { (input : List ℕ) (records : List Record) (n : ℕ) → R.remaining reader.old ≡ Some input → AreRecords records input → result ≢ Err (Fault.Record n) }
     ensures sound { result ≢ Err Fault.Internal }
     // What was written, from lists of bytes up: it is right of the records and of the rows in the files, whatever else there is.
-    ensures whole { Promises Fault.Write (map string_bytes words.now) (λ (objects : Objects) (rows : List Row). AreFed (R.remaining reader.old) objects × AreLayers [] (layers_seen layers.now) [] rows) (W.contents writer.old) result (W.contents writer.new) }
+    ensures whole { Promises Fault.Write (map string_bytes words.now) (λ (objects : Objects) (rows : List Row). AreFed (R.remaining reader.old) objects × AreLayers [] (map vec_items layers.now) [] rows) (W.contents writer.old) result (W.contents writer.new) }
 {
     let command = read_command(alloc, words)?;
     let graph = open(alloc, layers)?;

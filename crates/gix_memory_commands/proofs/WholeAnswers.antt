@@ -2,7 +2,8 @@
 use Rattle.std.proofs.Common.{◌≡◌, ◌≢◌, ◌≤◌, ℕ, nat_le, List, ◌++◌, length, drop, Bool, true, false, if◌then◌else◌, refl, arith}
 use Rattle.gix_words.specs.declared.fault.Fault.{Fault}
 use Rattle.gix_words.specs.declared.fault.Fault.TheVariants as fault
-use Rattle.gix_memory_commands.specs.Answers.{answer_to, of_fault, put_in, too_small, well}
+use Rattle.gix_memory_commands.specs.Answers.{of_fault}
+use Rattle.gix_memory_commands.specs.Room.{answer_to, put_in, too_small, well}
 use Rattle.gix_memory_commands.specs.declared.answer.Answer.{Answer}
 
 pub room_stays : (lines room : List ℕ) → (answer_to lines room).number ≢ 0 → put_in lines room ≡ room

@@ -1,26 +1,16 @@
 -- What a call answers, and what it leaves in the room for lines.
-use Rattle.std.specs.Prelude.{◌≡◌, ◌≢◌, ◌≤◌, ℕ, ◌-◌, nat_eq, nat_le, List, [], ◌++◌, map, length, drop, replicate, Some, Result, Ok, Err, if◌then◌else◌, codes}
+use Rattle.std.specs.Prelude.{◌≢◌, ℕ, ◌-◌, nat_eq, List, [], ◌++◌, map, replicate, Some, Result, Ok, Err, if◌then◌else◌, codes}
 use Rattle.std.specs.Str.Lossy.{utf8_lossy}
 use Rattle.gix_hash.specs.declared.ObjectId.{ObjectId}
 use Rattle.gix_hash.specs.Id.{bytes_of, id_len, kind_of}
 use Rattle.gix_words.specs.declared.fault.Fault.{Fault}
 use Rattle.gix_words.specs.declared.fault.Fault.TheVariants as fault
 use Rattle.gix_commands.specs.Run.{Runs}
-use Rattle.gix_statement.specs.WholeStatement.{AreFed, Objects, Promises, Row}
 use Rattle.gix_memory_commands.specs.declared.answer.Answer.{Answer}
+use Rattle.gix_memory_commands.specs.Room.{answer_to, of_length, put_in}
 use Rattle.gix_memory_commands.specs.WordsOf.{words_of}
 
-abbrev pub of_length : ℕ → ℕ → Answer
-of_length number n = record { number = number; id_length = 0; length = n; place = 0; id = replicate 32 0 }
-
--- all went well, and so many bytes are in the room
-abbrev pub well : ℕ → Answer
-well n = of_length 0 n
-
--- the room was too small for so many bytes
-abbrev pub too_small : ℕ → Answer
-too_small n = of_length 1 n
-
+-- the answer of a fault that names a word or a record
 abbrev pub of_place : ℕ → ℕ → Answer
 of_place number place = record { number = number; id_length = 0; length = 0; place = place; id = replicate 32 0 }
 
@@ -50,12 +40,6 @@ of_fault (fault.Name i) = of_id 16 i
 abbrev pub RunsOver : List ℕ → List ℕ → Result (Unit {0}) Fault → List ℕ → Type 0
 RunsOver words records answer lines = Runs (map utf8_lossy (words_of words)) (Some records) (Some []) answer (Some lines)
 
--- what the page promises of a run over them that ended well and wrote these lines
-abbrev pub PromisesOver : List ℕ → List ℕ → List ℕ → Type 0
-PromisesOver words records lines =
-    Promises fault.Write (map utf8_lossy (words_of words)) (λ (objects : Objects) (rows : List Row). AreFed (Some records) objects × (rows ≡ []))
-    (Some []) (Ok tt) (Some lines)
-
 -- a run fails so. None does for the reader or the writer, or for what never happens
 pub record FailsOver (words records : List ℕ) (e : Fault) : Type 0 where
   pub lines : List ℕ
@@ -64,25 +48,10 @@ pub record FailsOver (words records : List ℕ) (e : Fault) : Type 0 where
   pub written : e ≢ fault.Write
   pub sound : e ≢ fault.Internal
 
--- bytes are at the front of the room where they fit, and the rest of it, or where they don't all of it, is as it was
-abbrev pub put_in : List ℕ → List ℕ → List ℕ
-put_in bytes room = if nat_le (length bytes) (length room) then bytes ++ drop (length bytes) room else room
-
--- the answer to a run that ended well with these lines
-abbrev pub answer_to : List ℕ → List ℕ → Answer
-answer_to lines room = if nat_le (length lines) (length room) then well (length lines) else too_small (length lines)
-
 -- over a text of words, the bytes of records and the room that a caller has: which answers a call may give, and what the room then holds
 pub data Answers (words records room : List ℕ) : Answer → List ℕ → Type 0 where
   ran : (lines : List ℕ) → RunsOver words records (Ok tt) lines → Answers words records room (answer_to lines room) (put_in lines room)
   failed : (e : Fault) → FailsOver words records e → Answers words records room (of_fault e) room
-
--- By the numbers 0 and 1 the run ended well, and its lines are those that the page promises: by 0 they are at the front of the room, and by 1
--- the answer says how many bytes they have. By each number but 0 the room is as it was.
-abbrev pub IsWhole : (words records room : List ℕ) → Answer → List ℕ → Type 0
-IsWhole words records room answer new =
-    (answer.number ≤ 1 → (lines : List ℕ) × PromisesOver words records lines × (answer ≡ answer_to lines room) × (new ≡ put_in lines room))
-    × (answer.number ≢ 0 → new ≡ room)
 
 -- the text of an answer of this number
 abbrev pub text_of : ℕ → List ℕ

@@ -1,6 +1,6 @@
 -- Worked examples of words, answers and rooms.
 use Rattle.std.specs.Prelude.{◌≡◌, [], ◌∷◌, codes, refl}
-use Rattle.gix_memory_commands.specs.Answers.{put_in, answer_to, too_small}
+use Rattle.gix_memory_commands.specs.Room.{put_in, answer_to, too_small}
 use Rattle.gix_memory_commands.specs.WordsOf.{words_of}
 
 pub space_and_newline : words_of (codes "topo A\n^B") ≡ codes "topo" ∷ codes "A" ∷ codes "^B" ∷ []

@@ -1,6 +1,7 @@
 //! What a call answers.
 ghost use Rattle.std.specs.Prelude.{◌≡◌};
-ghost use Rattle.gix_memory_commands.specs.Answers.{of_fault, of_id, of_length, of_place, text_of, too_small, well};
+ghost use Rattle.gix_memory_commands.specs.Answers.{of_fault, of_id, of_place, text_of};
+ghost use Rattle.gix_memory_commands.specs.Room.{of_length, too_small, well};
 
 use gix_commands::Fault;
 use gix_parts::hash::ObjectId;

@@ -5,7 +5,8 @@
 #![tactic(auto)]
 
 ghost use Rattle.std.specs.Prelude.{◌≡◌, Ok, IfOk, IfErr, length, nat_le};
-ghost use Rattle.gix_memory_commands.specs.Answers.{Answers, FailsOver, IsWhole, PromisesOver, RunsOver, answer_to, put_in, text_of};
+ghost use Rattle.gix_memory_commands.specs.Answers.{Answers, FailsOver, RunsOver, text_of};
+ghost use Rattle.gix_memory_commands.specs.Room.{IsWhole, PromisesOver, answer_to, put_in};
 
 mod answer;
 mod words;

@@ -2,7 +2,8 @@
 #![tactic(auto)]
 
 ghost use Rattle.std.specs.Prelude.{◌≡◌, length};
-ghost use Rattle.gix_memory_commands.specs.Answers.{Answers, IsWhole, put_in, text_of};
+ghost use Rattle.gix_memory_commands.specs.Answers.{Answers, text_of};
+ghost use Rattle.gix_memory_commands.specs.Room.{IsWhole, put_in};
 
 use gix_memory_commands::{Answer, put_text, run_over_bytes};
 use std::alloc::Global;

@@ -1,5 +1,6 @@
 use Rattle.std.proofs.Common.{◌≤◌, Ok, refl, sym, ap, subst, ◌∙◌}
-use Rattle.gix_memory_commands.specs.Answers.{Answers, PromisesOver, RunsOver, ran, failed, answer_to}
+use Rattle.gix_memory_commands.specs.Answers.{Answers, RunsOver, ran, failed}
+use Rattle.gix_memory_commands.specs.Room.{answer_to, PromisesOver}
 use Rattle.gix_memory_commands.proofs.WholeAnswers.{numbered, room_stays}
 use Rattle.gix_memory_commands.proofs.run_over_bytes.Goals as goal
 
