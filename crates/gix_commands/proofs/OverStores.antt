@@ -7,6 +7,7 @@ use Rattle.gix_graph_check.specs.declared.Disagreement.TheVariants as disagreeme
 use Rattle.gix_graph_store.specs.StoredRows.{StoredDisagrees}
 use Rattle.gix_records.specs.Records.{Record, AreRecords}
 use Rattle.gix_words.specs.declared.fault.Fault.TheVariants as fault
+use Rattle.gix_commands.specs.Readable.{readable, reads_all_lines}
 use Rattle.gix_commands.specs.Run as run
 use Rattle.gix_commands.specs.Run.{Serves}
 use Rattle.gix_commands.specs.StoredRuns.{FailsToAgree, RunsStored, unsound, disagrees, no_memory, without_memory, no_command, not_agreed, served}
@@ -51,7 +52,7 @@ stored_alone (no_command t) input records are same = run.no_command t
 stored_alone {words} {objects} {old} (not_agreed request {e = e} t h) input records are same =
     subst (λ (f : Fault). Runs words (Some input) old (Err f) old) (sym (fails_without_rows h)) run.without_memory
 stored_alone {words} {objects} {old} {new} {answer} (served request t sound agree s) input records are same =
-    run.served request input records t refl are (subst (λ (o : Objects). Serves o [] old request answer new) (without_rows objects ∙ same) s)
+    run.served request input records t refl are (subst (λ (o : Objects). Serves (readable (reads_all_lines request) o) [] old request answer new) (without_rows objects ∙ same) s)
 
 pub stored_runs : {words : List (List ℕ)} {objects : Objects} {rows : List GraphRow} {old new : Option (List ℕ)} {answer : Result (Unit {0}) Fault} → RunsStored words objects rows old answer new
     → (input : List ℕ) (records : List Record) → AreRecords records input → objects ≡ stored records → rows ≡ [] → Runs words (Some input) old answer new

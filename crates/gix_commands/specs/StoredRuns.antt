@@ -11,6 +11,7 @@ use Rattle.gix_graph_store.specs.WithRows.{with_rows}
 use Rattle.gix_words.specs.declared.fault.Fault.{Fault}
 use Rattle.gix_words.specs.declared.fault.Fault.TheVariants as fault
 use Rattle.gix_words.specs.Words.{Request, request_of}
+use Rattle.gix_commands.specs.Readable.{readable, reads_all_lines}
 use Rattle.gix_commands.specs.Run.{Serves}
 use Rattle.gix_commands.specs.Walked.{never_faulty}
 
@@ -28,4 +29,5 @@ pub data RunsStored (words : List (List ℕ)) (objects : Objects) (rows : List G
   no_command : {e : Fault} → request_of words ≡ Err e → RunsStored words objects rows old (Err e) old
   not_agreed : (request : Request) {e : Fault} → request_of words ≡ Ok request → FailsToAgree rows objects e → RunsStored words objects rows old (Err e) old
   served : (request : Request) {answer : Result (Unit {0}) Fault} {new : Option (List ℕ)} → request_of words ≡ Ok request → AreSound rows
-      → StoredAgree rows objects → Serves (with_rows rows objects) rows old request answer new → RunsStored words objects rows old answer new
+      → StoredAgree rows objects → Serves (readable (reads_all_lines request) (with_rows rows objects)) rows old request answer new
+      → RunsStored words objects rows old answer new
