@@ -6,6 +6,7 @@ use Rattle.gix_commands.proofs.Common.{stored, Runs, without_memory, no_command,
 use Rattle.gix_commands.proofs.Common.{no_bad_record}
 use Rattle.gix_simple.specs.declared.Sorting.{Sorting}
 use Rattle.gix_records.specs.Records.{Record, AreRecords}
+use Rattle.gix_commands.specs.Readable.{readable, reads_all_lines}
 use Rattle.gix_commands.specs.Run.{Serves}
 use Rattle.gix_commands.specs.Walked.{Walk, Answers, IsWalkFault}
 use Rattle.gix_commands.proofs.SimpleRuns.{all_read, listed_none, listed_text, listed_whole}
@@ -24,13 +25,13 @@ ok_same e = cc
 
 -- a run fails in its words or its input only where what was asked for of these records fails so
 pub ends_well : (words : List (List ℕ)) (input : List ℕ) (records : List Record) (request : Request) (answer : Result (Unit {0}) Fault) (old new : Option (List ℕ)) → request_of words ≡ Ok request → AreRecords records input
-    → ((given : Result (Unit {0}) Fault) (left : Option (List ℕ)) → Serves (stored records) [] old request given left → EndsWell given) → Runs words (Some input) old answer new → EndsWell answer
+    → ((given : Result (Unit {0}) Fault) (left : Option (List ℕ)) → Serves (readable (reads_all_lines request) (stored records)) [] old request given left → EndsWell given) → Runs words (Some input) old answer new → EndsWell answer
 ends_well words input records request answer old new asked are well without_memory = tt
 ends_well words input records request answer old new asked are well (no_command t) = let n : Err _ ≡ Ok request = sym t ∙ asked in cc
 ends_well words input records request answer old new asked are well (not_read other t) = tt
 ends_well words input records request answer old new asked are well (bad_record other there n t same b) = absurd (no_bad_record n records there b (subst (AreRecords records) (sym same) are))
 ends_well words input records request answer old new asked are well (served other there read t same is s) =
-    well answer new (subst (λ r. Serves (stored records) [] old r answer new) (ok_same (sym t ∙ asked)) (subst (λ rs. Serves (stored rs) [] old other answer new) (only_reading read records input (subst (AreRecords read) same is) are) s))
+    well answer new (subst (λ r. Serves (readable (reads_all_lines r) (stored records)) [] old r answer new) (ok_same (sym t ∙ asked)) (subst (λ rs. Serves (readable (reads_all_lines other) (stored rs)) [] old other answer new) (only_reading read records input (subst (AreRecords read) same is) are) s))
 
 module _ (objects : Objects) (rows : List GraphRow) (agreeing : IsAgreeing objects rows) (m : Parents) (by : Sorting) (tips hidden : List ObjectId) where
   abbrev left : List ObjectId

@@ -1,5 +1,5 @@
 -- What a run of `contains` writes, by what commits reach.
-use Rattle.std.proofs.Common.{◌≡◌, ◌≢◌, ℕ, List, [], ◌∷◌, ◌++◌, Option, Some, None, Result, Ok, Contains, IsSome, refl, sym, ap, subst, ⊎_elim, ◌∙◌}
+use Rattle.std.proofs.Common.{◌≡◌, ◌≢◌, ℕ, List, [], ◌∷◌, ◌++◌, false, Option, Some, None, Result, Ok, Contains, IsSome, refl, sym, ap, subst, ⊎_elim, ◌∙◌}
 use Rattle.gix_commands.proofs.Common.{Appends, Contains-append_left, Contains-append_right, Contains-append_cases, ObjectId, Contains-here, Contains-there, Contains-cons_cases, only_member, Objects, GraphRow}
 use Rattle.gix_commands.proofs.Common.{row_of, stored, IsAgreeing, RowAgrees, commit_at, parents_of, reach_more, row_stands, none_agree, whole_from, Fault, fault_of_contained, AreWhole, EndsWell}
 use Rattle.gix_commands.proofs.Common.{ContainsSucceeds, selected, not_selected, unserved, never_faulty, Contained}
@@ -7,7 +7,9 @@ use Rattle.gix_contained.specs.Contained.{AreContained, Selects}
 use Rattle.gix_contained.proofs.Faultless.{store_alone}
 use Rattle.gix_paint.specs.Painting.{IsHistory}
 use Rattle.gix_paint.proofs.Invariant.{own_history}
+use Rattle.gix_commands.specs.Readable.{readable}
 use Rattle.gix_commands.specs.Run.{Serves, cut_off}
+use Rattle.gix_commands.proofs.ReadableObjects.{readable_whole}
 use Rattle.gix_commands.proofs.CommitRuns.{ends_well}
 use Rattle.gix_commands.proofs.InternalFacts.{contained_sound}
 use Rattle.gix_commands.proofs.ListedCommits.{lines_of_ids}
@@ -54,4 +56,4 @@ module _ (tip : ObjectId) (ids : List ObjectId) where
 
 pub contains_succeeds : ContainsSucceeds
 contains_succeeds words input records tip ids answer old new asked are whole runs =
-    ends_well words input records (Contained tip ids) answer old new asked are (λ given left s. selects_well tip ids (stored records) [] (none_agree (stored records) [] refl) whole given left old s) runs
+    ends_well words input records (Contained tip ids) answer old new asked are (λ given left s. selects_well tip ids (readable false (stored records)) [] (none_agree (readable false (stored records)) [] refl) (readable_whole false (stored records) (tip ∷ ids) whole) given left old s) runs

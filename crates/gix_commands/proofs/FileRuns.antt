@@ -1,5 +1,5 @@
 -- What a run of `files` writes, by the entries of trees.
-use Rattle.std.proofs.Common.{◌≡◌, ◌≢◌, ℕ, List, [], ◌∷◌, true, Option, Some, Result, Ok, Err, refl, sym, subst, ◌∙◌}
+use Rattle.std.proofs.Common.{◌≡◌, ◌≢◌, ℕ, List, [], ◌∷◌, false, true, Option, Some, Result, Ok, Err, refl, sym, subst, ◌∙◌}
 use Rattle.gix_commands.proofs.Common.{ObjectId, Objects, Tracked, Tracks, fresh_recorder, Ending, Whole, Broken, Failed, IsUnfailed, LookUpFails, depth_answer, trees_of, LookUpFailed, only_reading, Runs, without_memory, no_command, not_read, bad_record, served}
 use Rattle.gix_commands.proofs.Common.{sound_depth_succeeds, Fault, fault_of_find, fault_of_tree_walk, RecordsTree, EndsWell, IsOutside, stored, not_listed, unserved, never_faulty, request_of}
 use Rattle.gix_commands.proofs.Common.{Files}
@@ -11,9 +11,11 @@ use Rattle.gix_tree.specs.declared.breadthfirst.Error.TheVariants as error
 use Rattle.gix_tree.specs.Laws.{AreSound}
 use Rattle.gix_words.specs.declared.fault.Fault.TheVariants as fault
 use Rattle.gix_commands.specs.Listings.{AreNamed, Unfolds, Misnames, FilesReportNames, FilesSucceeds}
+use Rattle.gix_commands.specs.Readable.{readable, reads_all_lines}
 use Rattle.gix_commands.specs.Run.{Serves, listed, misnamed, cut_off}
 use Rattle.gix_commands.proofs.CommitRuns.{ok_same, ends_well}
 use Rattle.gix_commands.proofs.NamedTrees.{no_misnamed, misnames, have_names}
+use Rattle.gix_commands.proofs.ReadableObjects.{misnames_back, readable_named, readable_sound}
 use Rattle.gix_commands.proofs.RunFacts.{err_same}
 use Rattle.gix_commands.proofs.TreeFacts.{goes_on, in_preorder}
 
@@ -73,7 +75,7 @@ module _ (objects : Objects) (ending : ℕ) (tree : ObjectId) where
     well old answer new (cut_off some more s a b) = tt
 
 pub files_succeeds : FilesSucceeds
-files_succeeds words input records ending tree answer old new asked are sound named runs = ends_well words input records (Files ending tree) answer old new asked are (well (stored records) ending tree sound named old) runs
+files_succeeds words input records ending tree answer old new asked are sound named runs = ends_well words input records (Files ending tree) answer old new asked are (well (readable false (stored records)) ending tree (readable_sound false (stored records) (λ e. true) (tree ∷ []) sound) (readable_named false (stored records) tree named) old) runs
 
 name_reported : (words : List (List ℕ)) (input : List ℕ) (records : List Record) (ending : ℕ) (tree i : ObjectId) (answer : Result (Unit {0}) Fault) (old new : Option (List ℕ)) → request_of words ≡ Ok (Files ending tree) → AreRecords records input
     → Runs words (Some input) old answer new → answer ≡ Err (fault.Name i) → Misnames (stored records) tree i
@@ -82,8 +84,9 @@ name_reported words input records ending tree i answer old new asked are (no_com
 name_reported words input records ending tree i answer old new asked are (not_read other t) is = cc
 name_reported words input records ending tree i answer old new asked are (bad_record other there n t same b) is = cc
 name_reported words input records ending tree i answer old new asked are (served other there read t same is_read s) is =
-    reports (stored records) ending tree i answer old new
-    (subst (λ r. Serves (stored records) [] old r answer new) (ok_same (sym t ∙ asked)) (subst (λ rs. Serves (stored rs) [] old other answer new) (only_reading read records input (subst (AreRecords read) same is_read) are) s)) is
+    misnames_back false (stored records) tree i
+    (reports (readable false (stored records)) ending tree i answer old new
+    (subst (λ r. Serves (readable (reads_all_lines r) (stored records)) [] old r answer new) (ok_same (sym t ∙ asked)) (subst (λ rs. Serves (readable (reads_all_lines other) (stored rs)) [] old other answer new) (only_reading read records input (subst (AreRecords read) same is_read) are) s)) is)
 
 pub files_report_names : FilesReportNames
 files_report_names words input records ending tree i old new asked are runs = name_reported words input records ending tree i (Err (fault.Name i)) old new asked are runs refl

@@ -13,8 +13,10 @@ use Rattle.gix_records.specs.Reading as reading
 use Rattle.gix_records.specs.Records.{Record, AreRecords}
 use Rattle.gix_words.specs.declared.fault.Fault.TheVariants as fault
 use Rattle.gix_commands.specs.Opening.{Opens, FailsToOpen}
+use Rattle.gix_commands.specs.Readable.{readable, reads_all_lines}
 use Rattle.gix_commands.specs.Run.{Serves, not_opened}
 use Rattle.gix_commands.proofs.MemoryFaults.{failed_so}
+use Rattle.gix_commands.proofs.ReadableObjects.{readable_agrees}
 use Rattle.gix_commands.proofs.RunFacts.{err_same, told_same, serves_sound}
 use Rattle.gix_commands.proofs.WalkFaults.{OfWalk, serves_of_walk}
 use Rattle.gix_commands.proofs.WordFaults.{OfWords, request_words}
@@ -30,7 +32,7 @@ over_sound {layers = layers} (not_opened request t f) = λ same. subst (FailsToO
 over_sound (not_read request rows t o) = λ e. cc
 over_sound (bad_record request rows input n t o i b) = λ e. cc
 over_sound (disagrees request rows input records i t o h are d) = λ e. cc
-over_sound {layers = layers} (served request rows input records t o i are agree s) = serves_sound (opened_agree layers rows (stored records) o agree) s
+over_sound {layers = layers} (served request rows input records t o i are agree s) = serves_sound (readable_agrees (reads_all_lines request) (with_rows rows (stored records)) rows (opened_agree layers rows (stored records) o agree)) s
 
 -- where the reader has records, none is reported as bad
 pub over_spelled : {words layers : List (List ℕ)} {has old : Option (List ℕ)} {answer : Result (Unit {0}) Fault} {new : Option (List ℕ)} → RunsOver words layers has old answer new
@@ -74,6 +76,6 @@ module _ (words layers : List (List ℕ)) (has old : Option (List ℕ)) where
         over_disagreement result why f same is d = subst (λ (r : Result (Unit {0}) Fault). RunsOver words layers has old r old) (sym (same ∙ ap (λ x. Err x) is)) (of_disagreement why d)
 
         -- what was asked for was served
-        pub over_served : (new : Option (List ℕ)) (result : Result (Unit {0}) Fault) → StoredAgree rows objects → Serves (with_rows rows objects) rows old request result new → RunsOver words layers has old result new
+        pub over_served : (new : Option (List ℕ)) (result : Result (Unit {0}) Fault) → StoredAgree rows objects → Serves (readable (reads_all_lines request) (with_rows rows objects)) rows old request result new → RunsOver words layers has old result new
         over_served new result agree s =
-            served request rows read.0 read.1 t opens read.2 read.3 (subst (StoredAgree rows) read.4 agree) (subst (λ (o : Objects). Serves (with_rows rows o) rows old request result new) read.4 s)
+            served request rows read.0 read.1 t opens read.2 read.3 (subst (StoredAgree rows) read.4 agree) (subst (λ (o : Objects). Serves (readable (reads_all_lines request) (with_rows rows o)) rows old request result new) read.4 s)

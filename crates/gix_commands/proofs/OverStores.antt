@@ -7,6 +7,7 @@ use Rattle.gix_graph_check.specs.declared.Disagreement.TheVariants as disagreeme
 use Rattle.gix_graph_store.specs.StoredRows.{StoredDisagrees}
 use Rattle.gix_records.specs.Records.{Record, AreRecords}
 use Rattle.gix_words.specs.declared.fault.Fault.TheVariants as fault
+use Rattle.gix_commands.specs.Readable.{readable, reads_all_lines}
 use Rattle.gix_commands.specs.Run as run
 use Rattle.gix_commands.specs.Run.{Serves}
 use Rattle.gix_commands.specs.StoredRuns.{FailsToAgree, RunsStored, unsound, disagrees, no_memory, without_memory, no_command, not_agreed, served}
@@ -23,12 +24,6 @@ fails_known : {rows : List GraphRow} {objects : Objects} {e : Fault} → FailsTo
 fails_known (unsound i u) = λ e. cc
 fails_known (disagrees i s d) = λ e. cc
 fails_known no_memory = λ e. cc
-
--- without rows only memory can run out
-fails_without_rows : {objects : Objects} {e : Fault} → FailsToAgree [] objects e → e ≡ fault.Memory
-fails_without_rows (unsound i u) = let within = u.within in absurd (omega (arith, within))
-fails_without_rows (disagrees i s d) = let within = d.within in absurd (omega (arith, within))
-fails_without_rows no_memory = refl
 
 module _ (words : List (List ℕ)) (objects : Objects) (rows : List GraphRow) (old : Option (List ℕ)) where
   -- the words were no command

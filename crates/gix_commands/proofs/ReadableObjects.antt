@@ -1,8 +1,9 @@
 -- What is read of objects, by what they are.
-use Rattle.std.proofs.Common.{is_lt, ◌≡◌, ◌≢◌, ℕ, Bool, true, false, cond, ◌&&◌, T, List, [], ◌∷◌, map, Option, Some, None, option_map, IsSome, refl, sym, ap, ap₂, subst, ◌∙◌}
+use Rattle.std.proofs.Common.{is_lt, ◌≡◌, ◌≢◌, ℕ, Bool, true, false, cond, ◌&&◌, T, List, [], ◌∷◌, map, Option, Some, None, Ok, Contains, option_map, IsSome, refl, sym, ap, ap₂, subst, ◌∙◌}
 use Rattle.gix_commands.proofs.Common.{get, ObjectId, id_cmp, is_same, kind_of, same_is, Object, Objects, GraphRow, IsAgreeing, RowAgrees, commit_at, commit_of_kind, commit_of_object, parents_of, parents_in, read_commit, Commit, scan_is, AreWhole, none-some}
-use Rattle.gix_commands.proofs.Common.{items_of_kind, items_of_object, LookUpFails, trees_of, never_faulty, Items}
+use Rattle.gix_commands.proofs.Common.{entries_at, items_of_kind, items_of_object, LookUpFails, trees_of, never_faulty, Items}
 use Rattle.std.specs.FinMap as map_of
+use Rattle.std.specs.List.{AllByRecursion}
 use Rattle.std.specs.FinMap.Entries.{below_all}
 use Rattle.gix_hash.specs.declared.Kind.{Kind as HashKind}
 use Rattle.gix_hash.specs.Reach.{Reaches}
@@ -13,7 +14,10 @@ use Rattle.gix_object.specs.declared.find.existing_iter.Error.TheVariants as exi
 use Rattle.gix_object.specs.Find.{FindsInto}
 use Rattle.gix_object.specs.TreeItems.{TreeEntry}
 use Rattle.gix_revwalk.specs.declared.Parents.TheVariants as mode
-use Rattle.gix_tree.specs.Laws.{AreSound}
+use Rattle.gix_tree.specs.Laws.{AreSound, subtrees_of}
+use Rattle.gix_tree.specs.Paths.{IsName, known_root}
+use Rattle.gix_tree.specs.Preorder.{IsPreorder}
+use Rattle.gix_commands.specs.Listings.{AreNamed, Misnames}
 use Rattle.gix_commands.specs.Readable.{is_faultless, is_text, or_zero, readable_bytes, readable_object, readable}
 
 module _ (all_lines : Bool) where
@@ -146,3 +150,20 @@ module _ (all_lines : Bool) (objects : Objects) where
   readable_sound into starts h =
       let s = subst (λ (t : ObjectId → Option Items). AreSound t (LookUpFails objects (never_faulty objects)) into starts) (sym all_trees_same) h in
       record { whole = λ i r. let w = s.whole i r in record { stored = w.stored; found = λ why f. w.found why (fails_back i why f) }; free = s.free }
+
+  pub readable_named : (tree : ObjectId) → AreNamed objects tree → AreNamed (readable all_lines objects) tree
+  readable_named tree =
+      subst (λ (t : ObjectId → Option Items). (i : ObjectId) → Reaches (subtrees_of t (LookUpFails objects (never_faulty objects)) (λ e. true)) (tree ∷ []) i → AllByRecursion (λ e. IsName e.name) (entries_at t i)) (sym all_trees_same)
+
+  pub misnames_back : (tree i : ObjectId) → Misnames (readable all_lines objects) tree i → Misnames objects tree i
+  misnames_back tree i m = record {
+    visits = m.visits;
+    unfolds = record {
+      in_order = subst (λ (t : ObjectId → Option Items). IsPreorder (entries_at t) (known_root tree) (entries_at t tree) m.visits false) all_trees_same m.unfolds.in_order;
+      all = m.unfolds.all;
+    };
+    first = m.first;
+    entry = m.entry;
+    held = subst (λ (t : ObjectId → Option Items). Contains (entries_at t i) m.entry) all_trees_same m.held;
+    unnamed = m.unnamed;
+  }

@@ -19,6 +19,7 @@ use Rattle.gix_simple.specs.declared.Sorting.TheVariants as sorting
 use Rattle.gix_commands.specs.Checked.{CheckedWalk, Checks, first_lost}
 use Rattle.gix_commands.specs.Output as output
 use Rattle.gix_commands.specs.Output.{WritesBegun, cut}
+use Rattle.gix_commands.specs.Readable.{readable, reads_all_lines}
 use Rattle.gix_commands.specs.Run as run
 use Rattle.gix_commands.specs.Run.{Serves, listed, misnamed, cut_off}
 use Rattle.gix_commands.specs.TopoWalked as topo
@@ -91,7 +92,7 @@ runs_sound without_memory = λ e. cc
 runs_sound {words} (no_command t) = λ same. subst OfWords (t ∙ ap (λ x. Err x) (err_same same)) (request_words words)
 runs_sound (not_read request t) = λ e. cc
 runs_sound (bad_record request input n t i b) = λ e. cc
-runs_sound (served request input records t i r s) = serves_sound (none_agree (stored records) [] refl) s
+runs_sound (served request input records t i r s) = serves_sound (none_agree (readable (reads_all_lines request) (stored records)) [] refl) s
 
 pub told_same : (bytes input : List ℕ) (has : Option (List ℕ)) → has ≡ Some bytes → Tells has input → input ≡ bytes
 told_same bytes input has is h = subst (λ (o : Option (List ℕ)). Tells o input) is h
@@ -121,8 +122,8 @@ module _ (words : List (List ℕ)) (has old : Option (List ℕ)) where
 
   module _ (request : Request) (t : request_of words ≡ Ok request) (objects : Objects) (read : IsReadFrom has objects) (new : Option (List ℕ)) where
     -- what was asked for was served
-    pub runs_served : (result : Result (Unit {0}) Fault) → Serves (with_rows [] objects) [] old request result new → Runs words has old result new
-    runs_served result s = served request read.0 read.1 t read.2 read.3 (subst (λ (o : Objects). Serves o [] old request result new) (without_rows objects ∙ read.4) s)
+    pub runs_served : (result : Result (Unit {0}) Fault) → Serves (readable (reads_all_lines request) (with_rows [] objects)) [] old request result new → Runs words has old result new
+    runs_served result s = served request read.0 read.1 t read.2 read.3 (subst (λ (o : Objects). Serves (readable (reads_all_lines request) o) [] old request result new) (without_rows objects ∙ read.4) s)
 
 module _ (objects : Objects) (rows : List GraphRow) (old : Option (List ℕ)) (order : Order) (limit : Option ℕ) (tips hidden : List ObjectId) where
   -- the walk was drawn, and all of its lines were written or a beginning of them

@@ -1,5 +1,5 @@
 -- A simple walk that reaches whole commits alone fails for memory alone.
-use Rattle.std.proofs.Common.{◌≡◌, ◌≢◌, ℕ, ℤ, List, [], ◌∷◌, ◌++◌, ◌⊎◌, Bool, true, Option, Some, None, Result, Ok, Err, Contains, refl, sym, ap, subst, ◌∙◌, ⊎_elim}
+use Rattle.std.proofs.Common.{◌≡◌, ◌≢◌, ℕ, ℤ, List, [], ◌∷◌, ◌++◌, ◌⊎◌, Bool, false, true, Option, Some, None, Result, Ok, Err, Contains, refl, sym, ap, subst, ◌∙◌, ⊎_elim}
 use Rattle.gix_commands.proofs.Common.{Yields, Contains-append_left, Contains-append_right, Contains-append_cases, ObjectId, read_commit, IsExistingFault, kind_of, Objects, GraphRow, row_of, IsAgreeing, among_is, Contains-here}
 use Rattle.gix_commands.proofs.Common.{by_mode, Contains-there, Contains-cons_cases, no_member, Info, Parents, Pending, ReadsWhole, commit_at, commit_of_object, parents_in, parents_of, step, Treated, Enqueues, dropped, enqueued}
 use Rattle.gix_commands.proofs.Common.{Treats, hidden, known, accepted, store_fails, no_memory_after, TreatsAll, none, more, stops, Concludes, broken, Takes, by_row, by_store, Chooses, Steps, took, FirstStep, unhidden, paints}
@@ -27,9 +27,11 @@ use Rattle.gix_simple.proofs.MadeOfTips.{is_new_walk, pending_is}
 use Rattle.gix_words.specs.declared.fault.Fault.TheVariants as fault
 use Rattle.gix_revwalk.specs.Texts.{scanned}
 use Rattle.gix_commands.specs.Checked.{first_lost}
+use Rattle.gix_commands.specs.Readable.{readable, is_first}
 use Rattle.gix_commands.specs.Run as run
 use Rattle.gix_commands.specs.Run.{Serves, cut_off}
 use Rattle.gix_commands.specs.Walked.{Walk, Answers, IsWalkFault, failed, given as all_given}
+use Rattle.gix_commands.proofs.ReadableObjects.{readable_whole}
 use Rattle.gix_commands.proofs.CommitRuns.{ends_well}
 use Rattle.gix_commands.proofs.InternalFacts.{next_sound}
 use Rattle.gix_commands.proofs.LostParents.{all_there}
@@ -224,7 +226,7 @@ module _ (objects : Objects) (rows : List GraphRow) (agreeing : IsAgreeing objec
 
 pub simple_succeeds : SimpleSucceeds
 simple_succeeds words input records ms by limit tips hiders answer old new asked are whole runs =
-    ends_well words input records (Commits (Simple ms by) limit tips hiders) answer old new asked are (well (stored records) [] (none_agree (stored records) [] refl) old ms by limit tips hiders whole) runs
+    ends_well words input records (Commits (Simple ms by) limit tips hiders) answer old new asked are (well (readable (is_first ms) (stored records)) [] (none_agree (readable (is_first ms) (stored records)) [] refl) old ms by limit tips hiders (readable_whole (is_first ms) (stored records) (tips ++ hiders) whole)) runs
 
 pub ahead_succeeds : AheadSucceeds
-ahead_succeeds words input records one other answer old new asked are whole runs = ends_well words input records (Ahead one other) answer old new asked are (ahead_well (stored records) [] (none_agree (stored records) [] refl) old one other whole) runs
+ahead_succeeds words input records one other answer old new asked are whole runs = ends_well words input records (Ahead one other) answer old new asked are (ahead_well (readable false (stored records)) [] (none_agree (readable false (stored records)) [] refl) old one other (readable_whole false (stored records) (one ∷ other ∷ []) whole)) runs

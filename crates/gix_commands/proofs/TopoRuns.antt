@@ -1,5 +1,5 @@
 -- What a run of `topo` or `date` writes, by what commits reach.
-use Rattle.std.proofs.Common.{◌≡◌, ℕ, List, [], ◌∷◌, ◌++◌, map, filter, true, Option, Some, None, Result, Ok, Err, Contains, IsSome, ◌⊎◌, refl, sym, ap, subst, ⊎_elim, ◌∙◌}
+use Rattle.std.proofs.Common.{◌≡◌, ℕ, List, [], ◌∷◌, ◌++◌, map, filter, false, true, Option, Some, None, Result, Ok, Err, Contains, IsSome, ◌⊎◌, refl, sym, ap, subst, ⊎_elim, ◌∙◌}
 use Rattle.gix_commands.proofs.Common.{Yields, Contains-append_left, Contains-append_right, ObjectId, IsExistingFault, id_cmp, Objects, GraphRow, Info, Commit, commit_at}
 use Rattle.gix_commands.proofs.Common.{parents_in, parents_of, text_next, step, no_member, Contains-cons_cases, TopoPlan, IsCommitRead, IsReached, IsFault, IsFirstReady, IsNextReady, IsAgreeing, none_agree, Fault, Topo}
 use Rattle.gix_commands.proofs.Common.{fault_of_topo_walk, AreWhole, TopoSucceeds, EndsWell, IsOutside, stored, walked_down, not_built, unserved, IsBuiltFrom}
@@ -16,9 +16,11 @@ use Rattle.gix_topo.specs.Walk.{IsSound, ended, given, refused, failed}
 use Rattle.gix_topo.proofs.Run.Corollaries.{once}
 use Rattle.gix_topo.proofs.Run.Corollaries.{each_by_text}
 use Rattle.gix_topo.proofs.Run.Theorem.{gives_text}
+use Rattle.gix_commands.specs.Readable.{readable}
 use Rattle.gix_commands.specs.Run.{Serves, cut_off}
 use Rattle.gix_commands.specs.TopoWalked.{Walk, Answers, IsWalkFault}
 use Rattle.gix_commands.specs.Walked.{failed as fell, given as all_given}
+use Rattle.gix_commands.proofs.ReadableObjects.{readable_whole}
 use Rattle.gix_commands.proofs.CommitRuns.{ends_well}
 use Rattle.gix_commands.proofs.ListedCommits.{ListsDown}
 
@@ -122,4 +124,4 @@ module _ (objects : Objects) (by : Sorting) (tips ends : List ObjectId) where
 
 pub topo_succeeds : TopoSucceeds
 topo_succeeds words input records by limit tips ends answer old new asked are whole runs =
-    ends_well words input records (Commits (Topo by) limit tips ends) answer old new asked are (well (stored records) [] (none_agree (stored records) [] refl) by tips ends whole old limit) runs
+    ends_well words input records (Commits (Topo by) limit tips ends) answer old new asked are (well (readable false (stored records)) [] (none_agree (readable false (stored records)) [] refl) by tips ends (readable_whole false (stored records) (tips ++ ends) whole) old limit) runs

@@ -116,4 +116,5 @@ pub data RunsOver (words layers : List (List ℕ)) (has old : Option (List ℕ))
       → StoredDisagrees (stored records) (never_faulty (stored records)) rows (Row i) → RunsOver words layers has old (Err (fault.Disagrees i)) old
   served : (request : Request) (rows : List GraphRow) (input : List ℕ) (records : List Record) {answer : Result (Unit {0}) Fault} {new : Option (List ℕ)}
       → request_of words ≡ Ok request → Opens layers rows → Tells has input → AreRecords records input → StoredAgree rows (stored records)
-      → Serves (readable (reads_all_lines request) (with_rows rows (stored records))) rows old request answer new → RunsOver words layers has old answer new
+      → Serves (readable (reads_all_lines request) (with_rows rows (stored records))) rows old request answer new
+      → RunsOver words layers has old answer new

@@ -1,7 +1,8 @@
 //! How many commits one commit reaches and another doesn't.
-ghost use Rattle.std.specs.Prelude.{◌≡◌, ◌≢◌, [], ◌∷◌, IfErr, IfOk};
+ghost use Rattle.std.specs.Prelude.{◌≡◌, ◌≢◌, [], ◌∷◌, IfErr, IfOk, false};
 ghost use Rattle.std.specs.Iterator.{IsFinite};
 ghost use Rattle.gix_commands.specs.Ahead.{Counts, FailsToCount, Numbers, ahead_line};
+ghost use Rattle.gix_commands.specs.Readable.{readable};
 ghost use Rattle.gix_commands.specs.Run.{Serves};
 ghost use Rattle.gix_words.specs.Words.{Ahead};
 ghost use Rattle.gix_graph_store.specs.WithRows.{with_rows};
@@ -31,7 +32,7 @@ pub fn write_ahead<W: Write>(
     graph: Option<&Graph>,
     writer: &mut W,
 ) -> Result<(), Fault>
-    ensures { Serves (with_rows (rows_in graph.entry) store.now) (rows_in graph.entry) (W.contents writer.old) (Ahead one other) result (W.contents writer.new) }
+    ensures { Serves (readable false (with_rows (rows_in graph.entry) store.now)) (rows_in graph.entry) (W.contents writer.old) (Ahead one other) result (W.contents writer.new) }
 {
     let ahead = count(alloc, one, other, store, graph)?;
     let behind = count(alloc, other, one, store, graph)?;
@@ -47,8 +48,8 @@ fn count(
     store: &LentStore<'_>,
     graph: Option<&Graph>,
 ) -> Result<usize, Fault>
-    ensures ok { IfOk result (Counts (with_rows (rows_in graph.entry) store.now) (rows_in graph.entry) tip hidden) }
-    ensures err { IfErr result (λ e. e ≢ Fault.Memory → FailsToCount (with_rows (rows_in graph.entry) store.now) (rows_in graph.entry) tip hidden e) }
+    ensures ok { IfOk result (Counts (readable false (with_rows (rows_in graph.entry) store.now)) (rows_in graph.entry) tip hidden) }
+    ensures err { IfErr result (λ e. e ≢ Fault.Memory → FailsToCount (readable false (with_rows (rows_in graph.entry) store.now)) (rows_in graph.entry) tip hidden e) }
 {
     let tips = alone(alloc, tip)?;
     let hidden = alone(alloc, hidden)?;

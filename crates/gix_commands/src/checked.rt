@@ -4,13 +4,14 @@ ghost use Rattle.gix_commitgraph.specs.Rows.{row_of};
 ghost use Rattle.gix_revwalk.specs.Agreeing.{rows_in};
 ghost use Rattle.gix_graph_store.specs.WithRows.{with_rows};
 ghost use Rattle.gix_commands.specs.Checked.{Looks, lost_at};
+ghost use Rattle.gix_commands.specs.Readable.{is_first, readable};
 
 use crate::commits::Lent;
 use gix_parts::graph::Graph;
 use gix_parts::hash::ObjectId;
 use gix_parts::object::find::Find;
 use gix_parts::records::LentStore;
-use gix_traverse::commit::{Info, Simple, Unfiltered};
+use gix_traverse::commit::{Info, Parents, Simple, Unfiltered};
 use gix_words::Fault;
 use std::alloc::Global;
 use std::marker::Model;
@@ -45,18 +46,19 @@ impl<'a> Model for Checked<'a> {
 }
 
 impl<'a> Checked<'a> {
-    /// The walk, which is over this store and these rows. Nothing is read yet.
+    /// The walk, which is over this store and these rows, through these parents. Nothing is read yet.
     pub fn new(
         alloc: Global,
         walk: Simple<Lent<'a>, Unfiltered>,
+        parents: Parents,
         store: &'a LentStore<'a>,
         graph: Option<&'a Graph>,
     ) -> Checked<'a>
-        ensures { result ≡ record { walk = walk.entry; objects = with_rows (rows_in graph.entry) store.now; rows = rows_in graph.entry; lost = None } }
+        ensures { result ≡ record { walk = walk.entry; objects = readable (is_first parents) (with_rows (rows_in graph.entry) store.now); rows = rows_in graph.entry; lost = None } }
     {
         Checked {
             walk,
-            objects: Lent::over(store, graph),
+            objects: Lent::over(store, graph, parents),
             graph,
             lost: None,
             text: Vec::new(alloc),

@@ -1,10 +1,12 @@
 //! Walks over stored commits.
-ghost use Rattle.std.specs.Prelude.{◌≡◌, Ok, IfErr, IfOk};
+ghost use Rattle.std.specs.Prelude.{◌≡◌, false, Ok, IfErr, IfOk};
 ghost use Rattle.gix_revwalk.specs.Agreeing.{rows_in, rows_of};
 ghost use Rattle.gix_graph_store.specs.WithRows.{with_rows};
+ghost use Rattle.gix_commands.specs.Readable.{is_first, readable};
 ghost use Rattle.gix_commands.specs.TopoWalked as topo_walk;
 ghost use Rattle.gix_commands.specs.Walked.{IsStartFault, StartsFrom};
 
+use crate::texts::make_readable;
 use gix_graph_store::WithRows;
 use gix_parts::graph::Graph;
 use gix_parts::hash::ObjectId;
@@ -19,10 +21,12 @@ use std::alloc::{AllocError, Global};
 use std::marker::Model;
 
 /// A store that several walks read, one after another, and that has a commit for each row of a commit-graph beside its objects, if there
-/// is one. The model of it is what it has.
+/// is one. A commit whose bytes aren't a text it gives as one that no walk takes for a commit. The model of it is what it gives.
 #[derive(Drop)]
 pub struct Lent<'a> {
     store: WithRows<'a, &'a LentStore<'a>>,
+    /// Through which parents the walk goes. By first parents alone the lines of all parents are looked at.
+    parents: Parents,
 }
 
 impl<'a> Model for Lent<'a> {
@@ -30,21 +34,23 @@ impl<'a> Model for Lent<'a> {
     ghost use Rattle.gix_hash.specs.Id.{id_code};
     ghost use Rattle.gix_object.specs.Object.{Objects, object_code};
     ghost use Rattle.gix_graph_store.specs.WithRows.{objects_with};
+    ghost use Rattle.gix_commands.specs.Readable.{is_first, readable};
 
     ghost Value = { Objects };
 
     ghost coded = { map.code id_code object_code };
 
-    ghost view = { λ s. objects_with (λ store. store.now) s.store };
+    ghost view = { λ s. readable (is_first s.parents) (objects_with (λ store. store.now) s.store) };
 }
 
 impl<'a> Lent<'a> {
-    /// The store with these rows, if there are any.
-    pub fn over(store: &'a LentStore<'a>, graph: Option<&'a Graph>) -> Lent<'a>
-        ensures { result ≡ with_rows (rows_in graph.entry) store.now }
+    /// The store with these rows, if there are any, for a walk through these parents.
+    pub fn over(store: &'a LentStore<'a>, graph: Option<&'a Graph>, parents: Parents) -> Lent<'a>
+        ensures { result ≡ readable (is_first parents) (with_rows (rows_in graph.entry) store.now) }
     {
         Lent {
             store: WithRows::new(store, graph),
+            parents,
         }
     }
 }
@@ -55,7 +61,11 @@ impl Find for Lent<'_> {
     ghost faulty = { λ _ _. ⊥ };
 
     fn find_into(&self, id: &ObjectId, buf: &mut Vec<u8>) -> Result<Option<Kind>, find::Error> {
-        self.store.find_into(id, buf)
+        let Some(kind) = self.store.find_into(id, buf)? else {
+            return Ok(None);
+        };
+        make_readable(self.parents, id, kind, buf)?;
+        Ok(Some(kind))
     }
 }
 
@@ -82,11 +92,11 @@ pub fn walk_from<'a>(
     store: &'a LentStore<'a>,
     graph: Option<&'a Graph>,
 ) -> Result<Simple<Lent<'a>, Unfiltered>, Fault>
-    ensures ok { IfOk result (StartsFrom (with_rows (rows_in graph.entry) store.now) (rows_in graph.entry) parents sorting tips.items hidden.items) }
-    ensures err { IfErr result (IsStartFault (with_rows (rows_in graph.entry) store.now) sorting tips.items) }
+    ensures ok { IfOk result (StartsFrom (readable (is_first parents) (with_rows (rows_in graph.entry) store.now)) (rows_in graph.entry) parents sorting tips.items hidden.items) }
+    ensures err { IfErr result (IsStartFault (readable (is_first parents) (with_rows (rows_in graph.entry) store.now)) sorting tips.items) }
 {
     let rows = copy_of(graph)?;
-    let made = Simple::new(alloc, tips, Lent::over(store, graph))?;
+    let made = Simple::new(alloc, tips, Lent::over(store, graph, parents))?;
     let sorted = made.sorting(sorting)?;
     let walk = sorted.hide(hidden)?;
     Ok(walk.parents(parents).commit_graph(rows))
@@ -104,11 +114,11 @@ pub fn topo_walk_from<'a>(
     store: &'a LentStore<'a>,
     graph: Option<&'a Graph>,
 ) -> Result<Topo<Lent<'a>, Unfiltered>, Fault>
-    ensures ok { IfOk result (λ walk. topo_walk.IsBuiltFrom (with_rows (rows_in graph.entry) store.now) (rows_in graph.entry) sorting tips.items ends.items (Ok walk)) }
-    ensures err { IfErr result (topo_walk.IsStartFault (with_rows (rows_in graph.entry) store.now) (rows_in graph.entry) sorting tips.items ends.items) }
+    ensures ok { IfOk result (λ walk. topo_walk.IsBuiltFrom (readable false (with_rows (rows_in graph.entry) store.now)) (rows_in graph.entry) sorting tips.items ends.items (Ok walk)) }
+    ensures err { IfErr result (topo_walk.IsStartFault (readable false (with_rows (rows_in graph.entry) store.now)) (rows_in graph.entry) sorting tips.items ends.items) }
 {
     let rows = copy_of(graph)?;
-    let from_tips = Builder::new(alloc, Lent::over(store, graph)).with_tips(tips)?;
+    let from_tips = Builder::new(alloc, Lent::over(store, graph, Parents::All)).with_tips(tips)?;
     let builder = from_tips.with_ends(ends)?;
     let ordered = builder.sorting(sorting);
     let walk = ordered.with_commit_graph(rows).build()?;

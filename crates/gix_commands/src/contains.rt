@@ -1,6 +1,7 @@
 //! Which of some commits a commit contains.
-ghost use Rattle.std.specs.Prelude.{◌≡◌, IfOk};
+ghost use Rattle.std.specs.Prelude.{◌≡◌, IfOk, false};
 ghost use Rattle.std.specs.List.{flat_map};
+ghost use Rattle.gix_commands.specs.Readable.{readable};
 ghost use Rattle.gix_commands.specs.Run.{Serves};
 ghost use Rattle.gix_commands.specs.Walked.{line_of};
 ghost use Rattle.gix_words.specs.Words.{Contained};
@@ -13,6 +14,7 @@ use crate::output::write_out;
 use gix_parts::graph::Graph;
 use gix_parts::hash::ObjectId;
 use gix_parts::records::LentStore;
+use gix_traverse::commit::Parents;
 use gix_traverse::commit::contained::contained;
 use gix_words::Fault;
 use std::alloc::{AllocError, Global};
@@ -31,9 +33,9 @@ pub fn write_contained<W: Write>(
     graph: Option<&Graph>,
     writer: &mut W,
 ) -> Result<(), Fault>
-    ensures { Serves (with_rows (rows_in graph.entry) store.now) (rows_in graph.entry) (W.contents writer.old) (Contained tip ids.items) result (W.contents writer.new) }
+    ensures { Serves (readable false (with_rows (rows_in graph.entry) store.now)) (rows_in graph.entry) (W.contents writer.old) (Contained tip ids.items) result (W.contents writer.new) }
 {
-    let objects = Lent::over(store, graph);
+    let objects = Lent::over(store, graph, Parents::All);
     let those = contained(alloc, &[tip], ids.as_slice(), &objects, graph)?;
     let mut lines = lines_of(alloc, those.as_slice())?;
     write_out(&mut lines, writer)

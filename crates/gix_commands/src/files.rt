@@ -1,8 +1,9 @@
 //! The lines of the entries of a tree.
-ghost use Rattle.std.specs.Prelude.{◌≡◌, ◌++◌, ◌∷◌, [], length, take, IfErr, IfOk, IfSome, OnErr, OnOk};
+ghost use Rattle.std.specs.Prelude.{◌≡◌, ◌++◌, ◌∷◌, [], length, take, IfErr, IfOk, IfSome, OnErr, OnOk, false};
 ghost use Rattle.gix_object.specs.TreeRefIter.{entry_of};
 ghost use Rattle.gix_commands.specs.Files.{AreLinesOf, IsTreeFault, file_line, six_octal_digits};
 ghost use Rattle.gix_commands.specs.Lister.{fresh_noted, is_name, line_at, turned, with_entry, with_tree};
+ghost use Rattle.gix_commands.specs.Readable.{readable};
 ghost use Rattle.gix_commands.specs.Run.{Serves};
 ghost use Rattle.gix_words.specs.Words.{Files};
 ghost use Rattle.gix_graph_store.specs.WithRows.{with_rows};
@@ -16,6 +17,7 @@ use gix_parts::graph::Graph;
 use gix_parts::hash::ObjectId;
 use gix_parts::object::tree::EntryRef;
 use gix_parts::records::LentStore;
+use gix_traverse::commit::Parents;
 use gix_traverse::tree::Recorder;
 use gix_traverse::tree::depthfirst::{State, depthfirst};
 use gix_traverse::tree::visit::{Action, Visit};
@@ -39,9 +41,9 @@ pub fn write_files<W: Write>(
     graph: Option<&Graph>,
     writer: &mut W,
 ) -> Result<(), Fault>
-    ensures { Serves (with_rows (rows_in graph.entry) store.now) (rows_in graph.entry) (W.contents writer.old) (Files ending tree) result (W.contents writer.new) }
+    ensures { Serves (readable false (with_rows (rows_in graph.entry) store.now)) (rows_in graph.entry) (W.contents writer.old) (Files ending tree) result (W.contents writer.new) }
 {
-    let mut lines = lines_of_tree(alloc, ending, tree, Lent::over(store, graph))?;
+    let mut lines = lines_of_tree(alloc, ending, tree, Lent::over(store, graph, Parents::All))?;
     write_out(&mut lines, writer)
 }
 

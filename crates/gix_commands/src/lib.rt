@@ -8,6 +8,7 @@
 
 ghost use Rattle.std.specs.Prelude.{◌≡◌, ◌≢◌, ℕ, List, [], map, Some, Err, string_bytes};
 ghost use Rattle.gix_records.specs.Records.{Record, AreRecords};
+ghost use Rattle.gix_commands.specs.Readable.{readable, reads_all_lines};
 ghost use Rattle.gix_commands.specs.Run.{Runs, Serves};
 ghost use Rattle.gix_statement.specs.WholeStatement.{AreFed, Objects, Promises, Row};
 ghost use Rattle.gix_words.specs.Words.{Commits, request_of, request_of_command};
@@ -26,6 +27,7 @@ pub mod laws;
 mod output;
 mod over;
 mod stored;
+mod texts;
 
 use ahead::write_ahead;
 use checked::Checked;
@@ -92,7 +94,7 @@ fn serve<W: Write>(
     graph: Option<&Graph>,
     writer: &mut W,
 ) -> Result<(), Fault>
-    ensures { Serves (with_rows (rows_in graph.entry) store.now) (rows_in graph.entry) (W.contents writer.old) (request_of_command command) result (W.contents writer.new) }
+    ensures { Serves (readable (reads_all_lines (request_of_command command)) (with_rows (rows_in graph.entry) store.now)) (rows_in graph.entry) (W.contents writer.old) (request_of_command command) result (W.contents writer.new) }
 {
     match command {
         Command::Commits {
@@ -119,7 +121,7 @@ fn serve_commits<W: Write>(
     graph: Option<&Graph>,
     writer: &mut W,
 ) -> Result<(), Fault>
-    ensures { Serves (with_rows (rows_in graph.entry) store.now) (rows_in graph.entry) (W.contents writer.old) (Commits order limit tips.items hidden.items) result (W.contents writer.new) }
+    ensures { Serves (readable (reads_all_lines (Commits order limit tips.items hidden.items)) (with_rows (rows_in graph.entry) store.now)) (rows_in graph.entry) (W.contents writer.old) (Commits order limit tips.items hidden.items) result (W.contents writer.new) }
 {
     match order {
         Order::Simple { parents, sorting } => {
@@ -127,7 +129,7 @@ fn serve_commits<W: Write>(
             if let Sorting::BreadthFirst = sorting {
                 return write_commits(alloc, walk, limit, writer);
             }
-            let checked = Checked::new(alloc, walk, store, graph);
+            let checked = Checked::new(alloc, walk, parents, store, graph);
             write_commits(alloc, checked, limit, writer)
         }
         Order::Topo(sorting) => {

@@ -126,5 +126,6 @@ mod hidden;
 mod over;
 mod records;
 mod streams;
+mod texts;
 mod topo;
 mod words;

@@ -54,5 +54,6 @@ fn a_hidden_commit_has_to_be_a_whole_one(rt: HostRuntime) -> Result<(), Fail> {
         "tag #a 96\ntree #0\nauthor A <a@b> 1 +0000\ncommitter A <a@b> 1 +0000\n\n\n",
         "! wrong kind #a",
     )?;
-    check_each(alloc, "commit #a 4\ntree\n", "! broken object")
+    check_each(alloc, "commit #a 4\ntree\n", "! broken object")?;
+    check_each(alloc, "commit #a 0\n\n", "! broken object")
 }

@@ -218,3 +218,61 @@ fn writes_many_lines(rt: HostRuntime) -> Result<(), Fail> {
         lines.as_str(),
     )
 }
+
+// Takes a thousand bytes at each write, until it is full. Then it takes none.
+#[derive(Drop)]
+struct Full {
+    bytes: Vec<u8>,
+    room: usize,
+}
+
+impl Write for Full {
+    fn write(&mut self, buf: &[u8]) -> io::Result<usize> {
+        let left = self.room.saturating_sub(self.bytes.len());
+        let taken = buf.len().min(left).min(1000);
+        self.bytes
+            .extend_from_slice(buf.get(..taken).unwrap_or_default())?;
+        Ok(taken)
+    }
+
+    fn flush(&mut self) -> io::Result<()> {
+        Ok(())
+    }
+}
+
+// Tries a run whose writer has room for so many bytes: for less than the lines have.
+fn check_full(
+    alloc: Global,
+    words: &[String],
+    input: &[u8],
+    lines: &[u8],
+    room: usize,
+) -> Result<(), Fail> {
+    let mut writer = Full {
+        bytes: Vec::new(alloc),
+        room,
+    };
+    let answer = run(alloc, words, &mut { input }, &mut writer);
+    let taken = lines.get(..room).unwrap_or_default();
+    if answer == Err(Fault::Write) && writer.bytes.as_slice() == taken {
+        return Ok(());
+    }
+    let told = writer.bytes.len();
+    Err(Fail::new(format_args!("room for {room}: {answer:?} behind {told} bytes")))
+}
+
+#[test]
+fn a_full_writer_has_a_beginning(rt: HostRuntime) -> Result<(), Fail> {
+    let alloc = rt.alloc();
+    let mut input = String::new(alloc);
+    let mut lines = String::new(alloc);
+    push_links(&mut input, &mut lines)?;
+    let words = words_of(alloc, &["breadth", "-n", "2000", "#0"])?;
+    // More lines than are buffered at once, which are 65,559 bytes.
+    for room in [
+        0, 1, 41, 999, 1000, 65_535, 65_536, 65_558, 65_559, 65_560, 81_999,
+    ] {
+        check_full(alloc, &words, input.as_bytes(), lines.as_bytes(), room)?;
+    }
+    Ok(())
+}
