@@ -1,18 +1,14 @@
 -- What a run over a store may answer.
-use Rattle.std.proofs.Common.{◌≡◌, ◌≢◌, ℕ, List, [], Option, Some, Result, Ok, Err, refl, sym, subst, arith, ◌∙◌}
-use Rattle.gix_commands.proofs.Common.{Objects, GraphRow, stored, Fault, fault_of_disagreement, Runs, never_faulty, Request, request_of}
+use Rattle.std.proofs.Common.{◌≡◌, ◌≢◌, ℕ, List, Option, Result, Ok, Err, sym, subst, ◌∙◌}
+use Rattle.gix_commands.proofs.Common.{Objects, GraphRow, Fault, fault_of_disagreement, never_faulty, Request, request_of}
 use Rattle.gix_graph_check.specs.Sound.{AreSound}
 use Rattle.gix_graph_check.specs.declared.Disagreement.{Disagreement}
 use Rattle.gix_graph_check.specs.declared.Disagreement.TheVariants as disagreement
 use Rattle.gix_graph_store.specs.StoredRows.{StoredDisagrees}
-use Rattle.gix_records.specs.Records.{Record, AreRecords}
 use Rattle.gix_words.specs.declared.fault.Fault.TheVariants as fault
-use Rattle.gix_commands.specs.Readable.{readable, reads_all_lines}
-use Rattle.gix_commands.specs.Run as run
-use Rattle.gix_commands.specs.Run.{Serves}
-use Rattle.gix_commands.specs.StoredRuns.{FailsToAgree, RunsStored, unsound, disagrees, no_memory, without_memory, no_command, not_agreed, served}
+use Rattle.gix_commands.specs.StoredRuns.{FailsToAgree, RunsStored, unsound, disagrees, no_memory, without_memory, no_command, not_agreed}
 use Rattle.gix_commands.proofs.MemoryFaults.{failed_so}
-use Rattle.gix_commands.proofs.RunFacts.{err_same, without_rows}
+use Rattle.gix_commands.proofs.RunFacts.{err_same}
 
 -- what is stored isn't as the rows say
 pub of_disagreement : (rows : List GraphRow) (objects : Objects) (why : Disagreement) → AreSound rows → StoredDisagrees objects (never_faulty objects) rows why → FailsToAgree rows objects (fault_of_disagreement why)

@@ -9,7 +9,6 @@ use Rattle.gix_statement.specs.CommitGraph.{AreLayers}
 use Rattle.gix_statement.specs.WholeStatement as page
 use Rattle.gix_statement.specs.WholeStatement.{Agree, AreFed, Entry, IsCommit, IsTree, Promises, Row}
 use Rattle.gix_words.specs.declared.fault.Fault.TheVariants as fault
-use Rattle.gix_commands.specs.Opening.{Opens}
 use Rattle.gix_commands.specs.Pages.{page_objects, page_rows}
 use Rattle.gix_commands.specs.Readable.{readable, reads_all_lines}
 use Rattle.gix_commands.specs.Run as run

@@ -9,9 +9,9 @@ use Rattle.gix_commands.proofs.stored.run_named.Goals as goal
 
 pub returns-clause-runs : goal.returns-clause-runs
 returns-clause-runs g c =
-    subst (λ objects. RunsStored (map string_bytes c.args.words.now) objects (rows_in c.args.graph.entry) _ c.run_stored.result _) c.store.ensures.exact c.run_stored.ensures.runs
+    subst (λ objects. RunsStored (map string_bytes c.args.words.now) objects (rows_in c.args.graph) (g.W.Write.contents c.args.writer.now) c.run_stored-2.result (g.W.Write.contents c.run_stored-2.new.writer)) c.store.ensures.exact c.run_stored-2.ensures.runs
 
 pub returns-clause-whole : goal.returns-clause-whole
 returns-clause-whole g c = promises_more
     (λ objects rows given. let same = given.0 ∙ ap page_objects c.store.ensures.exact in (subst page.AreNamed (sym same) (are_named c.args.objects.now c.store.ensures.named), same, given.1))
-    _ _ _ _ c.run_stored.ensures.whole
+    (map string_bytes c.args.words.now) (g.W.Write.contents c.args.writer.now) c.run_stored-2.result (g.W.Write.contents c.run_stored-2.new.writer) c.run_stored-2.ensures.whole
