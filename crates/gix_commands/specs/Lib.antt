@@ -7,7 +7,6 @@ pub mod Lister
 pub mod Ahead
 pub mod Readable
 pub mod Pages
-pub mod Readable
 pub mod Run
 pub mod StoredRuns
 pub mod Histories
