@@ -101,8 +101,8 @@ pub const COMMANDS: &[Command] = &[
         name: Name::CheckGraph,
         arguments: "",
         what: &[
-            "compares each row of git's commit-graph with its commit, and each commit with its id; from",
-            "then on the other commands use the file, until it changes",
+            "compares git's commit-graph with the commits, and these with their ids; the other commands",
+            "then use it, until it changes",
         ],
         example: "check-graph",
     },
