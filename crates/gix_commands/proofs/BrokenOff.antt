@@ -1,5 +1,5 @@
 -- Lines that are written at once, or whose beginning is.
-use Rattle.std.proofs.Common.{◌≡◌, ℕ, List, ◌++◌, Option, Result, Ok, Err, IfErr, OnOk, sym, subst}
+use Rattle.std.proofs.Common.{ℕ, List, Option, Result, Ok, Err, IfErr, OnOk, sym, subst}
 use Rattle.std.proofs.KnownBytes.{Appends-trans}
 use Rattle.std.specs.Io.KnownBytes.{append_known}
 use Rattle.gix_commands.proofs.Common.{Appends, Objects, GraphRow, Fault, Request}

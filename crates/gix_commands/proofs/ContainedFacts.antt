@@ -1,5 +1,5 @@
 -- How the answer of a call that asks which ids are contained is served.
-use Rattle.std.proofs.Common.{◌≡◌, ◌≢◌, ℕ, List, [], ◌∷◌, Option, Result, Ok, Err, IfErr, OnOk, flat_map, sym, ap, subst, ◌∙◌}
+use Rattle.std.proofs.Common.{◌≡◌, ◌≢◌, ℕ, List, [], ◌∷◌, Option, Result, Err, IfErr, OnOk, flat_map, sym, ap, subst, ◌∙◌}
 use Rattle.gix_commands.proofs.Common.{Appends, ObjectId, Objects, GraphRow, Fault, fault_of_contained, selected, not_selected, unserved, line_of, Contained}
 use Rattle.gix_contained.specs.declared.Error.{Error as ContainedError}
 use Rattle.gix_contained.specs.declared.Error.TheVariants as contained_error

@@ -1,11 +1,10 @@
 -- The lines of the entries of a tree.
-use Rattle.std.proofs.Common.{◌≡◌, ◌⊎◌, inl, inr, ℕ, ◌-◌, ◌^◌, List, [], ◌∷◌, ◌++◌, false, Option, Some, Result, Ok, Err, IfSome, IfErr, OnOk, sym, ap, subst, ◌∙◌, append_assoc, append-nil}
+use Rattle.std.proofs.Common.{◌≡◌, ◌⊎◌, inl, inr, ℕ, ◌-◌, ◌^◌, List, [], ◌∷◌, ◌++◌, false, Option, Some, Result, Err, IfSome, IfErr, OnOk, sym, ap, subst, ◌∙◌, append_assoc, append-nil}
 use Rattle.gix_commands.proofs.Common.{digits, format_spec, ◌++?◌, Appends, ObjectId, hex_of, Objects, GraphRow, Fault, six_octal_digits, file_line, AreLinesOf, IsTreeFault, not_listed, unserved}
 use Rattle.gix_commands.proofs.Common.{Files}
 use Rattle.std.specs.Fmt.{padded_integral, char_count}
 use Rattle.std.proofs.Math.Nat.{sub-zero}
 use Rattle.gix_tree.specs.Recorder.{Record}
-use Rattle.gix_words.specs.declared.fault.Fault.TheVariants as fault
 use Rattle.gix_commands.specs.Files.{IsWalkFaultOf, IsNameFaultOf}
 use Rattle.gix_commands.specs.Output.{BreaksOff}
 use Rattle.gix_commands.specs.Run.{Serves, listed, misnamed}

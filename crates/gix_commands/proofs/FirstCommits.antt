@@ -1,11 +1,10 @@
 -- What a run of `topo` or `date` writes that has a limit, by what commits reach.
-use Rattle.std.proofs.Common.{◌≡◌, ◌<◌, ◌-◌, ℕ, List, length, take, Ok, sym, ap, ◌∙◌, arith, take_all}
+use Rattle.std.proofs.Common.{◌≡◌, ◌<◌, ℕ, List, length, take, Ok, sym, ap, ◌∙◌, arith, take_all}
 use Rattle.gix_commands.proofs.Common.{ObjectId, Objects, GraphRow, Info, IsAgreeing, text_next}
 use Rattle.gix_commands.proofs.Common.{EndsWithin, enough, before}
 use Rattle.std.proofs.lemmas.List.{length-map}
 use Rattle.gix_topo.specs.declared.Sorting.{Sorting as TopoSorting}
 use Rattle.gix_commands.specs.TopoWalked as topo
-use Rattle.gix_commands.specs.Walked.{Walk, Answers, IsWalkFault}
 use Rattle.gix_commands.proofs.CommitRuns.{ids_in}
 use Rattle.gix_commands.proofs.SimpleBegins.{AreFirstOf}
 use Rattle.gix_commands.proofs.TopoBegins.{first_given_down}

@@ -1,5 +1,5 @@
 -- Objects that were compared with their ids are named by the page.
-use Rattle.std.proofs.Common.{false, ◌≡◌, ℕ, List, ◌∷◌, ◌++◌, length, Option, Some, None, IfSome, Contains, codes, refl, sym, ap, subst, ◌∙◌, arith, option_map, decimal}
+use Rattle.std.proofs.Common.{false, ◌≡◌, ◌∷◌, ◌++◌, length, Option, Some, None, IfSome, Contains, refl, subst, arith, option_map, decimal}
 use Rattle.std.specs.Fmt.{digits}
 use Rattle.std.specs.FinMap.{get}
 use Rattle.std.proofs.lemmas.Option.{none-some, same_Some}

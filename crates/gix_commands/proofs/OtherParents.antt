@@ -1,5 +1,5 @@
 -- A list by some parents is one by others that are the same of all that is reached.
-use Rattle.std.proofs.Common.{◌≡◌, ℕ, zero, suc, ℤ, List, [], ◌∷◌, ◌++◌, filter, take, slice_get, false, not, if◌then◌else◌, Option, None, Some, Contains, MatchOption, flat_map, refl, sym, ap, subst, ⊎_elim, ◌∙◌}
+use Rattle.std.proofs.Common.{◌≡◌, ℕ, zero, suc, ℤ, List, [], ◌∷◌, ◌++◌, filter, take, slice_get, false, not, Option, None, Some, Contains, MatchOption, flat_map, refl, sym, ap, subst, ⊎_elim, ◌∙◌}
 use Rattle.gix_commands.proofs.Common.{Contains-append_left, Contains-append_right, ObjectId, Objects, CommitTimeOrder, Parents, step, IsBreadthOrder, first_new, by_mode}
 use Rattle.gix_commands.proofs.Common.{parents_of, time_of, new_ids, IsTimeOrder, IsInOrder, cutoff, is_older, Contains-here, Contains-there}
 use Rattle.gix_commands.proofs.Common.{Contains-cons_cases, no_member, text_next, reach_more, text_whole, whole_from, AreWhole}

@@ -1,6 +1,6 @@
 -- Lines that are buffered, and lines that were written.
-use Rattle.std.proofs.Common.{◌≡◌, ◌<◌, ◌≤◌, ◌+◌, ◌-◌, ℕ, List, [], ◌∷◌, ◌++◌, length, Option, Some, None, Result, Ok, Err, ◌⊎◌, refl, sym, ap, subst, ◌∙◌, append_assoc, arith, inl, inr, append-nil, length-append}
-use Rattle.gix_commands.proofs.Common.{Appends, Yields, Info, Fault, Grows, Adds, WritesAll, Ends, EndsBy, finished, cut_short, enough, line_of, lines_of}
+use Rattle.std.proofs.Common.{◌≡◌, ◌<◌, ◌≤◌, ◌+◌, ◌-◌, ℕ, List, [], ◌∷◌, ◌++◌, length, Option, Some, None, Result, Ok, Err, refl, sym, ap, subst, ◌∙◌, append_assoc, arith, inl, inr, append-nil, length-append}
+use Rattle.gix_commands.proofs.Common.{Appends, Yields, Info, Fault, Grows, Adds, Ends, EndsBy, finished, cut_short, enough, line_of, lines_of}
 use Rattle.std.proofs.lemmas.List.{map-append}
 use Rattle.std.proofs.lemmas.Grind.{flat_map-append}
 use Rattle.std.proofs.KnownBytes.{Appends-nil, Appends-trans}

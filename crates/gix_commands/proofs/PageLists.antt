@@ -1,5 +1,5 @@
 -- A list by the parents that texts name, and the first of it, are such a list and a beginning of one in the words of the page.
-use Rattle.std.proofs.Common.{◌≡◌, ◌<◌, ◌≤◌, ◌⊎◌, ℕ, ℤ, List, [], ◌∷◌, ◌++◌, length, take, drop, reverse, flat_map, Contains, sym, ap, subst, ◌∙◌, ⊎_elim, arith, append_assoc, append-nil, take-append-drop, length-append}
+use Rattle.std.proofs.Common.{◌≡◌, ◌<◌, ◌≤◌, ℕ, ℤ, List, [], ◌∷◌, ◌++◌, length, take, drop, reverse, flat_map, Contains, sym, ap, subst, ◌∙◌, ⊎_elim, arith, append_assoc, append-nil, take-append-drop, length-append}
 use Rattle.gix_commands.proofs.Common.{All-contains, Contains-get_or, Contains-append_left, Contains-append_right, Contains-append_cases, Contains-cons_cases, Contains-here, Contains-there, no_member, ObjectId}
 use Rattle.std.proofs.Math.ListN.{get_or, get_or-append}
 use Rattle.std.proofs.lemmas.List.{drop_all, length-take-le, reverse-append, take_all}

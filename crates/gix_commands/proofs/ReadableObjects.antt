@@ -1,6 +1,6 @@
 -- What is read of objects, by what they are.
-use Rattle.std.proofs.Common.{is_lt, ◌≡◌, ◌≢◌, ℕ, Bool, true, false, cond, ◌&&◌, T, List, [], ◌∷◌, map, Option, Some, None, Ok, Contains, option_map, IsSome, refl, sym, ap, ap₂, subst, ◌∙◌}
-use Rattle.gix_commands.proofs.Common.{get, ObjectId, id_cmp, is_same, kind_of, same_is, Object, Objects, GraphRow, IsAgreeing, RowAgrees, commit_at, commit_of_kind, commit_of_object, parents_of, parents_in, read_commit, Commit, scan_is, AreWhole, none-some}
+use Rattle.std.proofs.Common.{is_lt, ◌≡◌, ℕ, Bool, true, false, cond, ◌&&◌, T, List, [], ◌∷◌, map, Option, Some, None, Ok, Contains, option_map, IsSome, refl, sym, ap, ap₂, subst, ◌∙◌}
+use Rattle.gix_commands.proofs.Common.{get, ObjectId, id_cmp, is_same, kind_of, same_is, Object, Objects, GraphRow, IsAgreeing, RowAgrees, commit_at, commit_of_kind, commit_of_object, parents_in, read_commit, Commit, scan_is, AreWhole}
 use Rattle.gix_commands.proofs.Common.{entries_at, items_of_kind, items_of_object, LookUpFails, trees_of, never_faulty, Items}
 use Rattle.std.specs.FinMap as map_of
 use Rattle.std.specs.List.{AllByRecursion}

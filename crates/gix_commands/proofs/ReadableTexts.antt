@@ -1,14 +1,13 @@
 -- What is read of objects has the commits and the trees of the page that the objects have, and no other; and each of its commits has the
 -- text of one, as far as it is asked for.
 use Rattle.std.proofs.Common.{◌≡◌, ◌≢◌, ℕ, Bool, true, false, List, [], ◌∷◌, ◌++◌, Option, Some, None, codes, option_map, refl, sym, ap, subst, ◌∙◌}
-use Rattle.gix_commands.proofs.Common.{get, none-some, same_Some, ObjectId, kind_of, Object, Objects, kind_word, scanned, Fault, Simple, Request, Commits}
+use Rattle.gix_commands.proofs.Common.{get, none-some, same_Some, ObjectId, kind_of, Object, Objects, kind_word, scanned, Request}
 use Rattle.gix_hash.specs.declared.Kind.{Kind as HashKind}
 use Rattle.gix_object.specs.declared.Kind.{Kind}
 use Rattle.gix_object.specs.declared.Kind.TheVariants as kind
 use Rattle.gix_object.specs.declared.decode.Error.{Error as DecodeError}
 use Rattle.gix_object.specs.CommitItems.{commit_items}
 use Rattle.gix_revwalk.specs.declared.Parents.TheVariants as mode
-use Rattle.gix_simple.specs.declared.Sorting.{Sorting}
 use Rattle.gix_statement.specs.WholeStatement as page
 use Rattle.gix_statement.specs.WholeStatement.{Entry, IsText, IsThere, IsTree, Row}
 use Rattle.gix_commands.specs.Pages.{AreCommits, HaveTexts, as_page, page_objects}

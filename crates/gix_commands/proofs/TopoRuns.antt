@@ -1,5 +1,5 @@
 -- What a run of `topo` or `date` writes, by what commits reach.
-use Rattle.std.proofs.Common.{◌≡◌, ℕ, List, [], ◌∷◌, ◌++◌, map, filter, false, true, Option, Some, None, Result, Ok, Err, Contains, IsSome, ◌⊎◌, refl, sym, ap, subst, ⊎_elim, ◌∙◌}
+use Rattle.std.proofs.Common.{◌≡◌, ℕ, List, [], ◌∷◌, ◌++◌, map, filter, false, true, Option, Some, None, Result, Ok, Err, Contains, IsSome, refl, sym, ap, subst, ⊎_elim, ◌∙◌}
 use Rattle.gix_commands.proofs.Common.{Yields, Contains-append_left, Contains-append_right, ObjectId, IsExistingFault, id_cmp, Objects, GraphRow, Info, Commit, commit_at}
 use Rattle.gix_commands.proofs.Common.{parents_in, parents_of, text_next, step, no_member, Contains-cons_cases, TopoPlan, IsCommitRead, IsReached, IsFault, IsFirstReady, IsNextReady, IsAgreeing, none_agree, Fault, Topo}
 use Rattle.gix_commands.proofs.Common.{fault_of_topo_walk, AreWhole, TopoSucceeds, EndsWell, IsOutside, stored, walked_down, not_built, unserved, IsBuiltFrom}
@@ -13,7 +13,6 @@ use Rattle.gix_topo.specs.declared.Error.TheVariants as error
 use Rattle.gix_topo.specs.declared.Sorting.{Sorting}
 use Rattle.gix_topo.specs.Laws.{IsTakenByText, IsTextGiven, GivesTextOrder}
 use Rattle.gix_topo.specs.Walk.{IsSound, ended, given, refused, failed}
-use Rattle.gix_topo.proofs.Run.Corollaries.{once}
 use Rattle.gix_topo.proofs.Run.Corollaries.{each_by_text}
 use Rattle.gix_topo.proofs.Run.Theorem.{gives_text}
 use Rattle.gix_commands.specs.Readable.{readable}

@@ -1,4 +1,4 @@
-use Rattle.std.proofs.Common.{◌≡◌, ◌-◌, ◌≤◌, ℕ, List, [], ◌++◌, Option, Result, Err, IfErr, length, refl, sym, subst, ◌∙◌, ap, take, drop, arith, append_assoc, append-nil, take-append-drop, length-drop, take_all}
+use Rattle.std.proofs.Common.{◌≡◌, ◌-◌, ℕ, List, [], ◌++◌, Option, Result, Err, IfErr, length, refl, sym, subst, ◌∙◌, ap, take, drop, arith, append_assoc, append-nil, take-append-drop, length-drop, take_all}
 use Rattle.std.proofs.lemmas.Grind.{common_steps}
 use Rattle.std.proofs.KnownBytes.{Appends-trans, Appends-kept}
 use Rattle.std.specs.Io.KnownBytes.{Keeps}
