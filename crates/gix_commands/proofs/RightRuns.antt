@@ -1,7 +1,7 @@
 -- What a run over objects and rows that agree with them has written is right in each history that has these objects, where what is said to
 -- be a commit has the text of one.
 use Rattle.std.proofs.Common.{◌≡◌, ◌≢◌, ℕ, List, [], ◌∷◌, Option, Some, Result, Ok, Err, Contains, codes, refl, sym, ap, subst, inl, ◌∙◌}
-use Rattle.gix_commands.proofs.Common.{get, kind_of, Parents, ReadsParents, IsCommitRead, IsReached, objects_of, plan_from, IsBuiltFrom, Appends, Contains-here, Contains-there, ObjectId, Objects, GraphRow, IsAgreeing, none_agree, text_next, time_of, Fault, Simple, Topo, AreWhole}
+use Rattle.gix_commands.proofs.Common.{get, kind_of, Parents, ReadsParents, IsCommitRead, IsReached, objects_of, plan_from, IsBuiltFrom, Appends, Contains-here, Contains-there, ObjectId, Objects, GraphRow, IsAgreeing, text_next, time_of, Fault, Simple, Topo, AreWhole}
 use Rattle.gix_commands.proofs.Common.{not_listed, not_ahead, not_behind, not_selected, unserved, Request, Commits, Files, Ahead, Contained, request_of}
 use Rattle.gix_object.specs.CommitItems.{commit_items}
 use Rattle.gix_object.specs.declared.Kind.TheVariants as kind
