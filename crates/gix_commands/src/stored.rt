@@ -1,6 +1,6 @@
 //! A run over a store and rows that are there.
 
-ghost use Rattle.std.specs.Prelude.{◌≡◌, ◌≢◌, List, map, Err, string_bytes, OnOk, IfErr};
+ghost use Rattle.std.specs.Prelude.{◌≡◌, ◌≢◌, List, [], map, None, Err, string_bytes, OnOk, IfErr};
 ghost use Rattle.gix_commitgraph.specs.Packed.{AreGraphRows};
 ghost use Rattle.gix_graph_check.specs.Sound.{AreSound};
 ghost use Rattle.gix_graph_store.specs.Laws.{StoredAgree};
@@ -58,6 +58,8 @@ pub fn run_named<W: Write>(
     ensures sound { result ≢ Err Fault.Internal }
     // What was written, from lists of bytes up: it is right of these objects, each of whose ids is the hash of its object, and of the rows.
     ensures whole { Promises Fault.Write (map string_bytes words.now) (λ (given : Objects) (rows : List Row). AreNamed given × (given ≡ page_objects objects.now) × (rows ≡ page_rows (rows_in graph.entry))) (W.contents writer.old) result (W.contents writer.new) }
+    // The same without a commit-graph, which names no definition but those of the page.
+    ensures named { graph.entry ≡ None → Promises Fault.Write (map string_bytes words.now) (λ (given : Objects) (rows : List Row). AreNamed given × (rows ≡ [])) (W.contents writer.old) result (W.contents writer.new) }
 {
     run_stored(alloc, words, &objects.store(), graph, writer)
 }
