@@ -25,3 +25,4 @@ mod HoleExamples
 mod SinceExample
 mod Refused
 mod AttackExamples
+mod WrongRuns

@@ -1,0 +1,135 @@
+-- What the page refuses, whatever is given: lines that break off, words in a wrong place, layers that come twice or in another order.
+use Rattle.std.proofs.Common.{◌≡◌, ◌≢◌, ◌<◌, ◌≤◌, ◌++◌, ℕ, ℤ, suc, List, [], ◌∷◌, length, Bool, Option, None, Some, Ok, Err, Contains, codes, flat_map, refl, sym, ap, subst, ◌∙◌, arith, ⊎_elim, inl, inr}
+use Rattle.hex.specs.Hex.{encode_lower}
+use Rattle.gix_hash.specs.declared.ObjectId.{ObjectId}
+use Rattle.gix_hash.specs.declared.ObjectId.TheVariants.{Sha1, Sha256}
+use Rattle.gix_statement.proofs.HaveHistory.{have_history}
+use Rattle.gix_statement.proofs.NamedClash.{clash_collides}
+use Rattle.gix_statement.proofs.OneCommit.{one_commit}
+use Rattle.gix_statement.proofs.OneOutput.{output_of_both}
+use Rattle.gix_statement.specs.CommitGraph.{AreLayers}
+use Rattle.gix_statement.specs.WholeStatement.{Objects, Row, Promises, HasBegun, Serves, commits, ahead, contains, files, Lists, lists, Allows, AreTips, Follows, all, first, since, digits_in, bytes_in, id_line, Agree, AreNamed, InEach, IsHash, IsText}
+
+-- HALF A LINE is left only by a run whose writer failed.
+abbrev last_of : ℕ → List ℕ → ℕ
+last_of b [] = b
+last_of b (x ∷ xs) = last_of x xs
+
+last_of_both : (b : ℕ) (xs ys : List ℕ) → last_of b (xs ++ ys) ≡ last_of (last_of b xs) ys
+last_of_both b [] ys = refl
+last_of_both b (x ∷ xs) ys = last_of_both x xs ys
+
+lines_end : (ids : List ObjectId) → last_of 10 (flat_map id_line ids) ≡ 10
+lines_end [] = refl
+lines_end (i ∷ ids) =
+    last_of_both 10 (id_line i) (flat_map id_line ids)
+    ∙ ap (λ b. last_of b (flat_map id_line ids)) (last_of_both 10 (encode_lower (bytes_in i)) (10 ∷ []))
+    ∙ lines_end ids
+
+no_half_line : {E : Type 0} (writer_failed e : E) (words : List (List ℕ)) (AreGiven : Objects → List Row → Type 0) (out : List ℕ) (b : ℕ)
+    → e ≢ writer_failed → b ≢ 10 → Promises writer_failed words AreGiven (Some []) (Err e) (Some (out ++ b ∷ [])) → ⊥
+no_half_line writer_failed e words AreGiven out b other unlike (inl same) =
+    let none : out ++ b ∷ [] ≡ [] = cc in
+    unlike (sym (last_of_both 10 out (b ∷ [])) ∙ ap (last_of 10) none)
+no_half_line writer_failed e words AreGiven out b other unlike (inr (objects, rows, given, agree, right)) =
+    let h = have_history objects rows agree in
+    ⊎_elim (whole h.0 h.1) (λ c. other c.0) (right h.0 h.1 h.2)
+  where
+    whole : (parents : ObjectId → List ObjectId) (time : ObjectId → ℤ) → HasBegun objects rows parents time (Some []) (Some (out ++ b ∷ [])) words → ⊥
+    whole parents time (ids, are, appends) = unlike (sym (last_of_both 10 out (b ∷ [])) ∙ ap (last_of 10) appends ∙ lines_end ids)
+
+-- BEHIND A LIMIT come ids: no second limit, and none of the options that stand before it.
+wide : (i : ObjectId) → 40 ≤ digits_in i
+wide (Sha1 x) = omega arith
+wide (Sha256 x) = omega arith
+
+no_short_tip : (word : List ℕ) (words : List (List ℕ)) (tips hidden : List ObjectId) → length word < 40 → AreTips (word ∷ words) tips hidden → ⊥
+no_short_tip word words tips hidden short (inl (i, more, is, s, a)) = omega (arith, short, wide i, s.0)
+no_short_tip word words tips hidden short (inr (i, more, is, id, w, s, a)) =
+    let l : length word ≡ suc (length id) = ap length w in
+    omega (arith, short, wide i, s.0, l)
+
+module _ (by n word : List ℕ) (more : List (List ℕ)) (short : length word < 40) where
+  abbrev Asked : List (List ℕ)
+  Asked = by ∷ codes "-n" ∷ n ∷ word ∷ more
+
+  no_words : (limit words : List (List ℕ)) (tips hidden : List ObjectId) (k : ℕ) → Allows limit k → AreTips words tips hidden
+      → limit ++ words ≡ codes "-n" ∷ n ∷ word ∷ more → ⊥
+  no_words limit words tips hidden k (inl e) are is =
+      let w : words ≡ codes "-n" ∷ n ∷ word ∷ more = ap (λ l. l ++ words) (sym e) ∙ is in
+      no_short_tip (codes "-n") (n ∷ word ∷ more) tips hidden (omega arith) (subst (λ x. AreTips x tips hidden) w are)
+  no_words limit words tips hidden k (inr (number, most, counts, e, few)) are is =
+      let w : codes "-n" ∷ number ∷ words ≡ codes "-n" ∷ n ∷ word ∷ more = ap (λ l. l ++ words) (sym e) ∙ is in
+      let rest : words ≡ word ∷ more = cc in
+      no_short_tip word more tips hidden short (subst (λ x. AreTips x tips hidden) rest are)
+
+  module _ (objects : Objects) (rows : List Row) (parents : ObjectId → List ObjectId) (time : ObjectId → ℤ) where
+    no_option : {tips starts : List ObjectId} {name : List ℕ} {followed : ObjectId → List ObjectId} (option limit words : List (List ℕ)) (hidden : List ObjectId) (k : ℕ)
+        → Follows parents time tips name option followed starts → Allows limit k → AreTips words tips hidden
+        → option ++ (limit ++ words) ≡ codes "-n" ∷ n ∷ word ∷ more → ⊥
+    no_option {tips = tips} option limit words hidden k all allows are is = no_words limit words tips hidden k allows are is
+    no_option option limit words hidden k (first b) allows are is =
+        let head : codes "--first-parent" ≡ codes "-n" = cc in
+        let l : 14 ≡ 2 = ap length head in
+        omega (arith, l)
+    no_option option limit words hidden k (since {number = number} m named counts) allows are is =
+        let head : codes "--since" ≡ codes "-n" = cc in
+        let l : 7 ≡ 2 = ap length head in
+        omega (arith, l)
+
+    not_listed : (ids : List ObjectId) (ended : Bool) (asked : List (List ℕ)) → asked ≡ Asked → Lists objects rows parents time ids ended asked → ⊥
+    not_listed ids ended asked is (lists {by = name} option limit words {hidden = hidden} named are some follows there begins allows whole) =
+        let rest : option ++ (limit ++ words) ≡ codes "-n" ∷ n ∷ word ∷ more = cc in
+        no_option option limit words hidden (length ids) follows allows are rest
+
+    not_served : (old new : Option (List ℕ)) (asked : List (List ℕ)) → asked ≡ Asked → Serves objects rows parents time old new asked → ⊥
+    not_served old new asked is (commits ids listed appends) = not_listed ids _ asked is listed
+    not_served old new asked is (ahead k m a b one other x y appends) = cc
+    not_served old new asked is (contains {words = words} {tip = tip} {ids = ids} are some there keeps appends) =
+        let rest : words ≡ codes "-n" ∷ n ∷ word ∷ more = cc in
+        no_short_tip (codes "-n") (n ∷ word ∷ more) (tip ∷ ids) [] (omega arith) (subst (λ x. AreTips x (tip ∷ ids) []) rest are)
+    not_served old new asked is (files option a (inl (none, ends)) spells tree unfolds appends) =
+        let asked_too : codes "files" ∷ (a ∷ []) ≡ Asked = ap (λ o. codes "files" ∷ (o ++ a ∷ [])) (sym none) ∙ is in
+        cc
+    not_served old new asked is (files option a (inr (zero_ends, ends)) spells tree unfolds appends) =
+        let asked_too : codes "files" ∷ codes "-z" ∷ a ∷ [] ≡ Asked = ap (λ o. codes "files" ∷ (o ++ a ∷ [])) (sym zero_ends) ∙ is in
+        cc
+
+  nothing_behind_a_limit : {E : Type 0} (writer_failed : E) (AreGiven : Objects → List Row → Type 0) (old new : Option (List ℕ)) → Promises writer_failed Asked AreGiven old (Ok tt) new → ⊥
+  nothing_behind_a_limit writer_failed AreGiven old new (objects, rows, given, agree, right) =
+      let h = have_history objects rows agree in
+      not_served objects rows h.0 h.1 old new Asked refl (right h.0 h.1 h.2)
+
+no_second_limit : {E : Type 0} (writer_failed : E) (AreGiven : Objects → List Row → Type 0) (by n tip : List ℕ) (old new : Option (List ℕ))
+    → Promises writer_failed (by ∷ codes "-n" ∷ n ∷ codes "-n" ∷ n ∷ tip ∷ []) AreGiven old (Ok tt) new → ⊥
+no_second_limit writer_failed AreGiven by n tip = nothing_behind_a_limit by n (codes "-n") (n ∷ tip ∷ []) (omega arith) writer_failed AreGiven
+
+-- LAYERS in another order, or one of them twice: each says how many are below it.
+not_in_another_order : (a b : List ℕ) (rows others : List Row) → AreLayers [] (a ∷ b ∷ []) [] rows → AreLayers [] (b ∷ a ∷ []) [] others → ⊥
+not_in_another_order a b rows others (x, lowest, above) (y, lower, (z, upper, end)) = let no : 0 ≡ 1 = sym lowest.6 ∙ upper.6 in omega (arith, no)
+
+not_twice : (a : List ℕ) (rows : List Row) → AreLayers [] (a ∷ a ∷ []) [] rows → ⊥
+not_twice a rows (x, lower, (y, upper, end)) = let no : 0 ≡ 1 = sym lower.6 ∙ upper.6 in omega (arith, no)
+
+-- A ROW whose commit is at hand says what the text says, or the rows don't agree, and no run over them ends well.
+no_row_against_its_text : (objects : Objects) (rows : List Row) (r s : Row) → Agree objects rows → Contains rows r → r.id ≡ s.id → IsText objects s
+    → (r.parents ≡ s.parents) × (r.time ≡ s.time)
+no_row_against_its_text objects rows r s agree row same (id, lines, rest, tree, names, time, is) =
+    one_commit objects rows agree r s same (inl (agree.1 r row there)) (inl (id, lines, rest, tree, names, time, is))
+  where
+    there : objects r.id ≢ None
+    there e = let no : None ≡ Some _ = sym e ∙ ap objects same ∙ is in cc
+
+-- OTHER OBJECTS whose ids are hashes, be they of no repository at all, give the same output, or two texts have one hash.
+abbrev Named : Objects → List Row → Type 0
+Named objects rows = AreNamed objects × (rows ≡ [])
+
+abbrev Collide : Type 0
+Collide = (i : ObjectId) × (x y : List ℕ) × (x ≢ y) × IsHash i x × IsHash i y
+
+no_other_objects : {E : Type 0} (writer_failed : E) (words : List (List ℕ)) (old a b : List ℕ) → (Collide → ⊥) → Promises writer_failed words Named (Some old) (Ok tt) (Some a)
+    → Promises writer_failed words Named (Some old) (Ok tt) (Some b) → a ≡ b
+no_other_objects writer_failed words old a b unlike (objects, rows, given, agree, right) (others, more, given_too, agree_too, right_too) =
+    output_of_both objects others [] (subst (Agree objects) given.1 agree) (subst (Agree others) given_too.1 agree_too) (λ clash. unlike (clash_collides objects others given.0 given_too.0 clash)) words old a b
+    (subst (λ rs. InEach objects rs (λ parents time. Serves objects rs parents time (Some old) (Some a) words)) given.1 right)
+    (subst (λ rs. InEach others rs (λ parents time. Serves others rs parents time (Some old) (Some b) words)) given_too.1 right_too)
