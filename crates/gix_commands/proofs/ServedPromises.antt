@@ -1,15 +1,19 @@
 -- What a run over rows answers is what the page promises: over a store, or over the files of a commit-graph and records.
-use Rattle.std.proofs.Common.{◌≡◌, ℕ, List, [], Option, Result, Ok, Contains, refl, inl, inr}
-use Rattle.gix_commands.proofs.Common.{Fault, GraphRow, IsAgreeing, no_member, Objects, ObjectId, Request, request_of, stored, with_rows}
+use Rattle.std.proofs.Common.{◌≡◌, ℕ, List, [], ◌∷◌, Option, Result, Ok, Contains, refl, inl, inr, ⊎_elim}
+use Rattle.std.specs.List.{AllByRecursion}
+use Rattle.std.proofs.lemmas.List.Elements.{All-contains}
+use Rattle.gix_commands.proofs.Common.{Fault, GraphRow, IsAgreeing, Contains-cons_cases, no_member, Objects, ObjectId, Request, request_of, stored, with_rows}
 use Rattle.gix_commitgraph.specs.Packed.{AreGraphRows}
 use Rattle.gix_commitgraph.specs.Renumbering.{HasSameRows, HaveDistinctIds, HavePlacesWithin}
-use Rattle.gix_graph_check.specs.Sound.{AreSound}
+use Rattle.gix_commitgraph.specs.declared.ParentPlace.{ParentPlace}
+use Rattle.gix_commitgraph.specs.declared.ParentPlace.TheVariants as place
+use Rattle.gix_graph_check.specs.Sound.{AreSound, IsSound, IsSoundPlace}
 use Rattle.gix_graph_store.specs.Laws.{StoredAgree}
 use Rattle.gix_statement.specs.CommitGraph.{AreLayers}
 use Rattle.gix_statement.specs.WholeStatement as page
 use Rattle.gix_statement.specs.WholeStatement.{Agree, AreFed, Entry, IsCommit, IsTree, Promises, Row}
 use Rattle.gix_words.specs.declared.fault.Fault.TheVariants as fault
-use Rattle.gix_commands.specs.Pages.{page_objects, page_rows}
+use Rattle.gix_commands.specs.Pages.{AreRows, page_objects, page_rows}
 use Rattle.gix_commands.specs.Readable.{readable, reads_all_lines}
 use Rattle.gix_commands.specs.Run as run
 use Rattle.gix_commands.specs.Run.{RunsOver, Serves}
@@ -64,9 +68,18 @@ module _ (words : List (List ℕ)) (request : Request) (asked : request_of words
     pub served_unsorted : AreGiven (page_objects objects) (page_rows list) → Promises fault.Write words AreGiven old answer new
     served_unsorted given = served_over (page_rows list) (unsorted_has list rows distinct within same graph) list_agrees given
 
+-- a sound row has no corrupt place
+no_fault_in : (rows : List GraphRow) (generation : ℕ) (places : List ParentPlace) → AllByRecursion (IsSoundPlace rows generation) places → Contains places place.Fault → ⊥
+no_fault_in rows generation [] sound c = no_member place.Fault c
+no_fault_in rows generation (place.At n ∷ places) sound c = ⊎_elim (λ e. let no : place.At n ≡ place.Fault = e in cc) (no_fault_in rows generation places sound.1) (Contains-cons_cases place.Fault (place.At n) places c)
+no_fault_in rows generation (place.Fault ∷ places) sound c = absurd sound.0
+
+no_faults : (rows : List GraphRow) → AreSound rows → (row : GraphRow) → Contains rows row → Contains row.parents place.Fault → ⊥
+no_faults rows sound row c = no_fault_in rows row.generation row.parents (All-contains (IsSound rows) rows row sound c).parents
+
 -- what is stored, and the rows
 abbrev pub AreStored : Objects → List GraphRow → page.Objects → List Row → Type 0
-AreStored stored graph objects rows = (objects ≡ page_objects stored) × (rows ≡ page_rows graph)
+AreStored stored graph objects rows = (objects ≡ page_objects stored) × AreRows graph rows
 
 pub stored_promises : {words : List (List ℕ)} {objects : Objects} {rows : List GraphRow} {old new : Option (List ℕ)} {answer : Result (Unit {0}) Fault} → AreGraphRows rows → RunsStored words objects rows old answer new
     → Promises fault.Write words (AreStored objects rows) old answer new
@@ -74,7 +87,7 @@ stored_promises graph store.without_memory = inl refl
 stored_promises graph (store.no_command t) = inl refl
 stored_promises graph (store.not_agreed request t f) = inl refl
 stored_promises {words} {objects} {rows} {old} {new} {answer} graph (store.served request t sound agree s) =
-    served_sorted words request t rows objects graph sound agree (AreStored objects rows) old answer new s (refl, refl)
+    served_sorted words request t rows objects graph sound agree (AreStored objects rows) old answer new s (refl, (no_faults rows sound, refl))
 
 -- the objects of records, and the rows of files
 abbrev pub AreFedOver : (layers : List (List ℕ)) → (has : Option (List ℕ)) → page.Objects → List Row → Type 0

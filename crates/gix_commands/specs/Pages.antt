@@ -1,7 +1,8 @@
 -- The objects of a store and the rows of a commit-graph, as the page of what a run promises has them.
-use Rattle.std.specs.Prelude.{◌≡◌, ◌≢◌, ℕ, List, [], map, Option, Some, None, codes}
+use Rattle.std.specs.Prelude.{◌≡◌, ◌≢◌, ℕ, List, [], map, Contains, Option, Some, None, codes}
 use Rattle.std.specs.FinMap.{get}
 use Rattle.std.specs.Option.{option_map}
+use Rattle.gix_commitgraph.specs.declared.ParentPlace.TheVariants.{Fault}
 use Rattle.gix_commitgraph.specs.Rows.{GraphRow}
 use Rattle.gix_graph_check.specs.HeadsReach.{ids_of_places}
 use Rattle.gix_hash.specs.Id.{kind_of}
@@ -29,6 +30,10 @@ page_row rows row = record { id = row.id; tree = row.tree; parents = ids_of_plac
 
 abbrev pub page_rows : List GraphRow → List page.Row
 page_rows rows = map (page_row rows) rows
+
+-- these are the rows, none of whose parents is at a corrupt place
+abbrev pub AreRows : List GraphRow → List page.Row → Type 0
+AreRows graph rows = ((row : GraphRow) → Contains graph row → Contains row.parents Fault → ⊥) × (rows ≡ page_rows graph)
 
 -- each object that is said to be a commit, and of which the first parent is read, has the text of one, as far as its parents
 abbrev pub AreCommits : page.Objects → Type 0

@@ -7,7 +7,7 @@ ghost use Rattle.gix_graph_store.specs.Laws.{StoredAgree};
 ghost use Rattle.gix_graph_store.specs.WithRows.{with_rows};
 ghost use Rattle.gix_revwalk.specs.Agreeing.{IsAgreeing, rows_in};
 ghost use Rattle.gix_statement.specs.WholeStatement.{AreNamed, Objects, Promises, Row};
-ghost use Rattle.gix_commands.specs.Pages.{page_objects, page_rows};
+ghost use Rattle.gix_commands.specs.Pages.{page_objects, AreRows};
 ghost use Rattle.gix_commands.specs.StoredRuns.{FailsToAgree, RunsStored};
 
 use crate::serve;
@@ -36,7 +36,7 @@ pub fn run_stored<W: Write>(
     ensures runs { RunsStored (map string_bytes words.now) store.now (rows_in graph.entry) (W.contents writer.old) result (W.contents writer.new) }
     ensures sound { result ≢ Err Fault.Internal }
     // What was written, from lists of bytes up: it is right of what is stored and of the rows, whatever else there is.
-    ensures whole { Promises Fault.Write (map string_bytes words.now) (λ (objects : Objects) (rows : List Row). (objects ≡ page_objects store.now) × (rows ≡ page_rows (rows_in graph.entry))) (W.contents writer.old) result (W.contents writer.new) }
+    ensures whole { Promises Fault.Write (map string_bytes words.now) (λ (objects : Objects) (rows : List Row). (objects ≡ page_objects store.now) × AreRows (rows_in graph.entry) rows) (W.contents writer.old) result (W.contents writer.new) }
 {
     let command = read_command(alloc, words)?;
     check_rows(alloc, store, graph)?;
@@ -57,7 +57,7 @@ pub fn run_named<W: Write>(
     ensures runs { RunsStored (map string_bytes words.now) objects.now (rows_in graph.entry) (W.contents writer.old) result (W.contents writer.new) }
     ensures sound { result ≢ Err Fault.Internal }
     // What was written, from lists of bytes up: it is right of these objects, each of whose ids is the hash of its object, and of the rows.
-    ensures whole { Promises Fault.Write (map string_bytes words.now) (λ (given : Objects) (rows : List Row). AreNamed given × (given ≡ page_objects objects.now) × (rows ≡ page_rows (rows_in graph.entry))) (W.contents writer.old) result (W.contents writer.new) }
+    ensures whole { Promises Fault.Write (map string_bytes words.now) (λ (given : Objects) (rows : List Row). AreNamed given × (given ≡ page_objects objects.now) × AreRows (rows_in graph.entry) rows) (W.contents writer.old) result (W.contents writer.new) }
     // The same without a commit-graph, which names no definition but those of the page.
     ensures named { graph.entry ≡ None → Promises Fault.Write (map string_bytes words.now) (λ (given : Objects) (rows : List Row). AreNamed given × (rows ≡ [])) (W.contents writer.old) result (W.contents writer.new) }
 {

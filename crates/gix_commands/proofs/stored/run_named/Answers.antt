@@ -18,5 +18,5 @@ returns-clause-whole g c = promises_more
 
 pub returns-clause-named : goal.returns-clause-named
 returns-clause-named g c = λ none. promises_more
-    (λ objects rows given. (given.0, given.2 ∙ ap (λ graph. page_rows (rows_in graph)) none))
+    (λ objects rows given. (given.0, given.2.1 ∙ ap (λ graph. page_rows (rows_in graph)) none))
     (map string_bytes c.args.words.now) (g.W.Write.contents c.args.writer.now) c.run_stored-2.result (g.W.Write.contents c.run_stored-2.new.writer) (returns-clause-whole g c)
