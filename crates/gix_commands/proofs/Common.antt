@@ -1,10 +1,10 @@
 -- What most proofs of this crate use, to import from one place: words of statements, here and below, and lemmas from below.
 pub use Rattle.std.specs.FinMap.{get, same_map}
-pub use Rattle.std.specs.Fmt.{char_count, digits, format_spec, padded_integral, styled_digits_output, ◌++?◌}
+pub use Rattle.std.specs.Fmt.{digits, format_spec, padded_integral, styled_digits_output, ◌++?◌}
 pub use Rattle.std.specs.Io.KnownBytes.{Appends}
 pub use Rattle.std.specs.Iterator.{Drains, Yields, YieldsThen}
 pub use Rattle.std.proofs.Math.Path.{transport}
-pub use Rattle.std.proofs.lemmas.Bool.{and_from, and_parts, cond-false, cond-true, false_from_ne_true, false≢true, not-true, not_from_false, or_cases}
+pub use Rattle.std.proofs.lemmas.Bool.{and_from, cond-false, cond-true, false_from_ne_true, false≢true, not-true, not_from_false, or_cases}
 pub use Rattle.std.proofs.lemmas.List.Elements.{All-cons, All-contains, All-head, All-nil, All-tail, Contains-append_cases, Contains-append_left, Contains-append_right, Contains-get_or}
 pub use Rattle.std.proofs.lemmas.Option.{none-some, same_Some}
 pub use Rattle.std.proofs.lemmas.Result.{err_from_is_err_and}

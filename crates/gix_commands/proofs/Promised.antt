@@ -4,7 +4,7 @@ use Rattle.gix_hash.specs.declared.ObjectId.{ObjectId}
 use Rattle.gix_statement.specs.WholeStatement.{Objects, Row, Entry, Agree, IsCommit, IsTree, Promises}
 use Rattle.gix_words.specs.declared.fault.Fault.{Fault}
 use Rattle.gix_words.specs.declared.fault.Fault.TheVariants as fault
-use Rattle.gix_commands.specs.Everywhere.{IsRight}
+use Rattle.gix_commands.proofs.Right.{IsRight}
 use Rattle.gix_commands.proofs.SameCommitsThere.{each_failed, each_serves}
 
 module _ (read objects : Objects) (rows : List Row) (commit_on : (r : Row) → IsCommit read [] r → IsCommit objects rows r) (tree_on : (i : ObjectId) (entries : List Entry) → IsTree read i entries → IsTree objects i entries)

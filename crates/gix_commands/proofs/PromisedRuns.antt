@@ -4,7 +4,6 @@ use Rattle.gix_commands.proofs.Common.{Objects, stored, none_agree, no_member, F
 use Rattle.gix_words.specs.declared.fault.Fault.TheVariants as fault
 use Rattle.gix_statement.specs.WholeStatement as page
 use Rattle.gix_statement.specs.WholeStatement.{AreFed, IsCommit, Promises, Row}
-use Rattle.gix_commands.specs.Everywhere.{PromisedEverywhere}
 use Rattle.gix_commands.specs.Pages.{page_objects}
 use Rattle.gix_commands.specs.Readable.{readable, reads_all_lines}
 use Rattle.gix_commands.proofs.PageCommits.{agree}
@@ -31,6 +30,3 @@ promises {words = words} {has = has} {old = old} {result = result} {new = new} (
     promised (page_objects (seen request (stored rs))) (page_objects (stored rs)) [] (is_commit request (stored rs)) (tree_kept (reads_all_lines request) (stored rs))
     (λ (objects : page.Objects) (rows : List Row). AreFed has objects × (rows ≡ [])) (are_fed rs has input told are, refl) (agree (stored rs)) words old result new
     (right (seen request (stored rs)) [] (none_agree (seen request (stored rs)) [] refl) (unrowed_read (seen request (stored rs))) old words request asked (have_texts request (stored rs)) result new s)
-
-pub promised_everywhere : PromisedEverywhere
-promised_everywhere words has old new result runs = promises runs

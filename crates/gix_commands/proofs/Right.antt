@@ -2,8 +2,7 @@
 use Rattle.std.proofs.Common.{◌≡◌, ℕ, List, [], ◌∷◌, ◌++◌, length, Option, Some, None, Result, Ok, Err, refl, ap, subst, ⊎_elim, inl, inr, ◌∙◌, arith, append_assoc, append-nil, length-append}
 use Rattle.gix_commands.proofs.Common.{Appends, Fault}
 use Rattle.gix_words.specs.declared.fault.Fault.TheVariants as fault
-use Rattle.gix_statement.specs.WholeStatement.{Objects, InEach, HasBegun}
-use Rattle.gix_commands.specs.Everywhere.{IsRight}
+use Rattle.gix_statement.specs.WholeStatement.{Objects, InEach, HasBegun, IsCutOff, Serves}
 
 none_left : (xs : List ℕ) → length xs ≡ 0 → xs ≡ []
 none_left [] e = refl
@@ -23,6 +22,12 @@ then None new full some more a b = tt
 then (Some old) None full some more a b = absurd a
 then (Some old) (Some new) None some more a b = absurd b
 then (Some old) (Some new) (Some full) some more a b = b ∙ ap (λ xs. xs ++ more) a ∙ append_assoc old some more
+
+-- by the page: what words ask for was written; or after a failure nothing, or a beginning of it, in whole lines unless the writer failed
+abbrev pub IsRight : Objects → List (List ℕ) → (old : Option (List ℕ)) → Result (Unit {0}) Fault → (new : Option (List ℕ)) → Type 0
+IsRight objects words old (Ok done) new = InEach objects [] (λ ps ts. Serves objects [] ps ts old new words)
+IsRight objects words old (Err e) new =
+    (new ≡ old) ⊎ InEach objects [] (λ ps ts. HasBegun objects [] ps ts old new words ⊎ ((e ≡ fault.Write) × IsCutOff objects [] ps ts old new words))
 
 module _ (objects : Objects) (words : List (List ℕ)) (old : Option (List ℕ)) where
   abbrev RightSo : Result (Unit {0}) Fault → Option (List ℕ) → Type 0

@@ -1,7 +1,7 @@
 -- What a run over objects and rows that agree with them has written is right in each history that has these objects, where what is said to
 -- be a commit has the text of one.
 use Rattle.std.proofs.Common.{◌≡◌, ◌≢◌, ℕ, List, [], ◌∷◌, Option, Some, Result, Ok, Err, Contains, codes, refl, sym, ap, subst, inl, ◌∙◌}
-use Rattle.gix_commands.proofs.Common.{get, kind_of, Parents, ReadsParents, IsCommitRead, IsReached, objects_of, plan_from, IsBuiltFrom, Appends, Contains-here, Contains-there, ObjectId, Objects, GraphRow, IsAgreeing, none_agree, text_next, time_of, Fault, Simple, Topo, AreWhole}
+use Rattle.gix_commands.proofs.Common.{get, kind_of, Parents, ReadsParents, IsCommitRead, IsReached, objects_of, plan_from, IsBuiltFrom, Appends, Contains-here, Contains-there, ObjectId, Objects, GraphRow, IsAgreeing, text_next, time_of, Fault, Simple, Topo, AreWhole}
 use Rattle.gix_commands.proofs.Common.{not_listed, not_ahead, not_behind, not_selected, unserved, Request, Commits, Files, Ahead, Contained, request_of}
 use Rattle.gix_object.specs.CommitItems.{commit_items}
 use Rattle.gix_object.specs.declared.Kind.TheVariants as kind
@@ -10,7 +10,6 @@ use Rattle.gix_simple.specs.declared.Sorting.{Sorting}
 use Rattle.gix_topo.specs.declared.Sorting.{Sorting as TopoSorting}
 use Rattle.gix_statement.proofs.InEach.{Each, ahead_each, contains_each, files_each}
 use Rattle.gix_statement.specs.WholeStatement.{IsThere}
-use Rattle.gix_commands.specs.Everywhere.{IsRight, RightEverywhere}
 use Rattle.gix_commands.specs.Pages.{HaveTexts, page_objects}
 use Rattle.gix_commands.specs.Run.{Serves, cut_off, misnamed}
 use Rattle.gix_commands.specs.TopoWalked.{Walk as TopoWalk}
@@ -20,7 +19,7 @@ use Rattle.gix_commands.proofs.RightSimple.{simple_right}
 use Rattle.gix_commands.proofs.PageCommits.{all_there, fed_history, reached_there}
 use Rattle.gix_commands.proofs.PageTexts.{scan_faultless, text_there}
 use Rattle.gix_commands.proofs.RightTopo.{topo_right}
-use Rattle.gix_commands.proofs.Right.{cut_right}
+use Rattle.gix_commands.proofs.Right.{IsRight, cut_right}
 use Rattle.gix_commands.proofs.SameCommits.{held}
 use Rattle.gix_commands.proofs.SameContained.{contained_kept}
 use Rattle.gix_commands.proofs.SameLists.{id_lines, number_shown}
@@ -109,6 +108,3 @@ module _ (objects : Objects) (rows : List GraphRow) (agrees : IsAgreeing objects
 
   pub right : (words : List (List ℕ)) (request : Request) → request_of words ≡ Ok request → HaveTexts request (page_objects objects) → (answer : Result (Unit {0}) Fault) (new : Option (List ℕ)) → Serves objects rows old request answer new → RightSo words answer new
   right words request asked have answer new s = right_of_words words request (subst (AreWordsOf words) asked (are_words words)) have answer new s
-
-pub right_everywhere : RightEverywhere
-right_everywhere objects words request old new answer asked have s = right objects [] (none_agree objects [] refl) (unrowed_read objects) old words request asked have answer new s

@@ -17,7 +17,6 @@ use Rattle.gix_statement.specs.WholeStatement.{Allows, InEach, AreTips, IsThere,
 use Rattle.gix_commands.specs.Checked.{AsksForMore, HaveParents}
 use Rattle.gix_commands.specs.Run.{Serves, cut_off, lost}
 use Rattle.gix_commands.specs.Walked.{Walk, Answers, IsWalkFault, failed, given}
-use Rattle.gix_commands.specs.Everywhere.{IsRight}
 use Rattle.gix_commands.specs.Pages.{page_objects}
 use Rattle.gix_commands.proofs.CommitRuns.{ids_in, lines_by_ids, listed}
 use Rattle.gix_commands.proofs.PageCommits.{fed_history, whole_there}
@@ -30,7 +29,7 @@ use Rattle.gix_commands.proofs.SameOrders.{reaches_back}
 use Rattle.gix_commands.proofs.SameWords.{AreBehind, IsNameOf, IsOptionOf}
 use Rattle.gix_commands.proofs.OrderNames.{all_parents, is_order, simple_name}
 use Rattle.gix_commands.proofs.Turns.{Lists}
-use Rattle.gix_commands.proofs.Right.{begun_right, cut_right}
+use Rattle.gix_commands.proofs.Right.{IsRight, begun_right, cut_right}
 use Rattle.gix_commands.proofs.SimpleBegins.{front, take_less, first_given, given_first, met_before, none_given, read_first}
 use Rattle.gix_commands.proofs.SimpleRuns.{all_read, given_with, left_whole, no_ids, tips_read}
 use Rattle.gix_commands.proofs.ListedCommits.{IsSimpleBy, followed, kept_tips}

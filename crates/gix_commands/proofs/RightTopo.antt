@@ -11,7 +11,6 @@ use Rattle.gix_commands.specs.Checked.{AsksForMore}
 use Rattle.gix_commands.specs.Run.{Serves, cut_off}
 use Rattle.gix_commands.specs.TopoWalked.{Walk, Answers, IsWalkFault}
 use Rattle.gix_commands.specs.Walked.{failed, given}
-use Rattle.gix_commands.specs.Everywhere.{IsRight}
 use Rattle.gix_commands.specs.Pages.{page_objects}
 use Rattle.gix_commands.proofs.CommitRuns.{ids_in, lines_by_ids}
 use Rattle.gix_commands.proofs.RightSimple.{allowed}
@@ -20,7 +19,7 @@ use Rattle.gix_commands.proofs.PageLists.{at_most, begins_so, first_cut, no_rest
 use Rattle.gix_commands.proofs.OrderNames.{down_name, is_order}
 use Rattle.gix_commands.proofs.FirstCommits.{up_to_down}
 use Rattle.gix_commands.proofs.Turns.{Lists}
-use Rattle.gix_commands.proofs.Right.{begun_right, cut_right}
+use Rattle.gix_commands.proofs.Right.{IsRight, begun_right, cut_right}
 use Rattle.gix_commands.proofs.SameLists.{id_lines, listed_down}
 use Rattle.gix_commands.proofs.SameOrders.{reaches_back}
 use Rattle.gix_commands.proofs.SameWords.{AreBehind, IsNameOf}

@@ -12,5 +12,4 @@ pub mod StoredRuns
 pub mod Histories
 pub mod Listings
 pub mod Output
-pub mod Everywhere
 pub mod Examples

@@ -23,7 +23,8 @@ use std::io::Write;
 /// two numbers once both walks have ended well.
 ///
 /// # Errors
-/// The fault of a walk, and `Memory`: nothing is written. `Write` where the writer failed.
+/// The fault of a walk, and `Memory`: nothing is written. `Write` where the writer failed: a beginning of
+/// the line is.
 pub fn write_ahead<W: Write>(
     alloc: Global,
     one: ObjectId,

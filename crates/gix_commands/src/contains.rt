@@ -24,7 +24,7 @@ use std::io::Write;
 ///
 /// # Errors
 /// The fault of the first commit that can't be read of those that have to be, and `Memory`: nothing is written. `Write` where the writer
-/// failed.
+/// failed: a beginning of the lines is.
 pub fn write_contained<W: Write>(
     alloc: Global,
     tip: ObjectId,

@@ -32,7 +32,7 @@ use std::ops::ControlFlow;
 ///
 /// # Errors
 /// The fault of the walk, `Name` where the walk ended well and a name is empty or holds `/`, and `Memory`: nothing is written. `Write`
-/// where the writer failed.
+/// where the writer failed: a beginning of the lines is.
 pub fn write_files<W: Write>(
     alloc: Global,
     ending: u8,

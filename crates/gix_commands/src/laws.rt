@@ -1,6 +1,5 @@
 //! What a run of the program writes, as laws over the definitions: functions that do nothing, and whose contracts are proved.
 
-ghost use Rattle.gix_commands.specs.Everywhere.{PromisedEverywhere, RightEverywhere};
 ghost use Rattle.gix_commands.specs.Histories.{AheadSucceeds, ContainsSucceeds, SimpleSucceeds, TopoSucceeds};
 ghost use Rattle.gix_commands.specs.Listings.{FilesReportNames, FilesSucceeds};
 
@@ -35,14 +34,4 @@ pub fn ahead_succeeds()
 /// Where all that the ids reach are whole commits, `contains` fails for memory, reading or writing alone.
 pub fn contains_succeeds()
     ensures { ContainsSucceeds }
-{}
-
-/// What a run over objects has written is right in each history that has them, by the page of gix_statement, where what is said to be a
-/// commit has the text of one.
-pub fn right_everywhere()
-    ensures { RightEverywhere }
-{}
-
-pub fn promised_everywhere()
-    ensures { PromisedEverywhere }
 {}

@@ -65,7 +65,10 @@ pub use stored::{run_named, run_stored};
 /// `Record` where the input isn't records: nothing is written. `Missing`, `WrongKind` and `Broken` where the walk meets such an object,
 /// or in an order by time such a parent of the commit that it wrote last, `Cycle` where it meets a tree that is under itself, and
 /// `Memory`: the lines of the commits before are written, and nothing of `files`, `ahead` and `contains`. `Name` where a tree has a name
-/// that is empty or holds `/`: nothing is written. `Write` where the writer fails: what was written is not stated.
+/// that is empty or holds `/`: nothing is written. `Write` where the writer fails, or takes nothing: a beginning of the lines is written,
+/// which may end within a line.
+///
+/// A commit without a byte is `Broken`, and with `--first-parent` one is of which a line of a parent isn't sound, be it of another parent.
 pub fn run<R: Read, W: Write>(
     alloc: Global,
     words: &[String],

@@ -12,7 +12,7 @@ use Rattle.gix_hash.specs.declared.ObjectId.{ObjectId}
 use Rattle.gix_hash.specs.declared.ObjectId.TheVariants.{Sha1}
 use Rattle.gix_hash.specs.Id.{is_same}
 use Rattle.gix_statement.specs.WholeStatement as page
-use Rattle.gix_statement.specs.WholeStatement.{Object, Objects, Row, AreNamed, Agree, Allows, AreFed, AreRecords, IsLast, negative, positive, AreEntries, AreParentLines, Clash, Entry, Follows, IsCommit, IsThere, IsHistory, IsHash, IsNumber, IsTime, IsText, Promises, Serves, commits, Lists, lists, Spells, bytes_in, Begins, IsWhole, id_line, entry_line, Reaches, start, parent, HasBegun, InEach, HaveHistory}
+use Rattle.gix_statement.specs.WholeStatement.{Object, Objects, Row, AreNamed, Agree, Allows, AreFed, AreRecords, IsLast, negative, positive, unsigned, AreEntries, AreParentLines, Clash, Entry, Follows, IsCommit, IsThere, IsHistory, IsHash, IsNumber, IsTime, IsText, Promises, Serves, commits, Lists, lists, Spells, bytes_in, Begins, IsWhole, id_line, entry_line, Reaches, start, parent, HasBegun, InEach, HaveHistory}
 use Rattle.gix_statement.proofs.Tests.{all_digits, is_hex, without, not_among, not_alone, other_head}
 use Rattle.gix_statement.proofs.OrderExamples.{begun_one, newest_begun, newest_whole}
 
@@ -306,6 +306,21 @@ child_is_text = (
   tree_spelled,
   (codes "1111111111111111111111111111111111111111", codes "author A <a> 0\ncommitter A <a> 7 +0000\n", root_spelled, (refl, other_head 97 112 (codes "uthor ") (codes "arent ") refl), refl),
   child_time,
+  refl,
+)
+
+-- a text that breaks off behind its parents names them, and has the time 0
+abbrev broken_off : Objects
+broken_off i = Some (record { kind = codes "commit"; bytes = codes "tree abababababababababababababababababababab\nparent 1111111111111111111111111111111111111111\n" })
+
+broken_is_text : IsText broken_off (row child (root ∷ []) (pos 0))
+broken_is_text = (
+  codes "abababababababababababababababababababab",
+  codes "parent 1111111111111111111111111111111111111111\n",
+  [],
+  tree_spelled,
+  (codes "1111111111111111111111111111111111111111", [], root_spelled, (refl, λ e. cc), refl),
+  unsigned (λ signature c s. let none : [] ≡ codes "author " ++ s.0 ++ 10 ∷ (codes "committer " ++ signature ++ 10 ∷ s.1) = s.4 in cc),
   refl,
 )
 
