@@ -1,5 +1,5 @@
 -- What a run may have written by the page, in each history that has some objects; and so has a run of which a beginning was written.
-use Rattle.std.proofs.Common.{◌≡◌, ℕ, List, [], ◌∷◌, ◌++◌, length, Option, Some, None, Result, Ok, Err, refl, ap, subst, ⊎_elim, inl, inr, ◌∙◌, arith, append_assoc, append-nil, length-append}
+use Rattle.std.proofs.Common.{◌≡◌, ℕ, List, [], ◌∷◌, ◌++◌, length, Option, Some, None, Result, Ok, Err, refl, ap, subst, ⊎_elim, inl, inr, ◌⊎◌, ◌∙◌, arith, append_assoc, append-nil, length-append}
 use Rattle.gix_commands.proofs.Common.{Appends, Fault}
 use Rattle.gix_words.specs.declared.fault.Fault.TheVariants as fault
 use Rattle.gix_statement.specs.WholeStatement.{Objects, InEach, HasBegun, IsCutOff, Serves}
