@@ -1,0 +1,2 @@
+-- Ids that are new are collected.
+pub mod NewAmong
