@@ -1,2 +1,8 @@
+-- Members of lists of ids that are made of others.
+pub mod Members
 -- Ids that are new are collected.
 pub mod NewAmong
+-- The best of first common ancestors.
+pub mod BestOfFirst
+-- What a walk gave and named has first common ancestors.
+pub mod FirstCommon

@@ -1,5 +1,5 @@
 -- Ids that are new are collected, and are old from then on.
-use Rattle.std.proofs.Common.{◌≡◌, ◌||◌, List, [], ◌∷◌, ◌++◌, Bool, cond, not, refl, sym, ap, ◌∙◌, arith}
+use Rattle.std.proofs.Common.{◌≡◌, ◌||◌, List, [], ◌∷◌, ◌++◌, Bool, cond, not, refl, sym, ap, subst, ◌∙◌, arith, append-nil}
 use Rattle.std.specs.FinSet as set
 use Rattle.gix_hash.specs.declared.ObjectId.{ObjectId}
 use Rattle.gix_hash.specs.Id.{id_cmp, is_same, is_among}
@@ -35,4 +35,17 @@ pub new_one : (first : set.FinSet id_cmp) (ids those : List ObjectId) (old : set
 new_one first ids those old i h is =
     let here = h i in
     let more = fresh-append (set.contains first) ids (i ∷ []) in
+    let nothing = append-nil those in
     grind arith
+
+pub record IsOneMore (first : set.FinSet id_cmp) (ids those : List ObjectId) (now : set.FinSet id_cmp) : Type 0 where
+  pub those_are : those ≡ new_ids (set.contains first) ids
+  pub old_now : IsOldNow first ids now
+
+-- a turn of the loop
+pub turn : (first : set.FinSet id_cmp) (ids those more later : List ObjectId) (old now : set.FinSet id_cmp) (i : ObjectId) (added : Bool) → later ≡ ids ++ i ∷ [] → those ≡ new_ids (set.contains first) ids → IsOldNow first ids old
+    → added ≡ not (set.contains old i) → now ≡ set.insert old i → more ≡ cond added (those ++ i ∷ []) those → IsOneMore first later more now
+turn first ids those more later old now i added l is h a n m = record {
+  those_are = m ∙ ap (λ b. cond b (those ++ i ∷ []) those) a ∙ new_one first ids those old i h is ∙ ap (new_ids (set.contains first)) (sym l);
+  old_now = subst (λ xs. IsOldNow first xs now) (sym l) (subst (IsOldNow first (ids ++ i ∷ [])) (sym n) (old_one first ids old i h));
+}
