@@ -6,3 +6,7 @@ pub mod NewAmong
 pub mod BestOfFirst
 -- What a walk gave and named has first common ancestors.
 pub mod FirstCommon
+-- What holds along the walk.
+pub mod Walked
+-- What is gathered along a walk.
+pub mod Gathering
