@@ -10,3 +10,7 @@ pub mod FirstCommon
 pub mod Walked
 -- What is gathered along a walk.
 pub mod Gathering
+-- How the parents of commits are read.
+pub mod Reading
+-- How the walk starts, and what its commits and its faults say.
+pub mod Starting

@@ -34,11 +34,14 @@ pub record FindsBases (objects : Objects) (rows : List GraphRow) (one : ObjectId
   pub bases_are : IsAgreeing objects rows → AreBases (parents_of objects) one others bases
   pub read : IsAgreeing objects rows → others ≢ [] → (i : ObjectId) → Reaches (parents_of objects) (one ∷ others) i → ReadsWhole objects i
 
--- where the rows agree with the store, or there are none, the error is that of a commit which one or the others reach, and which can't be read
-pub record FailsBy (objects : Objects) (faulty : ObjectId → Type 0) (rows : List GraphRow) (one : ObjectId) (others : List ObjectId) (e : Error)
-    : Type 0 where
+-- the error is that of a commit which one or the others reach, and which can't be read
+pub record IsFaultOf (objects : Objects) (faulty : ObjectId → Type 0) (one : ObjectId) (others : List ObjectId) (e : Error) : Type 0 where
   pub why : Hidden
   pub is : e ≡ error_of why
   pub id : ObjectId
   pub fault : IsFaultAt objects faulty id why
-  pub reached : IsAgreeing objects rows → Reaches (parents_of objects) (one ∷ others) id
+  pub reached : Reaches (parents_of objects) (one ∷ others) id
+
+-- it is one where the rows agree with the store, or there are none
+abbrev pub FailsBy : Objects → (ObjectId → Type 0) → List GraphRow → ObjectId → List ObjectId → Error → Type 0
+FailsBy objects faulty rows one others e = IsAgreeing objects rows → IsFaultOf objects faulty one others e
