@@ -14,3 +14,5 @@ pub mod Gathering
 pub mod Reading
 -- How the walk starts, and what its commits and its faults say.
 pub mod Starting
+-- The whole call.
+pub mod Whole

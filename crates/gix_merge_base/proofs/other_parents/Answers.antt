@@ -1,12 +1,15 @@
 use Rattle.std.proofs.Common.{◌+◌, take}
+use Rattle.std.specs.Borrow.{Bor}
 use Rattle.std.proofs.lemmas.List.{take_more}
 use Rattle.std.proofs.lemmas.List.Elements.{Contains-get_or}
 use Rattle.std.proofs.lemmas.Result.{err_from_is_err_and}
+use Rattle.gix_revwalk.specs.Agreeing.{rows_in}
 use Rattle.gix_merge_base.proofs.Reading.{reads_more, unread_among}
 use Rattle.gix_merge_base.proofs.other_parents.Goals as goal
 
 pub loop-id-preserved : goal.loop-id-preserved
-loop-id-preserved g c = ?
+loop-id-preserved g c =
+    reads_more (g.F.Find.objects c.args.objects.now) (rows_in c.args.graph) (take c.loop-id.id-index c.args.ids.now) _ _ _ _ _ (take_more c.args.ids.now c.loop-id.id-index _ c.loop-id-test.true) c.loop-id.invariant c.in_ok-parent_ids.ensures.ok ?
 
 pub returns-in_err-parent_ids-clause-err : goal.returns-in_err-parent_ids-clause-err
 returns-in_err-parent_ids-clause-err g c =
