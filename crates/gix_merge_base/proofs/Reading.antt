@@ -77,3 +77,7 @@ reads_more objects rows ids later old new named j l h p n = λ agreeing.
     n ∙ ap (λ xs. xs ++ others_among j named) (h agreeing) ∙ ap (λ xs. flat_map (λ i. others_among i (parents_of objects i)) ids ++ others_among j xs) (p agreeing)
     ∙ ap (λ xs. flat_map (λ i. others_among i (parents_of objects i)) ids ++ xs) (sym (append-nil (others_among j (parents_of objects j))))
     ∙ sym (flat_map-append (λ i. others_among i (parents_of objects i)) ids (j ∷ [])) ∙ ap (flat_map (λ i. others_among i (parents_of objects i))) (sym l)
+
+-- of the same ids
+pub others_same : (i : ObjectId) (ids those old new : List ObjectId) → ids ≡ those → OthersOf i ids old new → OthersOf i those old new
+others_same i ids those old new e h = h ∙ ap (λ xs. old ++ others_among i xs) e
