@@ -16,3 +16,5 @@ pub mod Reading
 pub mod Starting
 -- The whole call.
 pub mod Whole
+-- Each common ancestor is reached by a best one.
+pub mod Tops

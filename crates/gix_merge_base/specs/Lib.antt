@@ -4,3 +4,5 @@ pub mod Bases
 pub mod Errors
 -- The code's own steps. Nobody but a maintainer needs them.
 pub mod Inside
+-- The statements of the laws.
+pub mod Laws
