@@ -1,10 +1,10 @@
 -- Of first common ancestors the best are those that none of them reaches by a parent other than itself.
-use Rattle.std.proofs.Common.{◌≡◌, ◌⊎◌, ◌↔◌, List, [], ◌∷◌, Bool, true, false, Contains, refl, sym, ap, subst, inl, inr, ⊎_elim, ◌∙◌}
+use Rattle.std.proofs.Common.{◌≡◌, ◌⊎◌, List, [], ◌∷◌, Bool, true, false, Contains, refl, sym, subst, inl, inr, ⊎_elim, ◌∙◌}
 use Rattle.std.specs.List.{flat_map}
 use Rattle.std.specs.FinSet as set
 use Rattle.std.proofs.lemmas.Bool.{false≢true, false_from_ne_true}
 use Rattle.gix_hash.specs.declared.ObjectId.{ObjectId}
-use Rattle.gix_hash.specs.Id.{id_cmp, is_same, is_among}
+use Rattle.gix_hash.specs.Id.{id_cmp, is_same}
 use Rattle.gix_hash.specs.Reach.{Reaches, start, step}
 use Rattle.gix_hash.proofs.Ids.Membership.{Contains-here, Contains-there, Contains-cons_cases, no_member, among_from, among_is, same_is, same_from}
 use Rattle.gix_hash.proofs.Lists.{only_member}

@@ -1,13 +1,12 @@
 -- The others that one reaches, and the parents that it reaches of what only they reach, are first common ancestors.
-use Rattle.std.proofs.Common.{◌≡◌, ◌⊎◌, ◌↔◌, List, [], ◌∷◌, ◌++◌, map, Bool, true, false, Contains, refl, sym, ap, subst, inl, inr, ⊎_elim, ◌∙◌}
+use Rattle.std.proofs.Common.{◌≡◌, ◌↔◌, List, [], ◌∷◌, ◌++◌, map, Bool, true, false, Contains, refl, sym, ap, subst, ⊎_elim, ◌∙◌}
 use Rattle.std.specs.FinSet as set
 use Rattle.std.proofs.lemmas.Bool.{false≢true, false_from_ne_true}
 use Rattle.std.proofs.lemmas.List.Elements.{Contains-append_left, Contains-append_right, Contains-append_cases}
 use Rattle.gix_hash.specs.declared.ObjectId.{ObjectId}
-use Rattle.gix_hash.specs.Id.{id_cmp, is_among}
+use Rattle.gix_hash.specs.Id.{id_cmp}
 use Rattle.gix_hash.specs.Reach.{Reaches, start, step, Tells}
 use Rattle.gix_hash.proofs.Ids.Membership.{Contains-here, Contains-there, Contains-cons_cases, no_member, among_from, among_is}
-use Rattle.gix_merge_base.specs.Bases.{IsCommon}
 use Rattle.gix_merge_base.specs.Inside.Steps.{AreFirst, Collects, named_by}
 use Rattle.gix_merge_base.proofs.Members.{new_distinct, new_within, new_unknown, new_from, of_some, in_all}
 use Rattle.gix_merge_base.proofs.BestOfFirst.{itself}

@@ -18,3 +18,5 @@ pub mod Starting
 pub mod Whole
 -- Each common ancestor is reached by a best one.
 pub mod Tops
+-- The bases of a history of which the store has a part.
+pub mod Histories

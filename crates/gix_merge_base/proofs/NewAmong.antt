@@ -1,8 +1,8 @@
 -- Ids that are new are collected, and are old from then on.
-use Rattle.std.proofs.Common.{◌≡◌, ◌||◌, List, [], ◌∷◌, ◌++◌, Bool, cond, not, refl, sym, ap, subst, ◌∙◌, arith, append-nil}
+use Rattle.std.proofs.Common.{◌≡◌, ◌||◌, List, [], ◌∷◌, ◌++◌, Bool, cond, not, sym, ap, subst, ◌∙◌, arith, append-nil}
 use Rattle.std.specs.FinSet as set
 use Rattle.gix_hash.specs.declared.ObjectId.{ObjectId}
-use Rattle.gix_hash.specs.Id.{id_cmp, is_same, is_among}
+use Rattle.gix_hash.specs.Id.{id_cmp, is_among}
 use Rattle.gix_hash.proofs.Ids.Membership.{id_total, among-append, among-one}
 use Rattle.gix_merge_base.specs.Inside.Steps.{Collects}
 use Rattle.gix_revwalk.specs.Ids.{new_ids}

@@ -1,8 +1,7 @@
 -- How the parents of commits are read, and why they aren't.
-use Rattle.std.proofs.Common.{◌≡◌, ◌≢◌, ◌+◌, ◌<◌, ℕ, ℤ, List, [], ◌∷◌, ◌++◌, length, take, get_or, filter, not, cond, Bool, true, false, Option, Some, None, Result, Ok, Err, IfErr, Contains, refl, sym, ap, subst, ◌∙◌, append_assoc, append-nil, arith}
+use Rattle.std.proofs.Common.{◌≡◌, ◌≢◌, ℕ, ℤ, List, [], ◌∷◌, ◌++◌, not, cond, Bool, Option, Some, Result, Ok, Err, IfErr, Contains, sym, ap, subst, ◌∙◌, append_assoc, append-nil, arith}
 use Rattle.std.specs.List.{flat_map}
-use Rattle.std.proofs.lemmas.List.{take_more}
-use Rattle.std.proofs.lemmas.List.Elements.{filter-append, Contains-get_or}
+use Rattle.std.proofs.lemmas.List.Elements.{filter-append}
 use Rattle.std.proofs.lemmas.Grind.{flat_map-append}
 use Rattle.gix_hash.specs.declared.ObjectId.{ObjectId}
 use Rattle.gix_hash.specs.Id.{is_same, kind_of}
@@ -24,7 +23,6 @@ use Rattle.gix_merge_base.specs.Errors.{error_of_find}
 use Rattle.gix_merge_base.specs.Inside.Steps.{ReadsParents, ReadFails, ReadFailsAmong, ReadsOthers, OthersOf, others_among}
 use Rattle.gix_revwalk.specs.declared.read.Header.{Header}
 use Rattle.gix_revwalk.specs.declared.row.RowRead.{RowRead}
-use Rattle.gix_revwalk.specs.Agreeing.{IsAgreeing}
 use Rattle.gix_revwalk.specs.Commits.{parents_of}
 use Rattle.gix_revwalk.specs.Either.{seconds_told}
 use Rattle.gix_revwalk.specs.Reading.{ReadsHeader, ReadsRow, is_read, absent, corrupt, dropped}
@@ -60,7 +58,7 @@ module _ (objects : Objects) (faulty : ObjectId → Type 0) (i : ObjectId) {T : 
   unread result e f header same is h t = subst (λ (r : Result T Error). IfErr r (λ e. e ≢ error.Memory → ReadFails objects faulty i e)) (sym same) (λ ne. (hidden_by.ObjectDecode f, (h.bytes, h.stored, told_fault (first_committer (commit_items (kind_of i) h.bytes)) f (sym h.time ∙ t)), is))
 
   pub unread_among : (ids : List ObjectId) (result : Result T Error) (e f : Error) → Contains ids i → result ≡ Err e → e ≡ f → (f ≢ error.Memory → ReadFails objects faulty i f) → IfErr result (λ e. e ≢ error.Memory → ReadFailsAmong objects faulty ids e)
-  unread_among ids result e f m same is h = subst (λ (r : Result T Error). IfErr r (λ e. e ≢ error.Memory → ReadFailsAmong objects faulty ids e)) (sym same ) (λ ne. (i, m, subst (ReadFails objects faulty i) (sym is) (h (λ x. ne (is ∙ x)))))
+  unread_among ids result e f m same is h = subst (λ (r : Result T Error). IfErr r (λ e. e ≢ error.Memory → ReadFailsAmong objects faulty ids e)) (sym same) (λ ne. (i, m, subst (ReadFails objects faulty i) (sym is) (h (λ x. ne (is ∙ x)))))
 
 -- one more id is looked at
 pub others_more : (i : ObjectId) (ids later old mid new : List ObjectId) (j : ObjectId) → later ≡ ids ++ j ∷ [] → OthersOf i ids old mid → new ≡ cond (not (is_same j i)) (mid ++ j ∷ []) mid → OthersOf i later old new

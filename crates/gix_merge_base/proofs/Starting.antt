@@ -1,7 +1,7 @@
 -- How the walk starts, and what its commits and its faults say.
-use Rattle.std.proofs.Common.{◌≡◌, ◌≢◌, ◌↔◌, List, [], ◌∷◌, ◌++◌, length, map, filter, Bool, true, false, Some, Result, Ok, Err, IfErr, Contains, refl, sym, ap, subst, ⊎_elim, ◌∙◌, map-id}
+use Rattle.std.proofs.Common.{◌≡◌, ◌≢◌, ◌↔◌, List, [], ◌∷◌, ◌++◌, length, Bool, true, false, Some, Ok, Err, Contains, refl, sym, ap, subst, ⊎_elim, ◌∙◌, map-id}
 use Rattle.std.specs.FinSet as set
-use Rattle.std.specs.Iterator.{Drains, Yields, YieldsThen}
+use Rattle.std.specs.Iterator.{Drains, YieldsThen}
 use Rattle.std.specs.declared.vec.IntoIter.{IntoIter}
 use Rattle.std.specs.Vec.Iter.{into_iter_items, into_iter_len, into_iter_steps}
 use Rattle.std.proofs.lemmas.Iterator.{items_from_drains}
@@ -14,7 +14,6 @@ use Rattle.gix_hash.proofs.Lists.{filter_all}
 use Rattle.gix_object.specs.Object.{Objects}
 use Rattle.gix_commitgraph.specs.Rows.{GraphRow}
 use Rattle.gix_simple.specs.declared.Error.{Error as WalkError}
-use Rattle.gix_simple.specs.declared.Error.TheVariants as walk_error
 use Rattle.gix_simple.specs.Building.{IsBuilt, made, hides, reads}
 use Rattle.gix_simple.specs.Laws.{IsNewWalk, GivesDifference, given_ids}
 use Rattle.gix_simple.specs.Walk.{SimpleWalk, IsMade, Next}
@@ -23,7 +22,7 @@ use Rattle.gix_simple.proofs.MadeOfTips.{is_new_walk}
 use Rattle.gix_simple.proofs.ReachDecided.{reach_test}
 use Rattle.gix_merge_base.specs.declared.Error.{Error}
 use Rattle.gix_merge_base.specs.declared.Error.TheVariants as error
-use Rattle.gix_merge_base.specs.Bases.{IsFaultOf, FailsBy}
+use Rattle.gix_merge_base.specs.Bases.{FailsBy}
 use Rattle.gix_merge_base.specs.Errors.{error_of_walk}
 use Rattle.gix_merge_base.specs.Inside.Steps.{StartsFrom, Gathers, GatherFails, MeetsFirst, AreFirst, given}
 use Rattle.gix_merge_base.proofs.FirstCommon.{are_first, given_by}

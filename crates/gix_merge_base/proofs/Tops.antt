@@ -4,7 +4,7 @@ use Rattle.std.proofs.lemmas.Bool.{false≢true}
 use Rattle.gix_hash.specs.declared.ObjectId.{ObjectId}
 use Rattle.gix_hash.specs.Id.{kind_of}
 use Rattle.gix_hash.specs.Reach.{Reaches, Tells}
-use Rattle.gix_hash.proofs.Ids.Membership.{Contains-here, Contains-cons_cases, no_member}
+use Rattle.gix_hash.proofs.Ids.Membership.{Contains-cons_cases, no_member}
 use Rattle.gix_object.specs.declared.find.existing_iter.Error.TheVariants as existing
 use Rattle.gix_object.specs.CommitItems.{commit_items}
 use Rattle.gix_object.specs.Object.{Objects}
@@ -65,18 +65,24 @@ module _ (objects : Objects) (one : ObjectId) (others : List ObjectId) where
       where
         go : (t : ObjectId) × IsTop m xs t → (t : ObjectId) × IsTop m (x ∷ xs) t
         go before = ⊎_elim
-            (λ up. (x, record {
-              common = up.0;
-              leads = onward parents (x ∷ []) before.0 m up.1 before.1.leads;
-              alone = λ y h k l. ⊎_elim (λ e. sym e) (λ n.
-                  let same : y ≡ before.0 = before.1.alone y n k (onward parents (y ∷ []) x before.0 l up.1) in
-                  same ∙ acyclic before.0 x before.1.common up.0 (subst (λ z. Leads z x) same l) up.1) (Contains-cons_cases y x xs h);
-            }))
-            (λ none. (before.0, record {
-              common = before.1.common;
-              leads = before.1.leads;
-              alone = λ y h k l. ⊎_elim (λ e. absurd (none (subst Common (sym e) k, subst (λ z. Leads z before.0) (sym e) l))) (λ n. before.1.alone y n k l) (Contains-cons_cases y x xs h);
-            }))
+            (λ up. (
+              x,
+              record {
+                common = up.0;
+                leads = onward parents (x ∷ []) before.0 m up.1 before.1.leads;
+                alone = λ y h k l. ⊎_elim (λ e. sym e) (λ n.
+                    let same : y ≡ before.0 = before.1.alone y n k (onward parents (y ∷ []) x before.0 l up.1) in
+                    same ∙ acyclic before.0 x before.1.common up.0 (subst (λ z. Leads z x) same l) up.1) (Contains-cons_cases y x xs h);
+              },
+            ))
+            (λ none. (
+              before.0,
+              record {
+                common = before.1.common;
+                leads = before.1.leads;
+                alone = λ y h k l. ⊎_elim (λ e. absurd (none (subst Common (sym e) k, subst (λ z. Leads z before.0) (sym e) l))) (λ n. before.1.alone y n k l) (Contains-cons_cases y x xs h);
+              },
+            ))
             (above_known x before.0)
 
     pub best_above : (i : ObjectId) → Common i → (b : ObjectId) × IsBest parents one others b × Leads b i

@@ -1,7 +1,7 @@
 -- What holds along a walk over what others reach and one doesn't: what it gives has the parents of its commit, and a fault is one of a commit
 -- that one or others reach.
-use Rattle.std.proofs.Common.{◌≡◌, ◌≢◌, ◌⊎◌, ℕ, ℤ, List, [], ◌∷◌, ◌++◌, Bool, true, false, Option, Some, None, Result, Ok, Err, Contains, filter, not, refl, sym, ap, subst, inl, inr, ⊎_elim, ◌∙◌, true≢false}
-use Rattle.std.specs.Iterator.{Yields, YieldsThen, Drains}
+use Rattle.std.proofs.Common.{◌≡◌, ◌≢◌, ◌⊎◌, ℕ, ℤ, List, [], ◌∷◌, ◌++◌, Bool, true, false, Option, Some, None, Result, Ok, Err, Contains, refl, sym, ap, subst, inl, inr, ⊎_elim, ◌∙◌, true≢false}
+use Rattle.std.specs.Iterator.{Yields, YieldsThen}
 use Rattle.std.specs.FinSet as set
 use Rattle.std.proofs.lemmas.List.Elements.{Contains-append_left, Contains-append_right, Contains-append_cases}
 use Rattle.std.proofs.lemmas.List.Sorted.{Contains-permutation, IsPermutation-sym}
@@ -24,12 +24,11 @@ use Rattle.gix_paint.specs.Painting.{Paints, IsFaultAt}
 use Rattle.gix_paint.proofs.Invariant.{own_history}
 use Rattle.gix_simple.specs.declared.Error.{Error as WalkError}
 use Rattle.gix_simple.specs.declared.Error.TheVariants as walk_error
-use Rattle.gix_simple.specs.Walk.{SimpleWalk, Treated, StoreFails, GoesOn, Treats, hidden, known, refused, accepted, store_fails, no_memory, no_memory_after, TreatsAll, none, more, stops, Enqueues, dropped, enqueued}
+use Rattle.gix_simple.specs.Walk.{SimpleWalk, Treated, StoreFails, Treats, hidden, known, refused, accepted, store_fails, no_memory, no_memory_after, TreatsAll, none, more, stops, Enqueues, dropped, enqueued}
 use Rattle.gix_simple.specs.Walk.{Concludes, given, broken, Takes, by_row, by_store, not_found, Chooses, first, best, Steps, ended, took, FirstStep, unhidden, paints, faulty_history, Next, initial, later, unrowed}
 use Rattle.gix_simple.proofs.Moves.{Asking, rests, asks, asking}
 use Rattle.gix_simple.proofs.Difference.{whole_from}
 use Rattle.gix_simple.proofs.Treated.{best_moved}
-use Rattle.gix_merge_base.specs.declared.Error.{Error}
 use Rattle.gix_merge_base.specs.Errors.{error_of, error_of_walk}
 use Rattle.gix_merge_base.specs.Inside.Steps.{given as all_given}
 use Rattle.gix_revwalk.specs.declared.Info.{Info}
@@ -40,7 +39,7 @@ use Rattle.gix_revwalk.specs.Ids.{ids_of}
 use Rattle.gix_revwalk.specs.Pending.{Pending}
 use Rattle.gix_revwalk.specs.Texts.{scanned}
 use Rattle.gix_revwalk.proofs.ReadsWhole.{row_parents, row_stands, scan_is}
-use Rattle.gix_revwalk.proofs.Reached.{reach_more, reaches_from}
+use Rattle.gix_revwalk.proofs.Reached.{reach_more}
 use Rattle.gix_revwalk.proofs.Rows.{none_agree, kept_either}
 
 in_ids : (ps : List Pending) (p : Pending) → Contains ps p → Contains (ids_of ps) p.id

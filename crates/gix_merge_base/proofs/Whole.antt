@@ -1,12 +1,11 @@
 -- The whole call: first common ancestors, what other parents of them reach, and what is left.
-use Rattle.std.proofs.Common.{◌≡◌, ◌≢◌, List, [], ◌∷◌, ◌++◌, Result, Ok, Err, IfErr, Contains, refl, sym, ap, subst, ⊎_elim, ◌∙◌}
-use Rattle.std.specs.List.{flat_map}
+use Rattle.std.proofs.Common.{◌≡◌, ◌≢◌, List, ◌∷◌, ◌++◌, Result, Err, IfErr, Contains, refl, sym, ap, subst, ⊎_elim, ◌∙◌}
 use Rattle.std.specs.FinSet as set
 use Rattle.std.proofs.lemmas.List.Elements.{Contains-append_cases}
 use Rattle.gix_hash.specs.declared.ObjectId.{ObjectId}
 use Rattle.gix_hash.specs.Id.{id_cmp}
-use Rattle.gix_hash.specs.Reach.{Reaches, start, step}
-use Rattle.gix_hash.proofs.Ids.Membership.{Contains-here, Contains-there}
+use Rattle.gix_hash.specs.Reach.{Reaches, step}
+use Rattle.gix_hash.proofs.Ids.Membership.{Contains-there}
 use Rattle.gix_object.specs.declared.find.existing_iter.Error.TheVariants as existing
 use Rattle.gix_object.specs.Object.{Objects}
 use Rattle.gix_commitgraph.specs.Rows.{GraphRow}
@@ -18,9 +17,9 @@ use Rattle.gix_paint.specs.declared.Hidden.TheVariants as hidden_by
 use Rattle.gix_paint.proofs.Invariant.{own_history}
 use Rattle.gix_merge_base.specs.declared.Error.{Error}
 use Rattle.gix_merge_base.specs.declared.Error.TheVariants as error
-use Rattle.gix_merge_base.specs.Bases.{FindsBases, FailsBy, IsFaultOf, AreBases}
+use Rattle.gix_merge_base.specs.Bases.{FindsBases, FailsBy}
 use Rattle.gix_merge_base.specs.Errors.{error_of, error_of_contained}
-use Rattle.gix_merge_base.specs.Inside.Steps.{MeetsFirst, AreFirst, ReadsOthers, ReadFailsAmong, Collects, others_among}
+use Rattle.gix_merge_base.specs.Inside.Steps.{MeetsFirst, ReadsOthers, ReadFailsAmong, Collects, others_among}
 use Rattle.gix_merge_base.proofs.BestOfFirst.{bases_left}
 use Rattle.gix_merge_base.proofs.Members.{of_some, others_within}
 use Rattle.gix_revwalk.specs.Agreeing.{IsAgreeing}

@@ -5,6 +5,7 @@ use Rattle.gix_hash.specs.Reach.{Reaches}
 use Rattle.gix_object.specs.declared.find.existing_iter.Error.TheVariants as existing
 use Rattle.gix_object.specs.Object.{Objects}
 use Rattle.gix_commitgraph.specs.Rows.{GraphRow}
+use Rattle.gix_paint.specs.Painting.{IsHistory}
 use Rattle.gix_merge_base.specs.declared.Error.{Error}
 use Rattle.gix_merge_base.specs.declared.Error.TheVariants as error
 use Rattle.gix_merge_base.specs.Bases.{IsCommon, AreBases, FindsBases, FailsBy}
@@ -16,12 +17,18 @@ BasesExactly =
     (objects : Objects) (rows : List GraphRow) (one : ObjectId) (others bases : List ObjectId) → IsAgreeing objects rows →
     FindsBases objects rows one others bases → AreBases (parents_of objects) one others bases
 
+abbrev pub BasesOfHistory : Type 0
+BasesOfHistory =
+    (history objects : Objects) (rows : List GraphRow) (one : ObjectId) (others bases : List ObjectId) →
+    IsHistory objects rows history → IsAgreeing objects rows → FindsBases objects rows one others bases →
+    AreBases (parents_of history) one others bases
+
 abbrev pub RowsAgree : Type 0
 RowsAgree =
-    (objects : Objects) (rows others_rows : List GraphRow) (one : ObjectId) (others bases these : List ObjectId) →
-    IsAgreeing objects rows → FindsBases objects rows one others bases →
-    IsAgreeing objects others_rows → FindsBases objects others_rows one others these →
-    (i : ObjectId) → Contains bases i ↔ Contains these i
+    (history these those : Objects) (rows others_rows : List GraphRow) (one : ObjectId) (others bases found : List ObjectId) →
+    IsHistory these rows history → IsAgreeing these rows → FindsBases these rows one others bases →
+    IsHistory those others_rows history → IsAgreeing those others_rows → FindsBases those others_rows one others found →
+    (i : ObjectId) → Contains bases i ↔ Contains found i
 
 -- no two commits of some kind reach each other
 abbrev pub IsAcyclicAmong : (ObjectId → List ObjectId) → (ObjectId → Type 0) → Type 0

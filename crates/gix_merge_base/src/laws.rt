@@ -1,6 +1,6 @@
 //! Laws of the best common ancestors.
 
-ghost use Rattle.gix_merge_base.specs.Laws.{BasesExactly, RowsAgree, SomeBase, OneBase, Succeeds};
+ghost use Rattle.gix_merge_base.specs.Laws.{BasesExactly, BasesOfHistory, RowsAgree, SomeBase, OneBase, Succeeds};
 
 use gix_object::find::Find;
 
@@ -10,8 +10,14 @@ pub fn bases_exactly()
     ensures { BasesExactly }
 {}
 
-/// Two answers about the same commits have the same ids, over whatever rows of one store they were found, where these agree with it: with
-/// a commit-graph as without.
+/// The answer is also exactly the best common ancestors of each history that agrees with the rows and of which the store has a part: the
+/// call has read all that `one` and the others reach.
+pub fn bases_of_history()
+    ensures { BasesOfHistory }
+{}
+
+/// Two answers about the same commits have the same ids, over whatever stores and rows they were found, where these are parts of one
+/// history, and the rows of each agree with its store: with a commit-graph as without.
 pub fn rows_agree()
     ensures { RowsAgree }
 {}

@@ -236,11 +236,7 @@ where
 }
 
 /// The ids that aren't in the set, each once, in order.
-fn new_among(
-    alloc: Global,
-    mut old: IdSet,
-    ids: &[ObjectId],
-) -> Result<Vec<ObjectId>, AllocError>
+fn new_among(alloc: Global, mut old: IdSet, ids: &[ObjectId]) -> Result<Vec<ObjectId>, AllocError>
     ensures { IfOk result (λ those. those.items ≡ new_ids (set.contains old) ids.now) }
 {
     let mut those = Vec::new(alloc);
@@ -282,11 +278,7 @@ fn other_parents<F: Find>(
 }
 
 /// Appends the ids that are others than this one.
-fn push_others(
-    id: &ObjectId,
-    ids: &[ObjectId],
-    those: &mut Vec<ObjectId>,
-) -> Result<(), AllocError>
+fn push_others(id: &ObjectId, ids: &[ObjectId], those: &mut Vec<ObjectId>) -> Result<(), AllocError>
     ensures { IfOk result (λ _. OthersOf id.now ids.now those.old.items those.new.items) }
 {
     for other in ids {

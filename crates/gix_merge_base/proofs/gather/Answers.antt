@@ -1,6 +1,6 @@
-use Rattle.std.proofs.Common.{◌≡◌, ◌≢◌, Result, IfErr, refl, sym, subst, ap, [], ◌++◌, ◌∷◌, append-nil, ◌∙◌}
+use Rattle.std.proofs.Common.{sym, ap, [], ◌++◌, ◌∷◌, append-nil, ◌∙◌}
 use Rattle.std.proofs.lemmas.Result.{err_from_is_err_and}
-use Rattle.gix_merge_base.proofs.Gathering.{collects_none, collects_more, ids_last, named_more, drawn_one, drawn_fault, drawn_all, gather_failed}
+use Rattle.gix_merge_base.proofs.Gathering.{collects_none, collects_more, ids_last, named_more, drawn_one, drawn_all, gather_failed}
 use Rattle.gix_merge_base.proofs.gather.Goals as goal
 
 pub loop-answer-init : goal.loop-answer-init

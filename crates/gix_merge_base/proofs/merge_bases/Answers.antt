@@ -1,6 +1,5 @@
 use Rattle.std.proofs.Common.{List, [], ap, subst, ◌∙◌}
 use Rattle.std.specs.FinSet as set
-use Rattle.std.specs.Borrow.{Bor}
 use Rattle.std.proofs.lemmas.Result.{err_from_is_err_and}
 use Rattle.gix_hash.specs.declared.ObjectId.{ObjectId}
 use Rattle.gix_contained.specs.Contained.{Selects, FailsBy as ContainedFails}
@@ -27,7 +26,7 @@ returns-in_err-reached-clause-err g c =
     fails_reaching those fails rows c.args.one c.args.others.now _ _ c.in_ok-common.ensures.ok _ _ p.1 _ p.2
     (subst (λ (xs : List ObjectId). ReadsOthers those rows xs c.in_ok-parents.parents.items) c.deref.ensures.value c.in_ok-parents.ensures.ok)
     (λ ne. subst (λ (xs : List ObjectId). ContainedFails those fails rows c.in_ok-parents.parents.items xs c.in_err-reached.field-0.0) c.deref-3.ensures.value
-      (subst (λ (xs : List ObjectId). ContainedFails those fails rows xs c.deref-3.result.now c.in_err-reached.field-0.0) c.deref-2.ensures.value (c.in_err-reached.ensures.err ne)))
+    (subst (λ (xs : List ObjectId). ContainedFails those fails rows xs c.deref-3.result.now c.in_err-reached.field-0.0) c.deref-2.ensures.value (c.in_err-reached.ensures.err ne)))
 
 pub returns-clause-ok : goal.returns-clause-ok
 returns-clause-ok g c =

@@ -1,10 +1,7 @@
-use Rattle.std.proofs.Common.{◌≡◌, ◌+◌, arith, List, ◌++◌, ◌∷◌, [], take, get_or, cond, not, refl, sym, ap, subst, ◌∙◌}
+use Rattle.std.proofs.Common.{◌≡◌, ◌+◌, arith, ◌++◌, ◌∷◌, [], take, get_or, cond}
 use Rattle.std.proofs.lemmas.List.{take_more}
-use Rattle.std.specs.FinSet as set
 use Rattle.gix_hash.specs.declared.ObjectId.{ObjectId}
 use Rattle.gix_merge_base.proofs.NewAmong.{turn}
-use Rattle.gix_merge_base.proofs.BestOfFirst.{bases_left}
-use Rattle.gix_merge_base.proofs.FirstCommon.{are_first}
 use Rattle.gix_merge_base.proofs.new_among.Goals as goal
 use Rattle.gix_merge_base.proofs.new_among.Goals.{then-branch+in_ok-push, else-branch}
 

@@ -1,5 +1,4 @@
-use Rattle.std.proofs.Common.{◌+◌, take}
-use Rattle.std.specs.Borrow.{Bor}
+use Rattle.std.proofs.Common.{take}
 use Rattle.std.proofs.lemmas.List.{take_more}
 use Rattle.std.proofs.lemmas.List.Elements.{Contains-get_or}
 use Rattle.std.proofs.lemmas.Result.{err_from_is_err_and}

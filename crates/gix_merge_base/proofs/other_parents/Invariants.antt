@@ -1,5 +1,4 @@
 use Rattle.std.proofs.Common.{take}
-use Rattle.std.specs.Borrow.{Bor}
 use Rattle.gix_revwalk.specs.Agreeing.{rows_in}
 use Rattle.gix_merge_base.specs.Inside.Steps.{ReadsOthers}
 use Rattle.gix_merge_base.proofs.other_parents.Given as goal

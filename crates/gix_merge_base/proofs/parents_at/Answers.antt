@@ -1,6 +1,5 @@
 use Rattle.std.proofs.lemmas.Result.{err_from_is_err_and}
 use Rattle.gix_merge_base.proofs.Reading.{row_gives, store_gives, unfound, unread}
-use Rattle.gix_merge_base.proofs.Starting.{met_first}
 use Rattle.gix_merge_base.proofs.parents_at.Goals as goal
 
 pub returns-in-Some-clause-ok : goal.returns-in-Some-clause-ok

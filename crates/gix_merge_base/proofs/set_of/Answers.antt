@@ -1,7 +1,6 @@
-use Rattle.std.proofs.Common.{◌+◌, take}
+use Rattle.std.proofs.Common.{take}
 use Rattle.std.proofs.lemmas.List.{take_more}
 use Rattle.gix_merge_base.proofs.Gathering.{collects_none, collects_more}
-use Rattle.gix_merge_base.proofs.Walked.{fault_below}
 use Rattle.gix_merge_base.proofs.set_of.Goals as goal
 
 pub loop-id-init : goal.loop-id-init

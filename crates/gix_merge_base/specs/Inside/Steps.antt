@@ -1,5 +1,5 @@
 -- What the parts of a call do.
-use Rattle.std.specs.Prelude.{◌≡◌, ◌≢◌, List, [], ◌∷◌, ◌++◌, map, filter, not, Bool, true, Option, Some, None, Result, Ok, Err, Contains}
+use Rattle.std.specs.Prelude.{◌≡◌, ◌≢◌, List, [], ◌∷◌, ◌++◌, map, filter, not, Bool, true, Option, Some, Result, Ok, Err, Contains}
 use Rattle.std.specs.List.{flat_map}
 use Rattle.std.specs.Iterator.{Drains, YieldsThen}
 use Rattle.std.specs.FinSet as set
