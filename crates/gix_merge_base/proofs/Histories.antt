@@ -1,8 +1,8 @@
 -- A store that is a part of a history, and has whole all that one and others reach, has the bases of the history.
-use Rattle.std.proofs.Common.{◌≡◌, ◌≢◌, ◌↔◌, List, [], ◌∷◌, Some, Contains, refl, sym, ap, subst, ⊎_elim, ◌∙◌}
+use Rattle.std.proofs.Common.{◌≡◌, List, [], ◌∷◌, Some, Contains, refl, sym, ap, subst, ◌∙◌}
 use Rattle.gix_hash.specs.declared.ObjectId.{ObjectId}
 use Rattle.gix_hash.specs.Reach.{Reaches, start, step}
-use Rattle.gix_hash.proofs.Ids.Membership.{Contains-here, Contains-there, no_member}
+use Rattle.gix_hash.proofs.Ids.Membership.{Contains-here, Contains-there}
 use Rattle.gix_hash.proofs.Lists.{only_member}
 use Rattle.gix_object.specs.CommitText.{Commit}
 use Rattle.gix_object.specs.Object.{Objects}
