@@ -11,7 +11,9 @@ type Named = (&'static str, Kind, &'static [u8]);
 
 /// The ids of a tree, a commit of it, and the commit behind that.
 const TREE: &str = "496d6428b9cf92981dc9495211e6e1120fb6f2ba";
+
 const FIRST: &str = "823a8a296fc96cbdaba5c22bfe4b19f0de84017e";
+
 const SECOND: &str = "d2a521c9b86619f5102ab7eb50afe40d1a82a3c9";
 
 /// Objects under their ids, and one under another's.
