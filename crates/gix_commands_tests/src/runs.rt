@@ -123,6 +123,7 @@ mod by_time;
 mod contains;
 mod files;
 mod hidden;
+mod named;
 mod over;
 mod records;
 mod streams;

@@ -1,0 +1,310 @@
+//! The best common ancestors of commits.
+#![tactic(auto)]
+
+ghost use Rattle.std.specs.Prelude.{◌≡◌, ◌≢◌, IfOk, IfErr};
+ghost use Rattle.std.specs.Borrow.{Bor};
+ghost use Rattle.std.specs.Iterator.{IsFinite};
+ghost use Rattle.std.specs.FinSet as set;
+ghost use Rattle.gix_merge_base.specs.declared.Error.TheVariants as error;
+ghost use Rattle.gix_merge_base.specs.Bases.{FindsBases, FailsBy};
+ghost use Rattle.gix_merge_base.specs.Inside.Steps.{StartsFrom, Gathers, GatherFails, MeetsFirst, ReadsParents, ReadFails, OthersOf, ReadsOthers, ReadFailsAmong, Collects, accepts_all};
+ghost use Rattle.gix_revwalk.specs.Agreeing.{rows_in, rows_of};
+ghost use Rattle.gix_revwalk.specs.Ids.{new_ids};
+
+pub mod laws;
+
+use gix_commitgraph::Graph;
+use gix_contained::contained;
+use gix_hash::ObjectId;
+use gix_hash::hashtable::IdSet;
+use gix_object::decode;
+use gix_object::find::{Find, existing_iter};
+use gix_paint::Hidden;
+use gix_revwalk::read::find_header;
+use gix_revwalk::row::{NOWHERE, read_row};
+use gix_revwalk::{Info, ParentIds, Unfiltered};
+use gix_simple::Simple;
+use std::alloc::{AllocError, Global};
+use thiserror::Error;
+
+/// Why it isn't known which common ancestors are the best.
+#[derive(Clone, Copy, Debug, PartialEq, Eq, Error)]
+pub enum Error {
+    /// A commit could not be looked up.
+    #[error(transparent)]
+    Find(existing_iter::Error),
+    /// A commit's bytes are broken before its committer ends.
+    #[error(transparent)]
+    ObjectDecode(decode::Error),
+    /// Out of memory.
+    #[error("out of memory")]
+    Memory,
+}
+
+impl From<existing_iter::Error> for Error {
+    ghost use Rattle.gix_merge_base.specs.Errors.{error_of_find};
+
+    ghost from_gives = { λ e r. r ≡ error_of_find e };
+
+    fn from(e: existing_iter::Error) -> Error {
+        match e {
+            existing_iter::Error::Memory => Error::Memory,
+            e => Error::Find(e),
+        }
+    }
+}
+
+impl From<decode::Error> for Error {
+    ghost use Rattle.gix_merge_base.specs.declared.Error.TheVariants as error;
+
+    ghost from_gives = { λ e r. r ≡ error.ObjectDecode e };
+
+    fn from(e: decode::Error) -> Error {
+        Error::ObjectDecode(e)
+    }
+}
+
+impl From<Hidden> for Error {
+    ghost use Rattle.gix_merge_base.specs.Errors.{error_of};
+
+    ghost from_gives = { λ e r. r ≡ error_of e };
+
+    fn from(e: Hidden) -> Error {
+        match e {
+            Hidden::Find(e) => Error::from(e),
+            Hidden::ObjectDecode(e) => Error::ObjectDecode(e),
+        }
+    }
+}
+
+impl From<gix_simple::Error> for Error {
+    ghost use Rattle.gix_merge_base.specs.Errors.{error_of_walk};
+
+    ghost from_gives = { λ e r. r ≡ error_of_walk e };
+
+    fn from(e: gix_simple::Error) -> Error {
+        match e {
+            gix_simple::Error::Find(e) => Error::from(e),
+            gix_simple::Error::ObjectDecode(e) => Error::ObjectDecode(e),
+            gix_simple::Error::HiddenGraph(e) => Error::from(e),
+            gix_simple::Error::Memory => Error::Memory,
+        }
+    }
+}
+
+impl From<gix_contained::Error> for Error {
+    ghost use Rattle.gix_merge_base.specs.Errors.{error_of_contained};
+
+    ghost from_gives = { λ e r. r ≡ error_of_contained e };
+
+    fn from(e: gix_contained::Error) -> Error {
+        match e {
+            gix_contained::Error::Find(e) => Error::from(e),
+            gix_contained::Error::ObjectDecode(e) => Error::ObjectDecode(e),
+            gix_contained::Error::Memory => Error::Memory,
+        }
+    }
+}
+
+impl From<AllocError> for Error {
+    ghost use Rattle.gix_merge_base.specs.declared.Error.TheVariants as error;
+
+    ghost from_gives = { λ _ r. r ≡ error.Memory };
+
+    fn from(_e: AllocError) -> Error {
+        Error::Memory
+    }
+}
+
+/// The best common ancestors of a commit and of some others: the commits that `one` reaches and any of `others` reaches, through all
+/// parents, and that no other such commit reaches. A commit reaches itself. Each comes once.
+///
+/// They are what `git merge-base --all ONE OTHER..` prints. Here they come in the order in which they were met, breadth first from the
+/// others, which says nothing and is no part of what is promised. Without others there is none.
+///
+/// All that `one` and the others reach is read, as far as a commit-graph doesn't decide before: its rows are copied once, for the walk.
+/// A corrupt row is read from the store.
+///
+/// ```text
+/// 1----2----4 <- one
+///  \    \  /
+///   \    \/
+///    \   /\
+///     3----5  <- other
+///
+/// merge_bases(alloc, id(4), &[id(5)], &store, None)?    gives 3 and 2, since each of 4 and 5 has both as parents
+/// ```
+///
+/// # Errors
+///
+/// No answer is given where it isn't known which parents a commit has that has to be read, be it `one`, one of the others, or one that
+/// these reach:
+/// - `Find` if the store hasn't the commit, has an object of another kind, or can't read it,
+/// - `ObjectDecode` if the commit's bytes are broken before its committer ends,
+/// - `Memory` when out of memory.
+pub fn merge_bases<F: Find>(
+    alloc: Global,
+    one: ObjectId,
+    others: &[ObjectId],
+    objects: &F,
+    graph: Option<&Graph>,
+) -> Result<Vec<ObjectId>, Error>
+    ensures ok { IfOk result (λ bases. FindsBases (F.objects objects.now) (rows_in graph.entry) one others.now bases.items) }
+    ensures err { IfErr result (λ e. e ≢ error.Memory → FailsBy (F.objects objects.now) (F.faulty objects.now) (rows_in graph.entry) one others.now e) }
+{
+    let common = first_common(alloc, one, others, objects, graph)?;
+    let parents = other_parents(alloc, &common, objects, graph)?;
+    let reached = contained(alloc, &parents, &common, objects, graph)?;
+    let marks = set_of(alloc, &reached)?;
+    let bases = new_among(alloc, marks, &common)?;
+    Ok(bases)
+}
+
+/// Common ancestors that reach all others: each of the others that `one` reaches, and each parent that it reaches of a commit that it
+/// doesn't reach and the others do.
+fn first_common<F: Find>(
+    alloc: Global,
+    one: ObjectId,
+    others: &[ObjectId],
+    objects: &F,
+    graph: Option<&Graph>,
+) -> Result<Vec<ObjectId>, Error>
+    ensures ok { IfOk result (λ common. MeetsFirst (F.objects objects.now) (rows_in graph.entry) one others.now common.items) }
+    ensures err { IfErr result (λ e. e ≢ error.Memory → FailsBy (F.objects objects.now) (F.faulty objects.now) (rows_in graph.entry) one others.now e) }
+{
+    let walk = walk_from(alloc, one, others, objects, graph)?;
+    let Gathered { only, named } = gather(alloc, others, walk)?;
+    let common = new_among(alloc, only, &named)?;
+    Ok(common)
+}
+
+/// The rows again, for a walk to hold.
+fn copy_of(graph: Option<&Graph>) -> Result<Option<Graph>, AllocError>
+    ensures { IfOk result (λ copy. rows_of copy ≡ rows_in graph.entry) }
+{
+    match graph {
+        Some(graph) => Ok(Some(graph.copy()?)),
+        None => Ok(None),
+    }
+}
+
+/// A walk over what the others reach and `one` doesn't.
+fn walk_from<'a, F: Find>(
+    alloc: Global,
+    one: ObjectId,
+    others: &[ObjectId],
+    objects: &'a F,
+    graph: Option<&Graph>,
+) -> Result<Simple<&'a F, Unfiltered>, Error>
+    ensures ok { IfOk result (λ walk. StartsFrom (λ (f : Bor F). F.objects f.now) (λ (f : Bor F). F.faulty f.now) accepts_all objects.entry (record {}) (rows_in graph.entry) one others.now walk) }
+    ensures err { IfErr result (λ e. e ≡ error.Memory) }
+{
+    let rows = copy_of(graph)?;
+    let tips = Vec::from_slice(alloc, others)?;
+    let hidden = Vec::from_slice(alloc, &[one])?;
+    let made = Simple::new(alloc, tips, objects)?;
+    let walk = made.hide(hidden)?;
+    Ok(walk.commit_graph(rows))
+}
+
+/// What a walk gave and named.
+#[derive(Drop)]
+struct Gathered {
+    /// The commits that it gave.
+    only: IdSet,
+    /// The tips, and the parents of these commits.
+    named: Vec<ObjectId>,
+}
+
+/// The commits of a walk that is drawn to its end, and the tips with the parents of these commits.
+fn gather<I>(alloc: Global, tips: &[ObjectId], walk: I) -> Result<Gathered, Error>
+where
+    I: Iterator<Item = Result<Info, gix_simple::Error>> + Drop,
+    requires can { I.can_next walk }
+    requires finite { IsFinite (I.remaining walk) }
+    ensures ok { IfOk result (λ all. Gathers I.next_gives tips.now walk all.only all.named.items) }
+    ensures err { IfErr result (λ e. e ≢ error.Memory → GatherFails I.next_gives walk e) }
+{
+    let mut only = IdSet::new(alloc);
+    let mut named = Vec::from_slice(alloc, tips)?;
+    for answer in walk {
+        let info = answer?;
+        only.insert(info.id)?;
+        named.extend_from_slice(info.parent_ids.as_slice())?;
+    }
+    Ok(Gathered { only, named })
+}
+
+/// The ids that aren't in the set, each once, in order.
+fn new_among(alloc: Global, mut old: IdSet, ids: &[ObjectId]) -> Result<Vec<ObjectId>, AllocError>
+    ensures { IfOk result (λ those. those.items ≡ new_ids (set.contains old) ids.now) }
+{
+    let mut those = Vec::new(alloc);
+    for id in ids {
+        if old.insert(*id)? {
+            those.push(*id)?;
+        }
+    }
+    Ok(those)
+}
+
+/// The ids as a set.
+fn set_of(alloc: Global, ids: &[ObjectId]) -> Result<IdSet, AllocError>
+    ensures { IfOk result (Collects ids.now) }
+{
+    let mut those = IdSet::new(alloc);
+    for id in ids {
+        those.insert(*id)?;
+    }
+    Ok(those)
+}
+
+/// The parents of commits, where a commit that is its own parent doesn't count.
+fn other_parents<F: Find>(
+    alloc: Global,
+    ids: &[ObjectId],
+    objects: &F,
+    graph: Option<&Graph>,
+) -> Result<Vec<ObjectId>, Error>
+    ensures ok { IfOk result (λ those. ReadsOthers (F.objects objects.now) (rows_in graph.entry) ids.now those.items) }
+    ensures err { IfErr result (λ e. e ≢ error.Memory → ReadFailsAmong (F.objects objects.now) (F.faulty objects.now) ids.now e) }
+{
+    let mut those = Vec::new(alloc);
+    for id in ids {
+        let parent_ids = parents_at(alloc, id, objects, graph)?;
+        push_others(id, parent_ids.as_slice(), &mut those)?;
+    }
+    Ok(those)
+}
+
+/// Appends the ids that are others than this one.
+fn push_others(id: &ObjectId, ids: &[ObjectId], those: &mut Vec<ObjectId>) -> Result<(), AllocError>
+    ensures { IfOk result (λ _. OthersOf id.now ids.now those.old.items those.new.items) }
+{
+    for other in ids {
+        if *other != *id {
+            those.push(*other)?;
+        }
+    }
+    Ok(())
+}
+
+/// The parents of a commit: those of its row where it has one that isn't corrupt, else those that the store says.
+fn parents_at<F: Find>(
+    alloc: Global,
+    id: &ObjectId,
+    objects: &F,
+    graph: Option<&Graph>,
+) -> Result<ParentIds, Error>
+    ensures ok { IfOk result (λ ids. ReadsParents (F.objects objects.now) (rows_in graph.entry) id.now ids.items) }
+    ensures err { IfErr result (λ e. e ≢ error.Memory → ReadFails (F.objects objects.now) (F.faulty objects.now) id.now e) }
+{
+    let mut in_use = true;
+    if let Some(row) = read_row(alloc, graph, &mut in_use, id, NOWHERE)? {
+        return Ok(row.parent_ids);
+    }
+    let mut text = Vec::new(alloc);
+    let header = find_header(alloc, objects, id, &mut text)?;
+    let _ = header.time?;
+    Ok(header.parent_ids)
+}
