@@ -1,5 +1,5 @@
 //! Texts of commits that a walk may read.
-ghost use Rattle.std.specs.Prelude.{◌≡◌, OnOk, IfErr};
+ghost use Rattle.std.specs.Prelude.{◌≡◌, ◌≢◌, [], IsTrue, OnOk, IfErr};
 ghost use Rattle.gix_object.specs.CommitRefIter.{commit_items_left};
 ghost use Rattle.gix_object.specs.declared.find.Error.TheVariants as store;
 ghost use Rattle.gix_revwalk.specs.declared.Parents.TheVariants as mode;
@@ -22,6 +22,9 @@ pub fn make_readable(
     ensures ok { OnOk result (text.new.items ≡ readable_bytes (is_first parents) id.now kind text.old.items) }
     ensures err { IfErr result (λ e. e ≡ store.Memory) }
 {
+    if is_plain(parents, text.as_slice()) {
+        return Ok(());
+    }
     match kind {
         Kind::Commit => {}
         Kind::Tree | Kind::Blob | Kind::Tag => return Ok(()),
@@ -33,6 +36,16 @@ pub fn make_readable(
     match text.push(0) {
         Ok(()) => Ok(()),
         Err(_) => Err(find::Error::Memory),
+    }
+}
+
+/// Whether all parents are read, and there are bytes: then no more is asked of them, whatever their kind.
+fn is_plain(parents: Parents, bytes: &[u8]) -> bool
+    ensures { IsTrue result → (parents ≡ mode.All) × (bytes.now ≢ []) }
+{
+    match parents {
+        Parents::All => !bytes.is_empty(),
+        Parents::First => false,
     }
 }
 
