@@ -19,6 +19,9 @@
 extern "C" {
 #endif
 
+/* The version of this header, and of the library that it came with. */
+#define KESTRELRACK_VERSION "@VERSION@"
+
 /* The numbers of an answer. */
 enum {
     KESTRELRACK_WELL = 0,       /* the lines are in the room */

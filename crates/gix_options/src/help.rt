@@ -14,6 +14,9 @@ pub struct Command {
     pub example: &'static str,
 }
 
+/// The version of program and library. Scripts read it here, so it stands here alone.
+pub const VERSION: &str = "0.1.0";
+
 /// How the program is called.
 pub const USAGE: &[&str] = &[
     "usage: gix_walk -C FOLDER [OPTION..] COMMAND REVISION..",

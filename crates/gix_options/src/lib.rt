@@ -6,7 +6,7 @@ mod misuse;
 mod name;
 mod question;
 
-pub use help::{COMMANDS, Command, NOTES, USAGE, WHAT, help_of};
+pub use help::{COMMANDS, Command, NOTES, USAGE, VERSION, WHAT, help_of};
 pub use misuse::Misuse;
 pub use name::Name;
 pub use question::{Asked, Asks, Options, Place, Question, Rows, read_arguments, read_lines};

@@ -1,5 +1,5 @@
 //! The help, and which program this is.
-use gix_options::{COMMANDS, Command, NOTES, Name, USAGE, WHAT, help_of};
+use gix_options::{COMMANDS, Command, NOTES, Name, USAGE, VERSION, WHAT, help_of};
 use std::{env, fs, io};
 
 /// Writes the help of a command, or all of it.
@@ -31,7 +31,7 @@ fn write_command(rt: &HostRuntime, command: &Command) -> io::Result<()> {
 
 /// Writes which program this is. What built it has left a file beside it that says of which commit it is, and what proved it.
 pub(crate) fn write_version(rt: &HostRuntime) -> io::Result<()> {
-    println!(rt; "gix_walk 0.1.0 of Kestrelrack, a port of gix-traverse 0.61.0")?;
+    println!(rt; "gix_walk {VERSION} of Kestrelrack, a port of gix-traverse 0.61.0")?;
     let about = env::current_exe(rt).and_then(|path| {
         let mut name = String::from_str(rt.alloc(), path.as_path().to_str().unwrap_or_default())?;
         name.push_str(".version")?;
