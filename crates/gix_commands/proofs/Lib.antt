@@ -15,6 +15,7 @@ mod CheckedWalks
 mod CheckedSteps
 mod AheadFacts
 mod ContainedFacts
+mod BasesFacts
 mod StartFacts
 mod RunFacts
 mod GivenRuns
@@ -33,6 +34,7 @@ mod FileRuns
 mod SimpleFaults
 mod AheadRuns
 mod ContainedRuns
+mod BasesRuns
 mod TextNumbers
 mod OverGraphs
 mod OverStores
@@ -53,6 +55,7 @@ mod SameDescents
 mod SameTrees
 mod SameWords
 mod SameContained
+mod SameBases
 mod SameLists
 mod RightTrees
 mod Right

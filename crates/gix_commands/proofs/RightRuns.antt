@@ -2,18 +2,19 @@
 -- be a commit has the text of one.
 use Rattle.std.proofs.Common.{◌≡◌, ◌≢◌, ℕ, List, [], ◌∷◌, Option, Some, Result, Ok, Err, Contains, codes, refl, sym, ap, subst, inl, ◌∙◌}
 use Rattle.gix_commands.proofs.Common.{get, kind_of, Parents, ReadsParents, IsCommitRead, IsReached, objects_of, plan_from, IsBuiltFrom, Appends, Contains-here, Contains-there, ObjectId, Objects, GraphRow, IsAgreeing, text_next, time_of, Fault, Simple, Topo, AreWhole}
-use Rattle.gix_commands.proofs.Common.{not_listed, not_ahead, not_behind, not_selected, unserved, Request, Commits, Files, Ahead, Contained, request_of}
+use Rattle.gix_commands.proofs.Common.{not_listed, not_ahead, not_behind, not_joined, not_selected, unserved, Request, Commits, Files, Ahead, Contained, Bases, request_of}
 use Rattle.gix_object.specs.CommitItems.{commit_items}
 use Rattle.gix_object.specs.declared.Kind.TheVariants as kind
 use Rattle.gix_revwalk.specs.declared.Parents.TheVariants as mode
 use Rattle.gix_simple.specs.declared.Sorting.{Sorting}
 use Rattle.gix_topo.specs.declared.Sorting.{Sorting as TopoSorting}
-use Rattle.gix_statement.proofs.InEach.{Each, ahead_each, contains_each, files_each}
+use Rattle.gix_statement.proofs.InEach.{Each, ahead_each, bases_each, contains_each, files_each}
 use Rattle.gix_statement.specs.WholeStatement.{IsThere}
 use Rattle.gix_commands.specs.Pages.{HaveTexts, page_objects}
 use Rattle.gix_commands.specs.Run.{Serves, cut_off, misnamed}
 use Rattle.gix_commands.specs.TopoWalked.{Walk as TopoWalk}
 use Rattle.gix_commands.proofs.AheadRuns.{counted_so, counted_whole}
+use Rattle.gix_commands.proofs.BasesRuns.{joined_so}
 use Rattle.gix_commands.proofs.ContainedRuns.{selected_so}
 use Rattle.gix_commands.proofs.RightSimple.{simple_right}
 use Rattle.gix_commands.proofs.PageCommits.{all_there, fed_history, reached_there}
@@ -21,6 +22,7 @@ use Rattle.gix_commands.proofs.PageTexts.{scan_faultless, text_there}
 use Rattle.gix_commands.proofs.RightTopo.{topo_right}
 use Rattle.gix_commands.proofs.Right.{IsRight, cut_right}
 use Rattle.gix_commands.proofs.SameCommits.{held}
+use Rattle.gix_commands.proofs.SameBases.{bases_so, one_there, others_there, rising_so}
 use Rattle.gix_commands.proofs.SameContained.{contained_kept}
 use Rattle.gix_commands.proofs.SameLists.{id_lines, number_shown}
 use Rattle.gix_commands.proofs.SameWords.{AreWordsOf, are_words}
@@ -82,6 +84,17 @@ module _ (objects : Objects) (rows : List GraphRow) (agrees : IsAgreeing objects
   contained_right words tip ids w (Err e) new unserved = inl refl
   contained_right words tip ids w (Err e) new (cut_off {answer = answer} {full = full} some more s a b) = cut_right (page_objects objects) words old answer full new some more (contained_right words tip ids w answer full s) a b
 
+  bases_right : (words : List (List ℕ)) (one : ObjectId) (others : List ObjectId) → AreWordsOf words (Ok (Bases one others)) → (answer : Result (Unit {0}) Fault) (new : Option (List ℕ)) → Serves objects rows old (Bases one others) answer new → RightSo words answer new
+  bases_right words one others (rest, is, tips, some) (Ok tt) new s =
+      let c = joined_so one others objects rows agrees old new some s in
+      subst (EachSo new) (sym is)
+      (bases_each (page_objects objects) [] (text_next objects) (time_of objects) (fed_history objects) old new c.0 tips some
+      (one_there objects one others c.2) (others_there objects one others c.2) (all_there objects (one ∷ others) c.2)
+      (bases_so objects one others c.2 c.0 c.1) (rising_so c.0 c.1.rising) (subst (Appends old new) (id_lines c.0) c.3))
+  bases_right words one others w (Err e) new (not_joined why f) = inl refl
+  bases_right words one others w (Err e) new unserved = inl refl
+  bases_right words one others w (Err e) new (cut_off {answer = answer} {full = full} some more s a b) = cut_right (page_objects objects) words old answer full new some more (bases_right words one others w answer full s) a b
+
   -- commits that are read have the text of one
   module _ (request : Request) (have : HaveTexts request (page_objects objects)) where
     some_text : (i : ObjectId) (bytes : List ℕ) → get objects i ≡ Some (record { kind = kind.Commit; bytes = bytes }) → bytes ≢ []
@@ -105,6 +118,7 @@ module _ (objects : Objects) (rows : List GraphRow) (agrees : IsAgreeing objects
   right_of_words words (Files ending tree) w have answer new s = files_right words ending tree w answer new s
   right_of_words words (Ahead one other) w have answer new s = ahead_right words one other w answer new s
   right_of_words words (Contained tip ids) w have answer new s = contained_right words tip ids w answer new s
+  right_of_words words (Bases one others) w have answer new s = bases_right words one others w answer new s
 
   pub right : (words : List (List ℕ)) (request : Request) → request_of words ≡ Ok request → HaveTexts request (page_objects objects) → (answer : Result (Unit {0}) Fault) (new : Option (List ℕ)) → Serves objects rows old request answer new → RightSo words answer new
   right words request asked have answer new s = right_of_words words request (subst (AreWordsOf words) asked (are_words words)) have answer new s

@@ -1,7 +1,7 @@
 -- What a run may answer.
 use Rattle.std.proofs.Common.{◌≡◌, ◌≢◌, ℕ, List, [], ◌∷◌, Option, Some, None, Result, Ok, Err, refl, sym, subst, ap, ◌∙◌}
 use Rattle.gix_commands.proofs.Common.{Appends, lines_of, get, same_map, ObjectId, Object, Objects, id_total, id_apart, with_rows, GraphRow, IsAgreeing, none_agree, Info, Parents, Fault, Order, Simple, Topo, fault_of_records, fault_of_walk}
-use Rattle.gix_commands.proofs.Common.{fault_of_topo_walk, WritesAll, stored, walked, not_walked, walked_down, not_built, not_listed, counted, not_ahead, not_behind, selected, not_selected, unserved, Runs, without_memory, no_command}
+use Rattle.gix_commands.proofs.Common.{fault_of_topo_walk, WritesAll, stored, walked, not_walked, walked_down, not_built, not_listed, counted, not_ahead, not_behind, selected, not_selected, joined, not_joined, unserved, Runs, without_memory, no_command}
 use Rattle.gix_commands.proofs.Common.{not_read, bad_record, served, StartsFrom, FailsAtStart, IsStartFault, Ends, EndsBy, finished, cut_short, enough, before, Request, Commits, request_of, no_bad_record}
 use Rattle.std.specs.Option.{option_or}
 use Rattle.gix_graph_store.proofs.ToldObjects.{get-with_rows}
@@ -27,7 +27,7 @@ use Rattle.gix_commands.specs.Walked.{Walk, Answers, IsWalkFault, failed}
 use Rattle.gix_commands.proofs.CheckedWalks.{IsChecked, IsItself, from_by, well, lacking}
 use Rattle.gix_commands.proofs.LostParents.{lost_so}
 use Rattle.gix_commands.proofs.MemoryFaults.{failed_so}
-use Rattle.gix_commands.proofs.InternalFacts.{IsSound, next_sound, start_sound, contained_sound}
+use Rattle.gix_commands.proofs.InternalFacts.{IsSound, next_sound, start_sound, bases_sound, contained_sound}
 use Rattle.gix_commands.proofs.TopoInternalFacts.{drawn_sound, built_agreeing, build_sound}
 use Rattle.gix_commands.proofs.TreeFacts.{tree_sound}
 use Rattle.gix_commands.proofs.WalkFaults.{OfWalk, serves_of_walk}
@@ -84,6 +84,8 @@ serves_sound agreeing (not_ahead f) = ends_sound f.1.ends
 serves_sound agreeing (not_behind n a f) = ends_sound f.1.ends
 serves_sound agreeing (selected those s a) = λ e. cc
 serves_sound {objects} {rows} agreeing (not_selected {tip = tip} {ids = ids} why f) = λ same. contained_sound objects rows (tip ∷ []) ids why f (err_same same)
+serves_sound agreeing (joined bases f a) = λ e. cc
+serves_sound {objects} {rows} agreeing (not_joined {one = one} {others = others} why f) = λ same. bases_sound objects rows agreeing one others why f (err_same same)
 serves_sound agreeing unserved = λ e. cc
 serves_sound agreeing (cut_off some more s a b) = λ e. cc
 

@@ -2,9 +2,9 @@
 use Rattle.std.proofs.Common.{◌≡◌, ◌≢◌, ◌⊎◌, ◌+◌, ◌==◌, ◌||◌, ◌&&◌, nat_lt, nat_le, length, ℕ, ℤ, pos, List, [], ◌∷◌, ◌++◌, Bool, true, false, cond, Option, Some, None, Result, Ok, Err, codes, bytes_eq, refl, sym, ap, subst, ◌∙◌, inl}
 use Rattle.std.proofs.Common.{inr, eqb-true, ltb-true, leb-true}
 use Rattle.std.specs.List.{list_all}
-use Rattle.gix_commands.proofs.Common.{false≢true, ObjectId, HexError, id_from_hex, Fault, Order, Simple, Topo, Request, Commits, Files, Ahead, Contained, Ids, begins_with_caret, without_caret, is_shown, with_id, with_word, ids_from}
-use Rattle.gix_commands.proofs.Common.{number_in, order_named, commits_from, commits_of, limited_of, listed_of, chosen_of, since_of, by_first_parents, in_order_of, file_of, files_from, files_of, ahead_from, ahead_of, contained_among}
-use Rattle.gix_commands.proofs.Common.{contained_from, contained_of, request_named, request_of, recent_of, by_cutoff, IsNumber, Spells, AreTips, digits_in}
+use Rattle.gix_commands.proofs.Common.{false≢true, ObjectId, HexError, id_from_hex, Fault, Order, Simple, Topo, Request, Commits, Files, Ahead, Contained, Bases, Ranked, Ids, begins_with_caret, without_caret, is_shown, with_id, with_word, ids_from}
+use Rattle.gix_commands.proofs.Common.{number_in, order_named, commits_from, commits_of, limited_of, listed_of, chosen_of, since_of, by_first_parents, in_order_of, file_of, files_from, files_of, ahead_from, ahead_of, asked, several_among}
+use Rattle.gix_commands.proofs.Common.{several_from, several_of, request_named, request_of, recent_of, by_cutoff, IsNumber, Spells, AreTips, digits_in}
 use Rattle.std.proofs.lemmas.Slice.Eq.{bytes_eq-Decides}
 use Rattle.gix_records.specs.Decimal.{digits_behind}
 use Rattle.gix_revwalk.specs.declared.CommitTimeOrder.TheVariants as order
@@ -151,6 +151,7 @@ AreWordsOf words (Ok (Files ending tree)) =
     (option : List (List ℕ)) × (text : List ℕ) × IsEndedBy option ending × (words ≡ codes "files" ∷ (option ++ text ∷ [])) × Spells (digits_in tree) text tree
 AreWordsOf words (Ok (Ahead one other)) = (a b : List ℕ) × (words ≡ codes "ahead" ∷ a ∷ b ∷ []) × Spells (digits_in one) a one × Spells (digits_in other) b other
 AreWordsOf words (Ok (Contained tip ids)) = (rest : List (List ℕ)) × (words ≡ codes "contains" ∷ rest) × AreTips rest (tip ∷ ids) [] × (ids ≢ [])
+AreWordsOf words (Ok (Bases one others)) = (rest : List (List ℕ)) × (words ≡ codes "merge-base" ∷ rest) × AreTips rest (one ∷ others) [] × (others ≢ [])
 
 -- what is so of words behind a name and an option
 module _ (name : List ℕ) (option : List (List ℕ)) where
@@ -260,38 +261,65 @@ some_behind word next words tip ids (inl (i, rest, is, s, (inl (j, more, is_more
 some_behind word next words tip ids (inl (i, rest, is, s, (inr (j, more, none, id, begins, t, h)))) e = cc
 some_behind word next words tip ids (inr (j, more, none, id, begins, s, h)) e = cc
 
-contained_are : (rest : List (List ℕ)) → AreWordsOf (codes "contains" ∷ rest) (contained_of rest)
-contained_are [] = tt
-contained_are (word ∷ []) = tt
-contained_are (word ∷ next ∷ rest) = go (list_all is_shown (word ∷ next ∷ rest)) refl
+-- what is so of ids that are asked about
+abbrev AreSeveral : List (List ℕ) → Result Ranked Fault → Type 0
+AreSeveral words (Err e) = Unit {0}
+AreSeveral words (Ok ids) = AreTips words (ids.0 ∷ ids.1) [] × (ids.1 ≢ [])
+
+several_are : (rest : List (List ℕ)) → AreSeveral rest (several_of rest)
+several_are [] = tt
+several_are (word ∷ []) = tt
+several_are (word ∷ next ∷ rest) = go (list_all is_shown (word ∷ next ∷ rest)) refl
   where
-    among : (tips hidden : List ObjectId) → AreTips (word ∷ next ∷ rest) tips hidden → hidden ≡ [] → AreWordsOf (codes "contains" ∷ word ∷ next ∷ rest) (contained_among tips)
+    among : (tips hidden : List ObjectId) → AreTips (word ∷ next ∷ rest) tips hidden → hidden ≡ [] → AreSeveral (word ∷ next ∷ rest) (several_among tips)
     among [] hidden h e = tt
     among (tip ∷ ids) hidden h e =
         let k : AreTips (word ∷ next ∷ rest) (tip ∷ ids) [] = subst (AreTips (word ∷ next ∷ rest) (tip ∷ ids)) e h in
-        (word ∷ next ∷ rest, refl, k, some_behind word next rest tip ids k)
+        (k, some_behind word next rest tip ids k)
 
-    from : (r : Result Ids Fault) → list_all is_shown (word ∷ next ∷ rest) ≡ true → AreIdsOf (word ∷ next ∷ rest) r → AreWordsOf (codes "contains" ∷ word ∷ next ∷ rest) (contained_from r)
+    from : (r : Result Ids Fault) → list_all is_shown (word ∷ next ∷ rest) ≡ true → AreIdsOf (word ∷ next ∷ rest) r → AreSeveral (word ∷ next ∷ rest) (several_from r)
     from (Err e) all h = tt
     from (Ok ids) all h = among ids.0 ids.1 h (none_hidden (word ∷ next ∷ rest) ids.0 ids.1 h all)
 
-    go : (t : Bool) → list_all is_shown (word ∷ next ∷ rest) ≡ t → AreWordsOf (codes "contains" ∷ word ∷ next ∷ rest) (cond t (contained_from (ids_from 2 (word ∷ next ∷ rest))) (Err fault.Usage))
+    go : (t : Bool) → list_all is_shown (word ∷ next ∷ rest) ≡ t → AreSeveral (word ∷ next ∷ rest) (cond t (several_from (ids_from 2 (word ∷ next ∷ rest))) (Err fault.Usage))
     go true e = from (ids_from 2 (word ∷ next ∷ rest)) e (ids_are 2 (word ∷ next ∷ rest))
     go false e = tt
+
+asked_are : (words rest : List (List ℕ)) (asks : ObjectId → List ObjectId → Request) → ((i : ObjectId) (ids : List ObjectId) → AreTips rest (i ∷ ids) [] → ids ≢ [] → AreWordsOf words (Ok (asks i ids)))
+    → (r : Result Ranked Fault) → AreSeveral rest r → AreWordsOf words (asked asks r)
+asked_are words rest asks each (Ok ids) h = each ids.0 ids.1 h.0 h.1
+asked_are words rest asks each (Err e) h = tt
+
+contained_are : (rest : List (List ℕ)) → AreWordsOf (codes "contains" ∷ rest) (asked Contained (several_of rest))
+contained_are rest = asked_are (codes "contains" ∷ rest) rest Contained (λ i ids are some. (rest, refl, are, some)) (several_of rest) (several_are rest)
+
+bases_are : (rest : List (List ℕ)) → AreWordsOf (codes "merge-base" ∷ rest) (asked Bases (several_of rest))
+bases_are rest = asked_are (codes "merge-base" ∷ rest) rest Bases (λ i ids are some. (rest, refl, are, some)) (several_of rest) (several_are rest)
+
+-- what is asked of several ids, by its name
+abbrev asked_jointly : List ℕ → List (List ℕ) → Result Request Fault
+asked_jointly name rest = cond (bytes_eq name (codes "merge-base")) (asked Bases (several_of rest)) (Err fault.Usage)
+
+abbrev asked_about : List ℕ → List (List ℕ) → Result Request Fault
+asked_about name rest = cond (bytes_eq name (codes "contains")) (asked Contained (several_of rest)) (asked_jointly name rest)
 
 named_are : (name : List ℕ) (o : Option Order) (rest : List (List ℕ)) → IsChosenBy name o → AreWordsOf (name ∷ rest) (request_named name o rest)
 named_are name (Some by) rest h = in_order_are name by rest h.0 h.1
 named_are name None rest h = files (bytes_eq name (codes "files")) refl
   where
-    contained : (t : Bool) → bytes_eq name (codes "contains") ≡ t → AreWordsOf (name ∷ rest) (cond t (contained_of rest) (Err fault.Usage))
-    contained true e = subst (λ word. AreWordsOf (word ∷ rest) (contained_of rest)) (sym ((bytes_eq-Decides name (codes "contains")).0 e)) (contained_are rest)
-    contained false e = tt
+    bases : (t : Bool) → bytes_eq name (codes "merge-base") ≡ t → AreWordsOf (name ∷ rest) (cond t (asked Bases (several_of rest)) (Err fault.Usage))
+    bases true e = subst (λ word. AreWordsOf (word ∷ rest) (asked Bases (several_of rest))) (sym ((bytes_eq-Decides name (codes "merge-base")).0 e)) (bases_are rest)
+    bases false e = tt
 
-    ahead : (t : Bool) → bytes_eq name (codes "ahead") ≡ t → AreWordsOf (name ∷ rest) (cond t (ahead_of rest) (cond (bytes_eq name (codes "contains")) (contained_of rest) (Err fault.Usage)))
+    contained : (t : Bool) → bytes_eq name (codes "contains") ≡ t → AreWordsOf (name ∷ rest) (cond t (asked Contained (several_of rest)) (asked_jointly name rest))
+    contained true e = subst (λ word. AreWordsOf (word ∷ rest) (asked Contained (several_of rest))) (sym ((bytes_eq-Decides name (codes "contains")).0 e)) (contained_are rest)
+    contained false e = bases (bytes_eq name (codes "merge-base")) refl
+
+    ahead : (t : Bool) → bytes_eq name (codes "ahead") ≡ t → AreWordsOf (name ∷ rest) (cond t (ahead_of rest) (asked_about name rest))
     ahead true e = subst (λ word. AreWordsOf (word ∷ rest) (ahead_of rest)) (sym ((bytes_eq-Decides name (codes "ahead")).0 e)) (ahead_are rest)
     ahead false e = contained (bytes_eq name (codes "contains")) refl
 
-    files : (t : Bool) → bytes_eq name (codes "files") ≡ t → AreWordsOf (name ∷ rest) (cond t (files_of rest) (cond (bytes_eq name (codes "ahead")) (ahead_of rest) (cond (bytes_eq name (codes "contains")) (contained_of rest) (Err fault.Usage))))
+    files : (t : Bool) → bytes_eq name (codes "files") ≡ t → AreWordsOf (name ∷ rest) (cond t (files_of rest) (cond (bytes_eq name (codes "ahead")) (ahead_of rest) (asked_about name rest)))
     files true e = subst (λ word. AreWordsOf (word ∷ rest) (files_of rest)) (sym ((bytes_eq-Decides name (codes "files")).0 e)) (files_are rest)
     files false e = ahead (bytes_eq name (codes "ahead")) refl
 

@@ -1,9 +1,11 @@
 -- Which faults walks may have, and commands that are served.
 use Rattle.std.proofs.Common.{◌≡◌, ◌≢◌, ℕ, List, Option, None, Some, Result, Ok, Err, refl, sym, ap, subst, inl, inr, ◌∙◌}
-use Rattle.gix_commands.proofs.Common.{ObjectId, GraphRow, Objects, Info, Fault, fault_of_find, fault_of_walk, fault_of_topo_walk, fault_of_contained, fault_of_tree_walk, walked, not_walked, walked_down, not_built, not_listed, counted, not_ahead}
-use Rattle.gix_commands.proofs.Common.{not_behind, selected, not_selected, unserved, Ends, EndsBy, finished, cut_short, enough, before, Request}
+use Rattle.gix_commands.proofs.Common.{ObjectId, GraphRow, Objects, Info, Fault, fault_of_find, fault_of_walk, fault_of_topo_walk, fault_of_bases, fault_of_contained, fault_of_tree_walk, walked, not_walked, walked_down, not_built, not_listed, counted, not_ahead}
+use Rattle.gix_commands.proofs.Common.{not_behind, selected, not_selected, joined, not_joined, unserved, Ends, EndsBy, finished, cut_short, enough, before, Request}
 use Rattle.gix_contained.specs.declared.Error.{Error as ContainedError}
 use Rattle.gix_contained.specs.declared.Error.TheVariants as contained_error
+use Rattle.gix_merge_base.specs.declared.Error.{Error as BasesError}
+use Rattle.gix_merge_base.specs.declared.Error.TheVariants as bases_error
 use Rattle.gix_object.specs.declared.find.existing_iter.Error.{Error as ExistingError}
 use Rattle.gix_object.specs.declared.find.existing_iter.Error.TheVariants as existing
 use Rattle.gix_paint.specs.declared.Hidden.TheVariants as hidden_by
@@ -70,6 +72,11 @@ contained_of_walk (contained_error.Find e) = find_of_walk e
 contained_of_walk (contained_error.ObjectDecode e) = tt
 contained_of_walk contained_error.Memory = tt
 
+bases_of_walk : (e : BasesError) → IsOfWalk (fault_of_bases e)
+bases_of_walk (bases_error.Find e) = find_of_walk e
+bases_of_walk (bases_error.ObjectDecode e) = tt
+bases_of_walk bases_error.Memory = tt
+
 tree_of_walk : (e : TreeError) → IsOfWalk (fault_of_tree_walk e)
 tree_of_walk (tree_error.Find e) = find_of_walk e
 tree_of_walk tree_error.Cancelled = tt
@@ -112,6 +119,8 @@ serves_of_walk (not_ahead f) = ends_of_walk simple_tells f.1.ends
 serves_of_walk (not_behind n a f) = ends_of_walk simple_tells f.1.ends
 serves_of_walk (selected those s a) = tt
 serves_of_walk (not_selected why f) = contained_of_walk why
+serves_of_walk (joined bases f a) = tt
+serves_of_walk (not_joined why f) = bases_of_walk why
 serves_of_walk unserved = tt
 serves_of_walk (cut_off some more s a b) = tt
 

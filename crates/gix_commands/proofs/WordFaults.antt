@@ -1,8 +1,8 @@
 -- What is so of each request that words spell, and which faults words may have.
 use Rattle.std.proofs.Common.{ℕ, ◌+◌, pos, List, [], ◌∷◌, Bool, true, false, ◌||◌, Option, Some, None, Result, Ok, Err, codes, bytes_eq, cond}
 use Rattle.std.specs.List.{list_all}
-use Rattle.gix_commands.proofs.Common.{ObjectId, HexError, id_from_hex, Fault, Order, Request, Files, Ahead, Contained, Ids, begins_with_caret, without_caret, is_shown, with_id, with_word, ids_from, number_in, order_named, commits_from}
-use Rattle.gix_commands.proofs.Common.{commits_of, limited_of, listed_of, chosen_of, recent_of, since_of, by_cutoff, in_order_of, file_of, files_from, files_of, ahead_from, ahead_of, contained_among, contained_from, contained_of}
+use Rattle.gix_commands.proofs.Common.{ObjectId, HexError, id_from_hex, Fault, Order, Request, Files, Ahead, Contained, Bases, Ranked, Ids, begins_with_caret, without_caret, is_shown, with_id, with_word, ids_from, number_in, order_named, commits_from}
+use Rattle.gix_commands.proofs.Common.{commits_of, limited_of, listed_of, chosen_of, recent_of, since_of, by_cutoff, in_order_of, file_of, files_from, files_of, ahead_from, ahead_of, asked, several_among, several_from, several_of}
 use Rattle.gix_commands.proofs.Common.{request_named, request_of, by_first_parents}
 use Rattle.gix_words.specs.declared.fault.Fault.TheVariants as fault
 
@@ -18,7 +18,7 @@ each_ids Q ids_so no_id n (word ∷ words) =
     with_each Q ids_so no_id (begins_with_caret word) n (id_from_hex (without_caret word)) (ids_from (n + 1) words) (each_ids Q ids_so no_id (n + 1) words)
 
 -- what is so of a wrong use, of a word that spells no id, of a tree, of two commits to compare, of a tip and ids behind it and of what an order's words ask for
-module _ (P : Result Request Fault → Type 0) (usage : P (Err fault.Usage)) (no_id : (n : ℕ) → P (Err (fault.Id n))) (tree : (ending : ℕ) (i : ObjectId) → P (Ok (Files ending i))) (pair : (i j : ObjectId) → P (Ok (Ahead i j))) (some : (i : ObjectId) (ids : List ObjectId) → P (Ok (Contained i ids))) where
+module _ (P : Result Request Fault → Type 0) (usage : P (Err fault.Usage)) (no_id : (n : ℕ) → P (Err (fault.Id n))) (tree : (ending : ℕ) (i : ObjectId) → P (Ok (Files ending i))) (pair : (i j : ObjectId) → P (Ok (Ahead i j))) (some : (i : ObjectId) (ids : List ObjectId) → P (Ok (Contained i ids))) (joint : (i : ObjectId) (ids : List ObjectId) → P (Ok (Bases i ids))) where
   either : (t : Bool) (a b : Result Request Fault) → P a → P b → P (cond t a b)
   either true a b h k = h
   either false a b h k = k
@@ -47,16 +47,20 @@ module _ (P : Result Request Fault → Type 0) (usage : P (Err fault.Usage)) (no
   from_pairs (one ∷ other ∷ []) = either (begins_with_caret one || begins_with_caret other) (Err fault.Usage) (ahead_from (id_from_hex one) (id_from_hex other)) usage (from_pair (id_from_hex one) (id_from_hex other))
   from_pairs (one ∷ other ∷ next ∷ ids) = usage
 
-  from_some : (ids : List ObjectId) → P (contained_among ids)
-  from_some [] = usage
-  from_some (tip ∷ ids) = some tip ids
+  module _ (asks : ObjectId → List ObjectId → Request) (each : (i : ObjectId) (ids : List ObjectId) → P (Ok (asks i ids))) where
+    from_some : (ids : List ObjectId) → P (asked asks (several_among ids))
+    from_some [] = usage
+    from_some (i ∷ ids) = each i ids
 
-  from_somes : (ids : List (List ℕ)) → P (contained_of ids)
-  from_somes [] = usage
-  from_somes (tip ∷ []) = usage
-  from_somes (tip ∷ next ∷ ids) =
-      either (list_all is_shown (tip ∷ next ∷ ids)) (contained_from (ids_from 2 (tip ∷ next ∷ ids))) (Err fault.Usage)
-      (each_ids (λ r. P (contained_from r)) (λ those. from_some those.0) no_id 2 (tip ∷ next ∷ ids)) usage
+    from_several : (t : Bool) (r : Result Ids Fault) → P (asked asks (several_from r)) → P (asked asks (cond t (several_from r) (Err fault.Usage)))
+    from_several true r h = h
+    from_several false r h = usage
+
+    from_somes : (ids : List (List ℕ)) → P (asked asks (several_of ids))
+    from_somes [] = usage
+    from_somes (i ∷ []) = usage
+    from_somes (i ∷ next ∷ ids) =
+        from_several (list_all is_shown (i ∷ next ∷ ids)) (ids_from 2 (i ∷ next ∷ ids)) (each_ids (λ r. P (asked asks (several_from r))) (λ those. from_some those.0) no_id 2 (i ∷ next ∷ ids))
 
   module _ (h : (by : Order) (limit : Option ℕ) (n : ℕ) (ids : List (List ℕ)) → P (commits_from by limit (ids_from n ids))) where
     from_ids : (by : Order) (limit : Option ℕ) (n : ℕ) (ids : List (List ℕ)) → P (commits_of by limit n ids)
@@ -92,7 +96,8 @@ module _ (P : Result Request Fault → Type 0) (usage : P (Err fault.Usage)) (no
 
     from_name : (name : List ℕ) (o : Option Order) (ids : List (List ℕ)) → P (request_named name o ids)
     from_name name (Some by) ids = from_order by ids
-    from_name name None ids = either (bytes_eq name (codes "files")) (files_of ids) _ (from_trees ids) (either (bytes_eq name (codes "ahead")) (ahead_of ids) _ (from_pairs ids) (either (bytes_eq name (codes "contains")) (contained_of ids) (Err fault.Usage) (from_somes ids) usage))
+    from_name name None ids = either (bytes_eq name (codes "files")) (files_of ids) _ (from_trees ids) (either (bytes_eq name (codes "ahead")) (ahead_of ids) _ (from_pairs ids) (either (bytes_eq name (codes "contains")) (asked Contained (several_of ids)) _ (from_somes Contained some ids)
+        (either (bytes_eq name (codes "merge-base")) (asked Bases (several_of ids)) (Err fault.Usage) (from_somes Bases joint ids) usage)))
 
     -- is so of each request
     pub each_request : (words : List (List ℕ)) → P (request_of words)
@@ -134,4 +139,4 @@ commits_words by limit (Ok ids) h = tt
 commits_words by limit (Err e) h = h
 
 pub request_words : (words : List (List ℕ)) → OfWords (request_of words)
-request_words = each_request OfWords tt (λ n. tt) (λ ending i. tt) (λ i j. tt) (λ i ids. tt) (λ by limit n ids. commits_words by limit (ids_from n ids) (ids_words n ids))
+request_words = each_request OfWords tt (λ n. tt) (λ ending i. tt) (λ i j. tt) (λ i ids. tt) (λ i ids. tt) (λ by limit n ids. commits_words by limit (ids_from n ids) (ids_words n ids))

@@ -8,6 +8,9 @@ use Rattle.gix_object.specs.Object.{Objects}
 use Rattle.gix_commitgraph.specs.Rows.{GraphRow}
 use Rattle.gix_contained.specs.declared.Error.{Error as ContainedError}
 use Rattle.gix_contained.specs.Contained.{Selects, FailsBy}
+use Rattle.gix_merge_base.specs.declared.Error.{Error as BasesError}
+use Rattle.gix_merge_base.specs.Bases as base
+use Rattle.gix_merge_base.specs.Bases.{FindsBases}
 use Rattle.gix_revwalk.specs.declared.Info.{Info}
 use Rattle.gix_revwalk.specs.declared.Parents.{Parents}
 use Rattle.gix_simple.specs.declared.Error.{Error}
@@ -22,7 +25,7 @@ use Rattle.gix_words.specs.declared.fault.Fault.{Fault}
 use Rattle.gix_words.specs.declared.fault.Fault.TheVariants as fault
 use Rattle.gix_words.specs.declared.words.Order.TheVariants.{Simple, Topo}
 use Rattle.gix_commands.specs.Ahead.{Counts, FailsToCount, ahead_line}
-use Rattle.gix_words.specs.Faults.{fault_of_walk, fault_of_topo_walk, fault_of_contained, fault_of_tree_walk}
+use Rattle.gix_words.specs.Faults.{fault_of_walk, fault_of_topo_walk, fault_of_bases, fault_of_contained, fault_of_tree_walk}
 use Rattle.gix_commands.specs.Checked.{AsksForMore, GoesOnWhole, LacksParent}
 use Rattle.gix_commands.specs.Files.{IsMisnamed, RecordsTree, file_lines}
 use Rattle.gix_graph_check.specs.declared.Disagreement.TheVariants.{Row}
@@ -35,7 +38,7 @@ use Rattle.gix_commands.specs.Opening.{Opens, FailsToOpen}
 use Rattle.gix_commands.specs.Readable.{readable, reads_all_lines}
 use Rattle.gix_commands.specs.TopoWalked as topo
 use Rattle.gix_commands.specs.Walked.{Walk, Answers, IsWalkFault, StartsFrom, FailsAtStart, EndsBy, given, line_of, lines_of, never_faulty}
-use Rattle.gix_words.specs.Words.{Request, Commits, Files, Ahead, Contained, request_of}
+use Rattle.gix_words.specs.Words.{Request, Commits, Files, Ahead, Contained, Bases, request_of}
 
 -- Over objects, rows for the walks of commits and a writer that has the bytes `old`: which answers a request may get, and which bytes the writer then has.
 pub data Serves (objects : Objects) (rows : List GraphRow) (old : Option (List ℕ)) : Request → Result (Unit {0}) Fault → Option (List ℕ) → Type 0 where
@@ -79,6 +82,10 @@ pub data Serves (objects : Objects) (rows : List GraphRow) (old : Option (List �
       → Selects objects rows (tip ∷ []) ids those → Appends old new (flat_map line_of those) → Serves objects rows old (Contained tip ids) (Ok tt) new
   not_selected : {tip : ObjectId} {ids : List ObjectId} (e : ContainedError) → FailsBy objects (never_faulty objects) rows (tip ∷ []) ids e
       → Serves objects rows old (Contained tip ids) (Err (fault_of_contained e)) old
+  joined : {one : ObjectId} {others : List ObjectId} (bases : List ObjectId) {new : Option (List ℕ)}
+      → FindsBases objects rows one others bases → Appends old new (flat_map line_of bases) → Serves objects rows old (Bases one others) (Ok tt) new
+  not_joined : {one : ObjectId} {others : List ObjectId} (e : BasesError) → base.FailsBy objects (never_faulty objects) rows one others e
+      → Serves objects rows old (Bases one others) (Err (fault_of_bases e)) old
   -- memory ran out before anything was written
   unserved : {request : Request} → Serves objects rows old request (Err fault.Memory) old
   -- the writer failed: a beginning of what another answer writes is written

@@ -1,6 +1,6 @@
 //! What a run of the program writes, as laws over the definitions: functions that do nothing, and whose contracts are proved.
 
-ghost use Rattle.gix_commands.specs.Histories.{AheadSucceeds, ContainsSucceeds, SimpleSucceeds, TopoSucceeds};
+ghost use Rattle.gix_commands.specs.Histories.{AheadSucceeds, BasesSucceeds, ContainsSucceeds, SimpleSucceeds, TopoSucceeds};
 ghost use Rattle.gix_commands.specs.Listings.{FilesReportNames, FilesSucceeds};
 
 /// Where all that is reached are whole commits, `breadth`, `newest` and `oldest` fail for memory, reading or writing alone, with a limit or
@@ -34,4 +34,9 @@ pub fn ahead_succeeds()
 /// Where all that the ids reach are whole commits, `contains` fails for memory, reading or writing alone.
 pub fn contains_succeeds()
     ensures { ContainsSucceeds }
+{}
+
+/// Where all that the ids reach are whole commits, `merge-base` fails for memory, reading or writing alone.
+pub fn bases_succeeds()
+    ensures { BasesSucceeds }
 {}

@@ -16,6 +16,7 @@ ghost use Rattle.gix_graph_store.specs.WithRows.{with_rows};
 ghost use Rattle.gix_revwalk.specs.Agreeing.{rows_in};
 
 mod ahead;
+mod bases;
 mod checked;
 mod commits;
 mod contains;
@@ -30,6 +31,7 @@ mod stored;
 mod texts;
 
 use ahead::write_ahead;
+use bases::write_bases;
 use checked::Checked;
 use commits::{topo_walk_from, walk_from};
 use contains::write_contained;
@@ -58,13 +60,14 @@ pub use stored::{run_named, run_stored};
 /// out tips and parents whose committer's seconds are below it, and what they would meet by these alone.
 /// `files` writes the mode, the id and the path of each entry of the tree and of the trees in it, one a line. `ahead` writes how many
 /// commits the first id reaches and the second doesn't, a space, and how many the second reaches and the first doesn't. `contains` writes
-/// those of its further ids that the first reaches, in the order given, one a line.
+/// those of its further ids that the first reaches, in the order given, one a line. `merge-base` writes the best common ancestors of the
+/// first id and of any of the others, in rising order: what these reach, and no other such commit reaches.
 ///
 /// # Errors
 /// `Usage` and `Id` where the words are no command, `Read` where the reader fails or gives no end when it is asked for the last time,
 /// `Record` where the input isn't records: nothing is written. `Missing`, `WrongKind` and `Broken` where the walk meets such an object,
 /// or in an order by time such a parent of the commit that it wrote last, `Cycle` where it meets a tree that is under itself, and
-/// `Memory`: the lines of the commits before are written, and nothing of `files`, `ahead` and `contains`. `Name` where a tree has a name
+/// `Memory`: the lines of the commits before are written, and nothing of `files`, `ahead`, `contains` and `merge-base`. `Name` where a tree has a name
 /// that is empty or holds `/`: nothing is written. `Write` where the writer fails, or takes nothing: a beginning of the lines is written,
 /// which may end within a line.
 ///
@@ -109,6 +112,7 @@ fn serve<W: Write>(
         Command::Files { ending, tree } => write_files(alloc, ending, tree, store, graph, writer),
         Command::Ahead { one, other } => write_ahead(alloc, one, other, store, graph, writer),
         Command::Contained { tip, ids } => write_contained(alloc, tip, ids, store, graph, writer),
+        Command::Bases { one, others } => write_bases(alloc, one, others, store, graph, writer),
     }
 }
 

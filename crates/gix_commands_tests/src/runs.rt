@@ -118,6 +118,7 @@ fn compare(words: &[String], told: &[u8], want: &[u8]) -> Result<(), Fail> {
 }
 
 mod ahead;
+mod bases;
 mod breadth;
 mod by_time;
 mod contains;

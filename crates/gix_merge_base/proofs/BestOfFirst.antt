@@ -1,8 +1,10 @@
 -- Of first common ancestors the best are those that none of them reaches by a parent other than itself.
-use Rattle.std.proofs.Common.{◌≡◌, ◌⊎◌, List, [], ◌∷◌, Bool, true, false, Contains, refl, sym, subst, inl, inr, ⊎_elim, ◌∙◌}
+use Rattle.std.proofs.Common.{◌≡◌, ◌⊎◌, List, [], ◌∷◌, Bool, true, false, Contains, IsPermutation, refl, sym, subst, inl, inr, ⊎_elim, ◌∙◌}
 use Rattle.std.specs.List.{flat_map}
 use Rattle.std.specs.FinSet as set
+use Rattle.std.specs.List.Sorted.{IsSorted}
 use Rattle.std.proofs.lemmas.Bool.{false≢true, false_from_ne_true}
+use Rattle.std.proofs.lemmas.List.Sorted.{Contains-permutation, IsPermutation-sym}
 use Rattle.gix_hash.specs.declared.ObjectId.{ObjectId}
 use Rattle.gix_hash.specs.Id.{id_cmp, is_same}
 use Rattle.gix_hash.specs.Reach.{Reaches, start, step}
@@ -12,6 +14,7 @@ use Rattle.gix_contained.specs.Contained.{AreContained, empty, reached, passed}
 use Rattle.gix_merge_base.specs.Bases.{IsCommon, IsBest, AreBases}
 use Rattle.gix_merge_base.specs.Inside.Steps.{AreFirst, Collects, others_among}
 use Rattle.gix_merge_base.proofs.Members.{new_distinct, new_within, new_unknown, new_from, of_some, in_all, others_within, others_from}
+use Rattle.gix_merge_base.proofs.Rising.{rises}
 use Rattle.gix_revwalk.specs.Ids.{new_ids}
 use Rattle.gix_revwalk.proofs.Reached.{reaches_from}
 
@@ -98,18 +101,20 @@ module _ (parents : ObjectId → List ObjectId) where
             (λ w. absurd (free (by_other common f.0 w.0 c f.1 w.1 (onward (w.0 ∷ []) j c w.2 r))))
             (leaves f.0 j f.2)
 
-    -- what is left of the first
+    -- what is left of the first, sorted
     pub bases_left : (those : List ObjectId) (marks : set.FinSet id_cmp) (bases : List ObjectId) → AreContained parents (left_by common) common those → Collects those marks
-        → bases ≡ new_ids (set.contains marks) common → AreBases parents one others bases
-    bases_left those marks bases contained_are marks_are is = subst (AreBases parents one others) (sym is) (record {
-      once = new_distinct (set.contains marks) common;
+        → IsPermutation (new_ids (set.contains marks) common) bases → IsSorted id_cmp bases → AreBases parents one others bases
+    bases_left those marks bases contained_are marks_are moved up = record {
+      rising = rises (new_ids (set.contains marks) common) bases (new_distinct (set.contains marks) common) moved up;
       exact = λ i. (
-        λ c.
+        λ b.
+            let c = Contains-permutation bases (new_ids (set.contains marks) common) i (IsPermutation-sym (new_ids (set.contains marks) common) bases moved) b in
             let m : Contains common i = new_within (set.contains marks) common i c in
             let e : set.contains marks i ≡ false = new_unknown (set.contains marks) common i c in
             unreached_best i m (λ r. false≢true (sym e ∙ marks_are i ∙ among_from i those (reached_contained (left_by common) common those contained_are i m r))),
         λ b.
-            new_from (set.contains marks) common i (best_first i b)
-            (false_from_ne_true _ (λ e. best_unreached i b (contained_reached (left_by common) common those contained_are i (among_is i those (sym (marks_are i) ∙ e))))),
+            Contains-permutation (new_ids (set.contains marks) common) bases i moved
+            (new_from (set.contains marks) common i (best_first i b)
+            (false_from_ne_true _ (λ e. best_unreached i b (contained_reached (left_by common) common those contained_are i (among_is i those (sym (marks_are i) ∙ e)))))),
       );
-    })
+    }

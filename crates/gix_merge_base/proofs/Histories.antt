@@ -61,12 +61,12 @@ module _ (objects history : Objects) (part : (i : ObjectId) (commit : Commit) �
   }
 
   bases_there : (bases : List ObjectId) → AreBases (parents_of objects) one others bases → AreBases (parents_of history) one others bases
-  bases_there bases are = record { once = are.once; exact = λ i. (λ c. best_there i ((are.exact i).0 c), λ b. (are.exact i).1 (best_back i b)) }
+  bases_there bases are = record { rising = are.rising; exact = λ i. (λ c. best_there i ((are.exact i).0 c), λ b. (are.exact i).1 (best_back i b)) }
 
 -- without others there is nothing in common, by whatever parents
 no_bases : (parents others_parents : ObjectId → List ObjectId) (one : ObjectId) (bases : List ObjectId) → AreBases parents one [] bases → AreBases others_parents one [] bases
 no_bases parents others_parents one bases are = record {
-  once = are.once;
+  rising = are.rising;
   exact = λ i. (λ c. absurd (no_start parents [] i ((are.exact i).0 c).common.of_others refl), λ b. absurd (no_start others_parents [] i b.common.of_others refl));
 }
 

@@ -20,3 +20,5 @@ pub mod Whole
 pub mod Tops
 -- The bases of a history of which the store has a part.
 pub mod Histories
+-- Sorted ids rise, and lists that rise are the same by their members.
+pub mod Rising

@@ -1,6 +1,7 @@
 -- The whole call: first common ancestors, what other parents of them reach, and what is left.
-use Rattle.std.proofs.Common.{◌≡◌, ◌≢◌, List, ◌∷◌, ◌++◌, Result, Err, IfErr, Contains, refl, sym, ap, subst, ⊎_elim, ◌∙◌}
+use Rattle.std.proofs.Common.{◌≡◌, ◌≢◌, List, ◌∷◌, ◌++◌, Result, Err, IfErr, Contains, IsPermutation, refl, sym, ap, subst, ⊎_elim, ◌∙◌}
 use Rattle.std.specs.FinSet as set
+use Rattle.std.specs.List.Sorted.{IsSorted}
 use Rattle.std.proofs.lemmas.List.Elements.{Contains-append_cases}
 use Rattle.gix_hash.specs.declared.ObjectId.{ObjectId}
 use Rattle.gix_hash.specs.Id.{id_cmp}
@@ -38,11 +39,11 @@ by_contained (hidden_by.ObjectDecode e) = refl
 module _ (objects : Objects) (faulty : ObjectId → Type 0) (rows : List GraphRow) (one : ObjectId) (others common parents : List ObjectId) (met : MeetsFirst objects rows one others common) where
   -- what is left are the bases
   pub finds : (reached bases : List ObjectId) (marks : set.FinSet id_cmp) → ReadsOthers objects rows common parents → Selects objects rows parents common reached → Collects reached marks
-      → bases ≡ new_ids (set.contains marks) common → FindsBases objects rows one others bases
-  finds reached bases marks reads selects collects is = record {
+      → IsPermutation (new_ids (set.contains marks) common) bases → IsSorted id_cmp bases → FindsBases objects rows one others bases
+  finds reached bases marks reads selects collects moved up = record {
     bases_are = λ agreeing.
         bases_left (parents_of objects) one others common (met.first agreeing) reached marks bases
-        (subst (λ xs. AreContained (parents_of objects) xs common reached) (reads agreeing) (selects.exact objects (own_history objects faulty rows agreeing))) collects is;
+        (subst (λ xs. AreContained (parents_of objects) xs common reached) (reads agreeing) (selects.exact objects (own_history objects faulty rows agreeing))) collects moved up;
     read = met.read;
   }
 

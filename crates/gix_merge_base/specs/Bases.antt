@@ -1,6 +1,8 @@
 -- The best common ancestors of a commit and of some others, and why they aren't known.
-use Rattle.std.specs.Prelude.{◌≡◌, ◌≢◌, ◌↔◌, List, [], ◌∷◌, Contains}
+use Rattle.std.specs.Prelude.{◌≡◌, ◌≢◌, ◌↔◌, List, [], ◌∷◌, AllPairs, Contains}
+use Rattle.std.specs.declared.cmp.Ordering.TheVariants.{Less}
 use Rattle.gix_hash.specs.declared.ObjectId.{ObjectId}
+use Rattle.gix_hash.specs.Id.{id_cmp}
 use Rattle.gix_hash.specs.Reach.{Reaches}
 use Rattle.gix_object.specs.Object.{Objects}
 use Rattle.gix_commitgraph.specs.Rows.{GraphRow}
@@ -10,7 +12,6 @@ use Rattle.gix_merge_base.specs.declared.Error.{Error}
 use Rattle.gix_merge_base.specs.Errors.{error_of}
 use Rattle.gix_revwalk.specs.Agreeing.{IsAgreeing}
 use Rattle.gix_revwalk.specs.Commits.{ReadsWhole, parents_of}
-use Rattle.gix_revwalk.specs.Ids.{AreDistinct}
 
 module _ (parents : ObjectId → List ObjectId) (one : ObjectId) (others : List ObjectId) where
   -- one reaches it, and some of the others reaches it
@@ -23,9 +24,9 @@ module _ (parents : ObjectId → List ObjectId) (one : ObjectId) (others : List 
     pub common : IsCommon i
     pub alone : (j : ObjectId) → IsCommon j → Reaches parents (j ∷ []) i → j ≡ i
 
-  -- exactly the best common ancestors, each once
+  -- exactly the best common ancestors, each once, in rising order
   pub record AreBases (bases : List ObjectId) : Type 0 where
-    pub once : AreDistinct bases
+    pub rising : AllPairs (λ i j. id_cmp i j ≡ Less) bases
     pub exact : (i : ObjectId) → Contains bases i ↔ IsBest i
 
 -- What an answer says where the rows agree with the store, or there are none: it is exactly the best common ancestors, and all that one and

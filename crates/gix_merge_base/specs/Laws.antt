@@ -28,7 +28,7 @@ RowsAgree =
     (history these those : Objects) (rows others_rows : List GraphRow) (one : ObjectId) (others bases found : List ObjectId) →
     IsHistory these rows history → IsAgreeing these rows → FindsBases these rows one others bases →
     IsHistory those others_rows history → IsAgreeing those others_rows → FindsBases those others_rows one others found →
-    (i : ObjectId) → Contains bases i ↔ Contains found i
+    bases ≡ found
 
 -- no two commits of some kind reach each other
 abbrev pub IsAcyclicAmong : (ObjectId → List ObjectId) → (ObjectId → Type 0) → Type 0

@@ -5,7 +5,7 @@ ghost use Rattle.gix_merge_base.specs.Laws.{BasesExactly, BasesOfHistory, RowsAg
 use gix_object::find::Find;
 
 /// Over rows that agree with the store, or none, the answer is exactly the best common ancestors by the parents that the store's commits
-/// name, each once.
+/// name, each once, in rising order of their ids.
 pub fn bases_exactly()
     ensures { BasesExactly }
 {}
@@ -16,7 +16,7 @@ pub fn bases_of_history()
     ensures { BasesOfHistory }
 {}
 
-/// Two answers about the same commits have the same ids, over whatever stores and rows they were found, where these are parts of one
+/// Two answers about the same commits are the same list, over whatever stores and rows they were found, where these are parts of one
 /// history, and the rows of each agree with its store: with a commit-graph as without.
 pub fn rows_agree()
     ensures { RowsAgree }

@@ -1,10 +1,12 @@
 //! The best common ancestors of commits.
 #![tactic(auto)]
 
-ghost use Rattle.std.specs.Prelude.{◌≡◌, ◌≢◌, IfOk, IfErr};
+ghost use Rattle.std.specs.Prelude.{◌≡◌, ◌≢◌, IfOk, IfErr, IsPermutation};
 ghost use Rattle.std.specs.Borrow.{Bor};
 ghost use Rattle.std.specs.Iterator.{IsFinite};
 ghost use Rattle.std.specs.FinSet as set;
+ghost use Rattle.std.specs.List.Sorted.{IsSorted};
+ghost use Rattle.gix_hash.specs.Id.{id_cmp};
 ghost use Rattle.gix_merge_base.specs.declared.Error.TheVariants as error;
 ghost use Rattle.gix_merge_base.specs.Bases.{FindsBases, FailsBy};
 ghost use Rattle.gix_merge_base.specs.Inside.Steps.{StartsFrom, Gathers, GatherFails, MeetsFirst, ReadsParents, ReadFails, OthersOf, ReadsOthers, ReadFailsAmong, Collects, accepts_all};
@@ -119,8 +121,8 @@ impl From<AllocError> for Error {
 /// The best common ancestors of a commit and of some others: the commits that `one` reaches and any of `others` reaches, through all
 /// parents, and that no other such commit reaches. A commit reaches itself. Each comes once.
 ///
-/// They are what `git merge-base --all ONE OTHER..` prints. Here they come in the order in which they were met, breadth first from the
-/// others, which says nothing and is no part of what is promised. Without others there is none.
+/// They are what `git merge-base --all ONE OTHER..` prints, which puts the newest first. Here they come in rising order of their ids.
+/// Without others there is none.
 ///
 /// All that `one` and the others reach is read, as far as a commit-graph doesn't decide before: its rows are copied once, for the walk.
 /// A corrupt row is read from the store.
@@ -132,7 +134,7 @@ impl From<AllocError> for Error {
 ///    \   /\
 ///     3----5  <- other
 ///
-/// merge_bases(alloc, id(4), &[id(5)], &store, None)?    gives 3 and 2, since each of 4 and 5 has both as parents
+/// merge_bases(alloc, id(4), &[id(5)], &store, None)?    gives 2 and 3, since each of 4 and 5 has both as parents
 /// ```
 ///
 /// # Errors
@@ -156,7 +158,8 @@ pub fn merge_bases<F: Find>(
     let parents = other_parents(alloc, &common, objects, graph)?;
     let reached = contained(alloc, &parents, &common, objects, graph)?;
     let marks = set_of(alloc, &reached)?;
-    let bases = new_among(alloc, marks, &common)?;
+    let found = new_among(alloc, marks, &common)?;
+    let bases = sorted(found)?;
     Ok(bases)
 }
 
@@ -246,6 +249,15 @@ fn new_among(alloc: Global, mut old: IdSet, ids: &[ObjectId]) -> Result<Vec<Obje
         }
     }
     Ok(those)
+}
+
+/// The ids in rising order.
+fn sorted(mut ids: Vec<ObjectId>) -> Result<Vec<ObjectId>, AllocError>
+    ensures same { IfOk result (λ those. IsPermutation ids.items those.items) }
+    ensures rising { IfOk result (λ those. IsSorted id_cmp those.items) }
+{
+    ids.sort()?;
+    Ok(ids)
 }
 
 /// The ids as a set.

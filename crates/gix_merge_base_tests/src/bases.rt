@@ -95,7 +95,7 @@ static TABLES: [Table<'static>; 7] = [
         rows: CROSSED_ROWS,
         by: BY_ALL,
         cases: &[
-            (4, &[5], "3 2"),
+            (4, &[5], "2 3"),
             (5, &[4], "2 3"),
             (4, &[2, 5], "2 3"),
             (4, &[2, 3], "2 3"),

@@ -89,6 +89,23 @@ pub const COMMANDS: &[Command] = &[
         example: "contains HEAD HEAD~3 HEAD~9",
     },
     Command {
+        name: Name::MergeBase,
+        arguments: "A B..",
+        what: &[
+            "the best common ancestors of the first revision and of any of the others, in rising order: what",
+            "these reach, and no other such commit reaches, as git merge-base --all",
+        ],
+        example: "merge-base HEAD~3 HEAD~9",
+    },
+    Command {
+        name: Name::IsAncestor,
+        arguments: "A B",
+        what: &[
+            "nothing: the status is 0 if the second revision reaches the first, and 3 if it doesn't",
+        ],
+        example: "is-ancestor HEAD~3 HEAD",
+    },
+    Command {
         name: Name::Files,
         arguments: "A",
         what: &["mode, id and path of each entry of a tree and of the trees in it"],
@@ -126,6 +143,7 @@ slash.
   --git-dir FOLDER
                takes the folder that is called .git elsewhere
   -n NUMBER    ends after so many lines, in the first five commands; a number has 1 to 9 digits
+  --names      writes behind each id of contains a space and the revision as it was given, or the name of the ref
   --first-parent
                goes from each commit to its first parent alone, in breadth; what ^A excludes is reached by all parents
   --since SECONDS
@@ -142,7 +160,7 @@ slash.
   --version    says which program this is, and whether it was proved
 
 The status is 0 where everything was listed, or the commit-graph is right, 1 after a fault, 2 where the words are no such command, and
-3 where contains found that some revisions aren't contained. A line on standard error says why.
+3 where contains found that some revisions aren't contained, or is-ancestor that the first isn't reached. A line on standard error says why.
 ";
 
 /// What the help says of a command.

@@ -51,10 +51,10 @@ pub enum Misuse {
     /// A list of commits begins nowhere.
     #[error("{0} needs a revision without ^")]
     NoTip(&'static str),
-    /// The revisions that `contains` asks about, or the one that is to contain them, are missing or hidden.
-    #[error("contains needs two revisions at least, the first of them by its name, and none with ^ or a range A..B")]
-    Contains,
-    /// `ahead` and `files` take so many revisions.
+    /// The revisions that `contains` or `merge-base` asks about are missing or hidden, or the first isn't named.
+    #[error("{0} needs two revisions at least, the first of them by its name, and none with ^ or a range A..B")]
+    Several(&'static str),
+    /// `ahead`, `is-ancestor` and `files` take so many revisions.
     #[error("the number of revisions for {0} is {1}, none of them with ^ or a range A..B")]
     Number(&'static str, usize),
     /// `check-graph` takes no revisions.

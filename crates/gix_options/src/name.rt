@@ -17,6 +17,10 @@ pub enum Name {
     Ahead,
     /// Which of some revisions another one reaches.
     Contains,
+    /// The best common ancestors of a revision and of any of some others.
+    MergeBase,
+    /// Whether a revision is reached by another one.
+    IsAncestor,
     /// The entries of a tree.
     Files,
     /// The ids that revisions stand for.
@@ -36,6 +40,8 @@ impl Name {
             "date" => Some(Name::Date),
             "ahead" => Some(Name::Ahead),
             "contains" => Some(Name::Contains),
+            "merge-base" => Some(Name::MergeBase),
+            "is-ancestor" => Some(Name::IsAncestor),
             "files" => Some(Name::Files),
             "resolve" => Some(Name::Resolve),
             "check-graph" => Some(Name::CheckGraph),
@@ -53,6 +59,8 @@ impl Name {
             Name::Date => "date",
             Name::Ahead => "ahead",
             Name::Contains => "contains",
+            Name::MergeBase => "merge-base",
+            Name::IsAncestor => "is-ancestor",
             Name::Files => "files",
             Name::Resolve => "resolve",
             Name::CheckGraph => "check-graph",

@@ -58,6 +58,8 @@ pub struct Options {
     pub limit: Option<String>,
     /// Whether a byte 0 ends each line.
     pub ends_in_zero: bool,
+    /// Whether each line says how its revision was called.
+    pub gives_names: bool,
 }
 
 /// What is asked of a repository.
@@ -173,6 +175,7 @@ impl Arguments {
                 since: None,
                 limit: None,
                 ends_in_zero: false,
+                gives_names: false,
             },
         }
     }
@@ -190,6 +193,7 @@ impl Arguments {
             "--verbose" => self.options.is_verbose = true,
             "--first-parent" => self.options.by_first_parents = true,
             "-z" => self.options.ends_in_zero = true,
+            "--names" => self.options.gives_names = true,
             "--all" => self.asked.push(Asked::All)?,
             "--branches" => self.asked.push(Asked::Branches)?,
             "--tags" => self.asked.push(Asked::Tags)?,
@@ -309,6 +313,9 @@ impl Arguments {
         if self.options.ends_in_zero && name != Name::Files {
             return Err(Misuse::option("-z", name));
         }
+        if self.options.gives_names && name != Name::Contains {
+            return Err(Misuse::option("--names", name));
+        }
         if name == Name::CheckGraph
             && (!self.asked.is_empty()
                 || self.options.takes_border
@@ -332,6 +339,13 @@ impl Arguments {
                     Err(Misuse::Number(name.word(), 2))
                 }
             }
+            Name::IsAncestor => {
+                if words == 2 && tips == 2 {
+                    Ok(())
+                } else {
+                    Err(Misuse::Number(name.word(), 2))
+                }
+            }
             Name::Files => {
                 if words == 1 && tips == 1 {
                     Ok(())
@@ -339,12 +353,12 @@ impl Arguments {
                     Err(Misuse::Number(name.word(), 1))
                 }
             }
-            Name::Contains => {
+            Name::Contains | Name::MergeBase => {
                 let begins = matches!(self.asked.first(), Some(Asked::Word(_)));
                 if begins && words > 1 && tips == words {
                     Ok(())
                 } else {
-                    Err(Misuse::Contains)
+                    Err(Misuse::Several(name.word()))
                 }
             }
             _ => {

@@ -53,6 +53,29 @@ const CASES: &[(&str, &str)] = &[
         "contains needs two revisions at least, the first of them by its name, and none with ^ or a range A..B",
     ),
     ("-C . contains HEAD --tags", ""),
+    ("-C . contains HEAD --names --tags", ""),
+    (
+        "-C . merge-base HEAD --names a",
+        "--names doesn't go with merge-base",
+    ),
+    (
+        "-C . merge-base HEAD",
+        "merge-base needs two revisions at least, the first of them by its name, and none with ^ or a range A..B",
+    ),
+    (
+        "-C . merge-base HEAD a ^b",
+        "merge-base needs two revisions at least, the first of them by its name, and none with ^ or a range A..B",
+    ),
+    ("-C . merge-base HEAD --stdin", ""),
+    (
+        "-C . is-ancestor HEAD",
+        "the number of revisions for is-ancestor is 2, none of them with ^ or a range A..B",
+    ),
+    (
+        "-C . is-ancestor a ^b",
+        "the number of revisions for is-ancestor is 2, none of them with ^ or a range A..B",
+    ),
+    ("-C . is-ancestor a b", ""),
     (
         "-C . ahead HEAD",
         "the number of revisions for ahead is 2, none of them with ^ or a range A..B",

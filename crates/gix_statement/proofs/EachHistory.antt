@@ -3,7 +3,7 @@ use Rattle.std.proofs.Common.{◌≡◌, ◌≢◌, ℕ, ℤ, pos, List, [], ◌
 use Rattle.std.proofs.lemmas.List.Elements.{All-contains, Contains-append_cases, Contains-append_left}
 use Rattle.gix_hash.proofs.Ids.Membership.{Contains-cons_cases, Contains-here, Contains-there, no_member}
 use Rattle.gix_hash.specs.declared.ObjectId.{ObjectId}
-use Rattle.gix_statement.specs.WholeStatement.{Objects, Row, IsThere, IsHistory, Begins, IsWhole, Follows, all, first, since, Keeps, empty, kept, passed, Reaches, start, parent, IsNumberShown}
+use Rattle.gix_statement.specs.WholeStatement.{Objects, Row, IsThere, IsHistory, IsBase, Begins, IsWhole, Follows, all, first, since, Keeps, empty, kept, passed, Reaches, start, parent, IsNumberShown}
 use Rattle.gix_statement.proofs.Heart.{IsSimple, begins_there, whole_there}
 
 -- a member of what a test keeps
@@ -58,6 +58,30 @@ module _ (objects : Objects) (rows : List Row) (parents other : ObjectId → Lis
     kept_there before ids those empty = empty
     kept_there before ids those (kept {i = i} r k) = kept (reach_there i r) (kept_there _ _ _ k)
     kept_there before ids those (passed {i = i} n k) = passed (λ r. n (reach_back i r)) (kept_there _ _ _ k)
+
+  -- `merge-base`
+  onward : (starts : List ObjectId) (j i : ObjectId) → Reaches parents starts j → Reaches parents (j ∷ []) i → Reaches parents starts i
+  onward starts j i r (start m) = ⊎_elim (λ e. subst (Reaches parents starts) e r) (λ n. absurd (no_member i n)) (Contains-cons_cases i j [] m)
+  onward starts j i r (parent {child = c} s m) = parent (onward starts j c r s) m
+
+  module _ (first : ObjectId) (others : List ObjectId) (above : (i : ObjectId) → Reaches parents (first ∷ []) i → IsThere objects rows i) (beyond : (i : ObjectId) → Reaches parents others i → IsThere objects rows i) where
+    -- what a common ancestor reaches
+    below : (j : ObjectId) → Reaches parents (first ∷ []) j → (i : ObjectId) → Reaches parents (j ∷ []) i → IsThere objects rows i
+    below j r i s = above i (onward (first ∷ []) j i r s)
+
+    pub base_there : (i : ObjectId) → IsBase parents first others i → IsBase other first others i
+    base_there i ((r, s), best) = (
+      (reach_there (first ∷ []) above i r, reach_there others beyond i s),
+      λ j common leads.
+          let back = reach_back (first ∷ []) above j common.0 in
+          best j (back, reach_back others beyond j common.1) (reach_back (j ∷ []) (below j back) i leads),
+    )
+
+    pub base_back : (i : ObjectId) → IsBase other first others i → IsBase parents first others i
+    base_back i ((r, s), best) = (
+      (reach_back (first ∷ []) above i r, reach_back others beyond i s),
+      λ j common leads. best j (reach_there (first ∷ []) above j common.0, reach_there others beyond j common.1) (reach_there (j ∷ []) (below j common.0) i leads),
+    )
 
   -- `ahead`
   pub counted_there : (starts hidden : List ObjectId) → ((i : ObjectId) → Reaches parents starts i → IsThere objects rows i) → ((i : ObjectId) → Reaches parents hidden i → IsThere objects rows i)

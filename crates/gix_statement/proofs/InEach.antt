@@ -1,13 +1,14 @@
 -- What a proof of the statement has to bring for each command: the answer in one history, and that what was gone through is there.
-use Rattle.std.proofs.Common.{Bool, true, All, Contains, List, Option, [], arith, codes, false, flat_map, length, refl, subst, suc, sym, ℕ, ℤ, ◌++◌, ◌∷◌, ◌≡◌, ◌≢◌, ◌⊎◌}
+use Rattle.std.proofs.Common.{Bool, true, All, AllPairs, Contains, List, Option, [], arith, codes, false, flat_map, length, refl, subst, suc, sym, ℕ, ℤ, ◌++◌, ◌∷◌, ◌≡◌, ◌≢◌, ◌⊎◌, ◌↔◌}
+use Rattle.std.specs.declared.cmp.Ordering.TheVariants.{Less}
 use Rattle.std.specs.Fmt.{digits}
 use Rattle.std.specs.Io.KnownBytes.{Appends}
 use Rattle.std.proofs.lemmas.List.Elements.{All-nil}
 use Rattle.gix_hash.proofs.Ids.Membership.{no_member}
 use Rattle.gix_hash.specs.declared.ObjectId.{ObjectId}
-use Rattle.gix_statement.specs.WholeStatement.{Objects, Row, IsThere, IsHistory, InEach, Allows, AreTips, Begins, IsWhole, IsNext, breadth, newest, oldest, date, topo, parent, Follows, all, id_line, digits_in, Spells, Keeps, Lists, lists, HasBegun, Serves, commits, ahead, contains, files, Reaches, start, IsNumberShown, IsTree, Unfolds, Entry, entry_line}
+use Rattle.gix_statement.specs.WholeStatement.{Objects, Row, IsThere, IsHistory, InEach, Allows, AreTips, Begins, IsWhole, IsNext, breadth, newest, oldest, date, topo, parent, Follows, all, id_line, digits_in, Spells, Keeps, Lists, lists, HasBegun, Serves, commits, ahead, contains, bases, IsBase, by_bytes, files, Reaches, start, IsNumberShown, IsTree, Unfolds, Entry, entry_line}
 use Rattle.gix_statement.proofs.Heart.{IsSimple}
-use Rattle.gix_statement.proofs.EachHistory.{counted_there, kept_there, moved, same_parents, same_time}
+use Rattle.gix_statement.proofs.EachHistory.{base_back, base_there, counted_there, kept_there, moved, same_parents, same_time}
 use Rattle.gix_statement.proofs.Descents.{IsDown, begins_down, whole_down}
 
 module _ (objects : Objects) (rows : List Row) (parents : ObjectId → List ObjectId) (time : ObjectId → ℤ) (one : IsHistory objects rows parents time) (old new : Option (List ℕ)) where
@@ -97,6 +98,13 @@ module _ (objects : Objects) (rows : List Row) (parents : ObjectId → List Obje
       → Keeps (λ before i after. Reaches parents (tip ∷ []) i) [] ids those → Appends old new (flat_map id_line those) → Each (codes "contains" ∷ words)
   contains_each {tip = tip} {ids = ids} {those = those} are some there all_there keeps written other times another =
       contains are some all_there (kept_there objects rows parents other time times one another (tip ∷ []) there [] ids those keeps) written
+
+  pub bases_each : {words : List (List ℕ)} {left : ObjectId} {others : List ObjectId} (those : List ObjectId) → AreTips words (left ∷ others) [] → others ≢ [] → AreThere (left ∷ []) → AreThere others → All (IsThere objects rows) (left ∷ others)
+      → ((i : ObjectId) → Contains those i ↔ IsBase parents left others i) → AllPairs (λ i j. by_bytes i j ≡ Less) those → Appends old new (flat_map id_line those) → Each (codes "merge-base" ∷ words)
+  bases_each {left = left} {others = others} those are some above beyond all_there exact rising written other times another =
+      bases those are some all_there
+      (λ i. (λ c. base_there objects rows parents other time times one another left others above beyond i ((exact i).0 c), λ b. (exact i).1 (base_back objects rows parents other time times one another left others above beyond i b)))
+      rising written
 
   pub files_each : (option : List (List ℕ)) (a : List ℕ) {ending : ℕ} {tree : ObjectId} {entries : List Entry} {placed : List (List ℕ × Entry)}
       → ((option ≡ []) × (ending ≡ 10)) ⊎ ((option ≡ codes "-z" ∷ []) × (ending ≡ 0)) → Spells (digits_in tree) a tree → IsTree objects tree entries → Unfolds objects [] entries placed

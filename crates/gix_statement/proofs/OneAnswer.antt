@@ -1,11 +1,15 @@
 -- The page leaves no choice: in one history there is one right answer.
 use Rattle.std.proofs.Common.{None, ◌≡◌, ◌≢◌, ◌⊎◌, ◌≤◌, ◌≤ℤ◌, ◌<◌, ◌+◌, ℕ, Bool, suc, ℤ, pos, List, [], ◌∷◌, ◌++◌, length, reverse, flat_map, filter, not, int_lt, Some, true, false, All, AllPairs, Contains, codes, refl, sym, ap, subst, ◌∙◌, arith, ⊎_elim, inl, inr, append_assoc, append-nil, length-append}
 use Rattle.std.proofs.lemmas.List.Elements.{All-cons, All-nil, Contains-append_cases, Contains-append_left, Contains-append_right}
+use Rattle.std.specs.Cmp.{IsTotalOrder, on_total, tied_itself}
+use Rattle.std.specs.Cmp.Lexicographic.{nat_list_cmp_total}
+use Rattle.std.specs.declared.cmp.Ordering.{Ordering}
+use Rattle.std.specs.declared.cmp.Ordering.TheVariants.{Less, Equal}
 use Rattle.std.specs.Str.Parse.{AllDigits, digits_value}
 use Rattle.gix_hash.proofs.Ids.Membership.{Contains-here, Contains-there, Contains-cons_cases, no_member}
 use Rattle.gix_hash.specs.declared.ObjectId.{ObjectId}
 use Rattle.gix_hash.specs.declared.ObjectId.TheVariants.{Sha1, Sha256}
-use Rattle.gix_statement.specs.WholeStatement.{Objects, Row, IsPending, IsReady, IsFirst, IsBest, Keeps, empty, kept, passed, IsNext, breadth, newest, oldest, date, topo, AreMadeReady, by_time, Begins, IsWhole, Allows, AreTips, Follows, all, first, since, Spells, digits_in, bytes_in, Lists, lists, HasBegun, IsCutOff, OneAnswer, Serves, commits, ahead, contains, files, Entry, Object, AreEntries, IsTree, Unfolds, whole, other, tree, Clash, Reaches, id_line, entry_line, IsNumberShown}
+use Rattle.gix_statement.specs.WholeStatement.{Objects, Row, IsPending, IsReady, IsFirst, IsBest, Keeps, empty, kept, passed, IsNext, breadth, newest, oldest, date, topo, AreMadeReady, by_time, Begins, IsWhole, Allows, AreTips, Follows, all, first, since, Spells, digits_in, bytes_in, Lists, lists, HasBegun, IsCutOff, OneAnswer, Serves, commits, ahead, contains, bases, IsBase, by_bytes, files, Entry, Object, AreEntries, IsTree, Unfolds, whole, other, tree, Clash, Reaches, id_line, entry_line, IsNumberShown}
 use Rattle.gix_statement.proofs.OneCommit.{spelled_same, append_same, first_same, id_same}
 use Rattle.gix_statement.proofs.Carried.{same_object}
 use Rattle.gix_statement.proofs.Tests.{not_among, other_head}
@@ -135,6 +139,40 @@ counted_once parents followed time starts hidden n m (ids, apart, exact, many) (
     let up = no_longer ids others apart (λ i c. (same i).1 ((exact i).0 c)) in
     let down = no_longer others ids distinct (λ i c. (exact i).1 ((same i).0 c)) in
     omega (arith, up, down, many, count)
+
+-- LISTS that rise and have the same members are the same.
+module _ {I : Type 0} (order : I → I → Ordering) (total : IsTotalOrder order) where
+  abbrev Rises : List I → Type 0
+  Rises = AllPairs (λ i j. order i j ≡ Less)
+
+  not_below_itself : (i : I) → order i i ≡ Less → ⊥
+  not_below_itself i e = let no : Less ≡ Equal = sym e ∙ tied_itself total i in cc
+
+  below_all : (i j : I) (is : List I) → Rises (i ∷ is) → Contains is j → order i j ≡ Less
+  below_all i j is s (k, below, at) = subst (λ x. order i x ≡ Less) at (s 0 (suc k) j (omega arith) (omega (arith, below)))
+
+  rises_behind : (i : I) (is : List I) → Rises (i ∷ is) → Rises is
+  rises_behind i is s j k d l below = s (suc j) (suc k) d (omega (arith, l)) (omega (arith, below))
+
+  behind : (i k : I) (is js : List I) → Rises (i ∷ is) → Contains is k → Contains (i ∷ js) k → Contains js k
+  behind i k is js s m n = ⊎_elim (λ e. absurd (not_below_itself i (below_all i i is s (subst (Contains is) (sym e) m)))) (λ c. c) (Contains-cons_cases k i js n)
+
+  -- the first of the one list is the first of the other
+  same_first : (i j : I) (is js : List I) → Rises (i ∷ is) → Rises (j ∷ js) → Contains (j ∷ js) i → Contains (i ∷ is) j → j ≡ i
+  same_first i j is js s t up down = ⊎_elim (λ e. e)
+      (λ m. ⊎_elim (λ e. sym e) (λ n. absurd (not_below_itself i (total.trans i j i (below_all i j is s n) (below_all j i js t m)))) (Contains-cons_cases j i is down))
+      (Contains-cons_cases i j js up)
+
+  rising_once : (is js : List I) → Rises is → Rises js → ((k : I) → Contains is k → Contains js k) → ((k : I) → Contains js k → Contains is k) → is ≡ js
+  rising_once [] [] s t up down = refl
+  rising_once [] (j ∷ js) s t up down = absurd (no_member j (down j (Contains-here j js)))
+  rising_once (i ∷ is) [] s t up down = absurd (no_member i (up i (Contains-here i is)))
+  rising_once (i ∷ is) (j ∷ js) s t up down =
+      let e : j ≡ i = same_first i j is js s t (up i (Contains-here i is)) (down j (Contains-here j js)) in
+      let r : is ≡ js = rising_once is js (rises_behind i is s) (rises_behind j js t)
+      (λ k m. behind i k is js s m (subst (λ x. Contains (x ∷ js) k) e (up k (Contains-there k i is m))))
+      (λ k m. behind i k js is (subst (λ x. Rises (x ∷ js)) e t) m (down k (Contains-there k j js m))) in
+      (λ d. sym e d ∷ r d)
 
 -- WORDS
 width : ObjectId → Type 0
@@ -295,15 +333,15 @@ module _ (read objects : Objects) (clash : Clash read objects → ⊥) where
       (λ k. (path, e) ∷ (one k ++ two k))
 
 -- WHAT WAS WRITTEN
-other_size : (word by : List ℕ) → (length word ≡ 5 → ⊥) × (length word ≡ 8 → ⊥) → (length by ≡ 5) ⊎ (length by ≡ 8) → word ≡ by → ⊥
-other_size word by n h e = ⊎_elim (λ f. n.0 (ap length e ∙ f)) (λ f. n.1 (ap length e ∙ f)) h
+other_size : (word by : List ℕ) → (length word ≡ 5 → ⊥) × (length word < 8) → (length by ≡ 5) ⊎ (8 ≤ length by) → word ≡ by → ⊥
+other_size word by n h e = let l : length word ≡ length by = ap length e in ⊎_elim (λ f. n.0 (l ∙ f)) (λ f. omega (arith, l, f, n.1)) h
 
-no_list : (by : List ℕ) → (length by ≡ 5) ⊎ (length by ≡ 8) → Contains (codes "breadth" ∷ codes "newest" ∷ codes "oldest" ∷ codes "topo" ∷ codes "date" ∷ []) by → ⊥
-no_list by h = not_among by (codes "breadth") (codes "newest" ∷ codes "oldest" ∷ codes "topo" ∷ codes "date" ∷ []) (other_size (codes "breadth") by (λ e. omega (arith, e), λ e. omega (arith, e)) h)
-    (not_among by (codes "newest") (codes "oldest" ∷ codes "topo" ∷ codes "date" ∷ []) (other_size (codes "newest") by (λ e. omega (arith, e), λ e. omega (arith, e)) h)
-    (not_among by (codes "oldest") (codes "topo" ∷ codes "date" ∷ []) (other_size (codes "oldest") by (λ e. omega (arith, e), λ e. omega (arith, e)) h)
-    (not_among by (codes "topo") (codes "date" ∷ []) (other_size (codes "topo") by (λ e. omega (arith, e), λ e. omega (arith, e)) h)
-    (not_among by (codes "date") [] (other_size (codes "date") by (λ e. omega (arith, e), λ e. omega (arith, e)) h) (no_member by)))))
+no_list : (by : List ℕ) → (length by ≡ 5) ⊎ (8 ≤ length by) → Contains (codes "breadth" ∷ codes "newest" ∷ codes "oldest" ∷ codes "topo" ∷ codes "date" ∷ []) by → ⊥
+no_list by h = not_among by (codes "breadth") (codes "newest" ∷ codes "oldest" ∷ codes "topo" ∷ codes "date" ∷ []) (other_size (codes "breadth") by (λ e. omega (arith, e), omega arith) h)
+    (not_among by (codes "newest") (codes "oldest" ∷ codes "topo" ∷ codes "date" ∷ []) (other_size (codes "newest") by (λ e. omega (arith, e), omega arith) h)
+    (not_among by (codes "oldest") (codes "topo" ∷ codes "date" ∷ []) (other_size (codes "oldest") by (λ e. omega (arith, e), omega arith) h)
+    (not_among by (codes "topo") (codes "date" ∷ []) (other_size (codes "topo") by (λ e. omega (arith, e), omega arith) h)
+    (not_among by (codes "date") [] (other_size (codes "date") by (λ e. omega (arith, e), omega arith) h) (no_member by)))))
 
 module _ (read objects : Objects) (rows more : List Row) (parents : ObjectId → List ObjectId) (time : ObjectId → ℤ) (clash : Clash read objects → ⊥) (old a b : List ℕ) where
   abbrev One : List (List ℕ) → Type 0
@@ -312,25 +350,33 @@ module _ (read objects : Objects) (rows more : List Row) (parents : ObjectId →
   abbrev Other : List (List ℕ) → Type 0
   Other = Serves objects more parents time (Some old) (Some b)
 
-  not_listed : (by : List ℕ) (rest asked : List (List ℕ)) (ids : List ObjectId) (ended : Bool) (os : Objects) (rs : List Row) → (length by ≡ 5) ⊎ (length by ≡ 8) → Lists os rs parents time ids ended asked → asked ≡ by ∷ rest → ⊥
+  not_listed : (by : List ℕ) (rest asked : List (List ℕ)) (ids : List ObjectId) (ended : Bool) (os : Objects) (rs : List Row) → (length by ≡ 5) ⊎ (8 ≤ length by) → Lists os rs parents time ids ended asked → asked ≡ by ∷ rest → ⊥
   not_listed by rest asked ids end os rs h (lists {by = name} option limit ws named are some follows there begins allows ended) is =
       let e : name ≡ by = cc in
-      no_list name (subst (λ x. (length x ≡ 5) ⊎ (length x ≡ 8)) (sym e) h) named
+      no_list name (subst (λ x. (length x ≡ 5) ⊎ (8 ≤ length x)) (sym e) h) named
 
   -- both are of one command
   pub served_once : (asked words : List (List ℕ)) → One asked → Other words → asked ≡ words → a ≡ b
   served_once asked words (commits ids l w) (commits others m v) is =
       w ∙ ap (λ xs. old ++ flat_map id_line xs) ((lists_before parents time read objects rows more ids others true asked words l m is).1 refl) ∙ sym v
   served_once asked words (commits ids l w) (ahead n m x y o p ns ms v) is = absurd (not_listed (codes "ahead") _ asked ids true read rows (inl refl) l is)
-  served_once asked words (commits ids l w) (contains are some there keeps v) is = absurd (not_listed (codes "contains") _ asked ids true read rows (inr refl) l is)
+  served_once asked words (commits ids l w) (contains are some there keeps v) is = absurd (not_listed (codes "contains") _ asked ids true read rows (inr (omega arith)) l is)
+  served_once asked words (commits ids l w) (bases those are some there exact rising v) is = absurd (not_listed (codes "merge-base") _ asked ids true read rows (inr (omega arith)) l is)
   served_once asked words (commits ids l w) (files option x ends spells t u v) is = absurd (not_listed (codes "files") _ asked ids true read rows (inl refl) l is)
   served_once asked words (ahead n m x y o p ns ms v) (commits ids l w) is = absurd (not_listed (codes "ahead") _ words ids true objects more (inl refl) l (sym is))
-  served_once asked words (contains are some there keeps v) (commits ids l w) is = absurd (not_listed (codes "contains") _ words ids true objects more (inr refl) l (sym is))
+  served_once asked words (contains are some there keeps v) (commits ids l w) is = absurd (not_listed (codes "contains") _ words ids true objects more (inr (omega arith)) l (sym is))
+  served_once asked words (bases those are some there exact rising v) (commits ids l w) is = absurd (not_listed (codes "merge-base") _ words ids true objects more (inr (omega arith)) l (sym is))
   served_once asked words (files option x ends spells t u v) (commits ids l w) is = absurd (not_listed (codes "files") _ words ids true objects more (inl refl) l (sym is))
   served_once asked words (ahead n m x y o p ns ms w) (contains are some there keeps v) is = let h : codes "ahead" ≡ codes "contains" = cc in let l : 5 ≡ 8 = ap length h in absurd (omega (arith, l))
   served_once asked words (contains are some there keeps v) (ahead n m x y o p ns ms w) is = let h : codes "contains" ≡ codes "ahead" = cc in let l : 8 ≡ 5 = ap length h in absurd (omega (arith, l))
   served_once asked words (files option x ends spells t u w) (contains are some there keeps v) is = let h : codes "files" ≡ codes "contains" = cc in let l : 5 ≡ 8 = ap length h in absurd (omega (arith, l))
   served_once asked words (contains are some there keeps v) (files option x ends spells t u w) is = let h : codes "contains" ≡ codes "files" = cc in let l : 8 ≡ 5 = ap length h in absurd (omega (arith, l))
+  served_once asked words (ahead n m x y o p ns ms w) (bases those are some there exact rising v) is = let h : codes "ahead" ≡ codes "merge-base" = cc in let l : 5 ≡ 10 = ap length h in absurd (omega (arith, l))
+  served_once asked words (bases those are some there exact rising v) (ahead n m x y o p ns ms w) is = let h : codes "merge-base" ≡ codes "ahead" = cc in let l : 10 ≡ 5 = ap length h in absurd (omega (arith, l))
+  served_once asked words (contains are some there keeps w) (bases those are_too any here exact rising v) is = let h : codes "contains" ≡ codes "merge-base" = cc in let l : 8 ≡ 10 = ap length h in absurd (omega (arith, l))
+  served_once asked words (bases those are_too any here exact rising v) (contains are some there keeps w) is = let h : codes "merge-base" ≡ codes "contains" = cc in let l : 10 ≡ 8 = ap length h in absurd (omega (arith, l))
+  served_once asked words (files option x ends spells t u w) (bases those are some there exact rising v) is = let h : codes "files" ≡ codes "merge-base" = cc in let l : 5 ≡ 10 = ap length h in absurd (omega (arith, l))
+  served_once asked words (bases those are some there exact rising v) (files option x ends spells t u w) is = let h : codes "merge-base" ≡ codes "files" = cc in let l : 10 ≡ 5 = ap length h in absurd (omega (arith, l))
   served_once asked words (ahead n m x y o p ns ms w) (files option z ends spells t u v) is = let h : codes "ahead" ≡ codes "files" = cc in absurd (other_head 97 102 _ _ refl h)
   served_once asked words (files option z ends spells t u v) (ahead n m x y o p ns ms w) is = let h : codes "files" ≡ codes "ahead" = cc in absurd (other_head 102 97 _ _ refl h)
   served_once asked words (ahead {a = x} {b = y} {one = one} {other = another} n m s t o p ns ms w) (ahead {a = u} {b = v} {one = left} {other = right} i j q r c d is js z) is_same =
@@ -347,6 +393,16 @@ module _ (read objects : Objects) (rows more : List Row) (parents : ObjectId →
       let f : tip ≡ top = cc in
       let g : ids ≡ others = cc in
       let k = keeps_once (λ before i after. Reaches parents (tip ∷ []) i) keeps (subst (λ (T : Type 0). T) (λ k. Keeps (λ before i after. Reaches parents (sym f k ∷ []) i) [] (sym g k) those) keeps_too) in
+      w ∙ ap (λ xs. old ++ flat_map id_line xs) k ∙ sym v
+  served_once asked words (bases {words = ws} {one = one} {others = ids} those are some there exact rising w) (bases {words = vs} {one = left} {others = others} found too any all_there exact_too rising_too v) is =
+      let e : ws ≡ vs = cc in
+      let t = (tips_once ws (one ∷ ids) [] (left ∷ others) [] are (subst (λ x. AreTips x (left ∷ others) []) (sym e) too)).0 in
+      let f : one ≡ left = cc in
+      let g : ids ≡ others = cc in
+      let same : (i : ObjectId) → IsBase parents one ids i ≡ IsBase parents left others i = (λ i k. IsBase parents (f k) (g k) i) in
+      let k = rising_once by_bytes (on_total (λ i. digits_in i ∷ bytes_in i) nat_list_cmp_total) those found rising rising_too
+      (λ i c. (exact_too i).1 (subst (λ (T : Type 0). T) (same i) ((exact i).0 c)))
+      (λ i c. (exact i).1 (subst (λ (T : Type 0). T) (sym (same i)) ((exact_too i).0 c))) in
       w ∙ ap (λ xs. old ++ flat_map id_line xs) k ∙ sym v
   served_once asked words (files option x {ending = ending} {tree = t} {entries = entries} {placed = placed} ends spells is_tree u w) (files choice y {ending = end} {tree = s} {entries = others} {placed = those} finish spell too v z) is =
       let e : option ++ x ∷ [] ≡ choice ++ y ∷ [] = cc in
@@ -372,7 +428,8 @@ module _ (read objects : Objects) (rows more : List Row) (parents : ObjectId →
       let h = (lists_before parents time read objects rows more ids others false asked words l m is).0 in
       (flat_map id_line h.0, v ∙ ap (λ xs. old ++ flat_map id_line xs) h.1 ∙ ap (λ xs. old ++ xs) (flat_more ids h.0) ∙ sym (append_assoc old (flat_map id_line ids) (flat_map id_line h.0)) ∙ ap (λ xs. xs ++ flat_map id_line h.0) (sym w))
   begun_of asked words (ids, l, w) (ahead n m x y o p ns ms v) is = absurd (not_listed (codes "ahead") _ asked ids false read rows (inl refl) l is)
-  begun_of asked words (ids, l, w) (contains are some there keeps v) is = absurd (not_listed (codes "contains") _ asked ids false read rows (inr refl) l is)
+  begun_of asked words (ids, l, w) (contains are some there keeps v) is = absurd (not_listed (codes "contains") _ asked ids false read rows (inr (omega arith)) l is)
+  begun_of asked words (ids, l, w) (bases those are some there exact rising v) is = absurd (not_listed (codes "merge-base") _ asked ids false read rows (inr (omega arith)) l is)
   begun_of asked words (ids, l, w) (files option x ends spells t u v) is = absurd (not_listed (codes "files") _ asked ids false read rows (inl refl) l is)
 
 begun_or_cut : (read objects : Objects) (rows others : List Row) (parents : ObjectId → List ObjectId) (time : ObjectId → ℤ) (words : List (List ℕ)) (old a b : List ℕ) → (Clash read objects → ⊥)

@@ -1,5 +1,6 @@
 //! Walks of commits.
 pub mod contained;
+pub mod merge_base;
 pub mod simple;
 pub mod topo;
 

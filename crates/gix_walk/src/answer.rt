@@ -2,6 +2,7 @@
 use crate::chosen::{Chosen, choose};
 use crate::failure::Failure;
 use crate::graph::{check, rows, warn};
+use crate::named::write_named;
 use crate::progress::Progress;
 use crate::symmetric::common;
 use gix_commands::{Fault, run_named};
@@ -13,7 +14,7 @@ use gix_parts::records::NamedObjects;
 use gix_repository::Repository;
 use std::io::Write;
 
-/// The status where `contains` found that some revisions aren't contained.
+/// The status where `contains` found that some revisions aren't contained, or `is-ancestor` that one isn't reached.
 const NOT_ALL_CONTAINED: u8 = 3;
 /// How many objects are read until it is said how many there are.
 const STEP: usize = 8192;
@@ -47,7 +48,8 @@ pub(crate) fn answer<W: Write>(
         return Ok(0);
     }
     let chosen = choose(rt, &mut repository, question)?;
-    if chosen.tips.is_empty() || question.name == Name::Contains && chosen.tips.len() < 2 {
+    let asks_of_others = matches!(question.name, Name::Contains | Name::MergeBase);
+    if chosen.tips.is_empty() || asks_of_others && chosen.tips.len() < 2 {
         return Ok(0);
     }
     let mut asking = Asking {
@@ -273,13 +275,26 @@ impl Asking<'_> {
             Name::Contains => {
                 let mut lines = Vec::new(alloc);
                 in_memory(run_named(alloc, words.as_slice(), objects, graph, &mut lines))?;
-                write(output, lines.as_slice())?;
+                if self.question.options.gives_names {
+                    write_named(alloc, &self.chosen, lines.as_slice(), output)?;
+                } else {
+                    write(output, lines.as_slice())?;
+                }
                 let contained = lines.iter().filter(|byte| **byte == b'\n').count();
                 if contained.saturating_add(1) < self.chosen.tips.len() {
                     Ok(NOT_ALL_CONTAINED)
                 } else {
                     Ok(0)
                 }
+            }
+            Name::IsAncestor => {
+                let mut lines = Vec::new(alloc);
+                in_memory(run_named(alloc, words.as_slice(), objects, graph, &mut lines))?;
+                Ok(if lines.is_empty() {
+                    NOT_ALL_CONTAINED
+                } else {
+                    0
+                })
             }
             _ => {
                 run_named(alloc, words.as_slice(), objects, graph, output)?;
@@ -298,7 +313,7 @@ fn in_memory(ended: Result<(), Fault>) -> Result<(), Fault> {
 }
 
 /// Writes bytes.
-fn write<W: Write>(output: &mut W, bytes: &[u8]) -> Result<(), Fault> {
+pub(crate) fn write<W: Write>(output: &mut W, bytes: &[u8]) -> Result<(), Fault> {
     match output.write_all(bytes) {
         Ok(()) => Ok(()),
         Err(_) => Err(Fault::Write),

@@ -27,6 +27,8 @@ pub(crate) struct Chosen {
     pub hidden: Vec<ObjectId>,
     /// Those of `A...B`.
     pub pairs: Vec<Pair>,
+    /// How each tip was called, where lines say so.
+    pub names: Vec<String>,
 }
 
 /// Reads what the revisions of a question stand for.
@@ -67,9 +69,13 @@ pub(crate) fn choose(
         tips: Vec::new(rt.alloc()),
         hidden: Vec::new(rt.alloc()),
         pairs: Vec::new(rt.alloc()),
+        names: Vec::new(rt.alloc()),
     };
     for one in resolved.iter() {
         chosen.add(one)?;
+        if question.options.gives_names {
+            chosen.names.push(one.word.clone()?)?;
+        }
     }
     check_number(question.name, &chosen)?;
     Ok(chosen)
@@ -151,7 +157,14 @@ impl Chosen {
     /// comes first, since of tips of one second the walk begins with the last, and git with the first.
     pub fn words(&self, alloc: Global, question: &Question) -> Result<Vec<String>, AllocError> {
         let mut words = Vec::new(alloc);
-        words.push(String::from_str(alloc, question.name.word())?)?;
+        // Whether the second reaches the first is whether it contains it.
+        let asks_the_second = question.name == Name::IsAncestor;
+        let name = if asks_the_second {
+            Name::Contains
+        } else {
+            question.name
+        };
+        words.push(String::from_str(alloc, name.word())?)?;
         let options = &question.options;
         if options.by_first_parents {
             words.push(String::from_str(alloc, "--first-parent")?)?;
@@ -172,7 +185,7 @@ impl Chosen {
         } else {
             Vec::from_slice(alloc, self.tips.as_slice())?
         };
-        if question.name == Name::Topo {
+        if question.name == Name::Topo || asks_the_second {
             tips.as_mut_slice().reverse();
         }
         for id in tips.iter() {
@@ -209,6 +222,13 @@ fn check_number(name: Name, chosen: &Chosen) -> Result<(), Misuse> {
                 Err(Misuse::Number(name.word(), 2))
             }
         }
+        Name::IsAncestor => {
+            if tips == 2 && are_tips {
+                Ok(())
+            } else {
+                Err(Misuse::Number(name.word(), 2))
+            }
+        }
         Name::Files => {
             if tips == 1 && are_tips {
                 Ok(())
@@ -216,11 +236,11 @@ fn check_number(name: Name, chosen: &Chosen) -> Result<(), Misuse> {
                 Err(Misuse::Number(name.word(), 1))
             }
         }
-        Name::Contains => {
+        Name::Contains | Name::MergeBase => {
             if are_tips {
                 Ok(())
             } else {
-                Err(Misuse::Contains)
+                Err(Misuse::Several(name.word()))
             }
         }
         _ => Ok(()),

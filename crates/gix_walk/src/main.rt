@@ -7,6 +7,7 @@ mod chosen;
 mod failure;
 mod graph;
 mod help;
+mod named;
 mod output;
 mod progress;
 mod records;

@@ -51,6 +51,11 @@ fn serve_folder<W: Write>(
             ids.extend_from_slice(others.as_slice())?;
             gather(rt, folder, ids.as_slice())?
         }
+        Command::Bases { one, others } => {
+            ids.push(one)?;
+            ids.extend_from_slice(others.as_slice())?;
+            gather(rt, folder, ids.as_slice())?
+        }
     };
     run_named(alloc, words, &objects, None, writer)?;
     Ok(())

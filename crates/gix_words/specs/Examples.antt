@@ -47,3 +47,12 @@ hidden_commit = refl
 
 pub bad_commit : request_of (codes "ahead" ∷ codes "zz" ∷ codes "zz" ∷ []) ≡ Err (fault.Id 2)
 bad_commit = refl
+
+pub one_base : request_of (codes "merge-base" ∷ codes "zz" ∷ []) ≡ Err fault.Usage
+one_base = refl
+
+pub hidden_base : request_of (codes "merge-base" ∷ codes "zz" ∷ codes "^" ∷ []) ≡ Err fault.Usage
+hidden_base = refl
+
+pub bad_base : request_of (codes "merge-base" ∷ codes "zz" ∷ codes "zz" ∷ []) ≡ Err (fault.Id 2)
+bad_base = refl

@@ -15,6 +15,7 @@ use Rattle.gix_words.specs.declared.fault.Fault.TheVariants as fault
 use Rattle.gix_words.specs.declared.words.Command.{Command}
 use Rattle.gix_words.specs.declared.words.Command.TheVariants as command
 use Rattle.gix_words.specs.declared.words.Order.{Order}
+use Rattle.gix_words.specs.declared.words.SomeIds.{SomeIds}
 use Rattle.gix_words.specs.declared.words.Order.TheVariants.{Simple, Topo}
 
 pub data Request : Type 0 where
@@ -26,12 +27,15 @@ pub data Request : Type 0 where
   Ahead : (one other : ObjectId) → Request
   -- those of the ids that the tip reaches
   Contained : (tip : ObjectId) (ids : List ObjectId) → Request
+  -- the best common ancestors of the one and of any of the others
+  Bases : (one : ObjectId) (others : List ObjectId) → Request
 
 abbrev pub request_of_command : Command → Request
 request_of_command (command.Commits order limit tips hidden) = Commits order limit tips.items hidden.items
 request_of_command (command.Files ending tree) = Files ending tree
 request_of_command (command.Ahead one other) = Ahead one other
 request_of_command (command.Contained tip ids) = Contained tip ids.items
+request_of_command (command.Bases one others) = Bases one others.items
 
 -- what a function returned, seen by view, is what it was to be, unless memory ran out
 abbrev pub Gives : {X Y : Type 0} → (X → Y) → Result X Fault → Result Y Fault → Type 0
@@ -178,19 +182,30 @@ abbrev pub is_shown : List ℕ → Bool
 is_shown word = not (begins_with_caret word)
 
 -- an id, and ids behind it
-abbrev pub contained_among : List ObjectId → Result Request Fault
-contained_among [] = Err fault.Usage
-contained_among (tip ∷ ids) = Ok (Contained tip ids)
+abbrev pub Ranked : Type 0
+Ranked = ObjectId × List ObjectId
 
-abbrev pub contained_from : Result Ids Fault → Result Request Fault
-contained_from (Ok ids) = contained_among ids.0
-contained_from (Err e) = Err e
+abbrev pub several_in : SomeIds → Ranked
+several_in several = (several.first, several.others.items)
+
+abbrev pub several_among : List ObjectId → Result Ranked Fault
+several_among [] = Err fault.Usage
+several_among (first ∷ others) = Ok (first, others)
+
+abbrev pub several_from : Result Ids Fault → Result Ranked Fault
+several_from (Ok ids) = several_among ids.0
+several_from (Err e) = Err e
 
 -- two ids at least, none of them to be hidden: this is judged of all words before any is judged as an id
-abbrev pub contained_of : List (List ℕ) → Result Request Fault
-contained_of [] = Err fault.Usage
-contained_of (tip ∷ []) = Err fault.Usage
-contained_of (tip ∷ next ∷ ids) = if list_all is_shown (tip ∷ next ∷ ids) then contained_from (ids_from 2 (tip ∷ next ∷ ids)) else Err fault.Usage
+abbrev pub several_of : List (List ℕ) → Result Ranked Fault
+several_of [] = Err fault.Usage
+several_of (first ∷ []) = Err fault.Usage
+several_of (first ∷ next ∷ ids) = if list_all is_shown (first ∷ next ∷ ids) then several_from (ids_from 2 (first ∷ next ∷ ids)) else Err fault.Usage
+
+-- what is asked of the first id and the others
+abbrev pub asked : (ObjectId → List ObjectId → Request) → Result Ranked Fault → Result Request Fault
+asked asks (Ok ids) = Ok (asks ids.0 ids.1)
+asked asks (Err e) = Err e
 
 -- what words ask for by this name, which may be that of an order
 abbrev pub request_named : List ℕ → Option Order → List (List ℕ) → Result Request Fault
@@ -198,7 +213,8 @@ request_named name (Some by) ids = in_order_of by ids
 request_named name None ids =
     if bytes_eq name (codes "files") then files_of ids
     else if bytes_eq name (codes "ahead") then ahead_of ids
-    else if bytes_eq name (codes "contains") then contained_of ids
+    else if bytes_eq name (codes "contains") then asked Contained (several_of ids)
+    else if bytes_eq name (codes "merge-base") then asked Bases (several_of ids)
     else Err fault.Usage
 
 -- what words ask for, or why they are no command

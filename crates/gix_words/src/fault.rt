@@ -6,7 +6,7 @@ use gix_graph_file::ChainError;
 use gix_parts::hash::ObjectId;
 use gix_parts::object::find::existing_iter;
 use gix_parts::records;
-use gix_traverse::commit::{contained, simple, topo};
+use gix_traverse::commit::{contained, merge_base, simple, topo};
 use gix_traverse::tree::depthfirst;
 use std::alloc::AllocError;
 use thiserror::Error;
@@ -162,6 +162,20 @@ impl From<contained::Error> for Fault {
             contained::Error::Find(fault) => Fault::from(fault),
             contained::Error::ObjectDecode(_) => Fault::Broken,
             contained::Error::Memory => Fault::Memory,
+        }
+    }
+}
+
+impl From<merge_base::Error> for Fault {
+    ghost use Rattle.gix_words.specs.Faults.{fault_of_bases};
+
+    ghost from_gives = { λ e r. r ≡ fault_of_bases e };
+
+    fn from(error: merge_base::Error) -> Fault {
+        match error {
+            merge_base::Error::Find(fault) => Fault::from(fault),
+            merge_base::Error::ObjectDecode(_) => Fault::Broken,
+            merge_base::Error::Memory => Fault::Memory,
         }
     }
 }

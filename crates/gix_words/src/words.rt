@@ -1,7 +1,7 @@
 //! The words of a command.
 ghost use Rattle.std.specs.Prelude.{◌≡◌, ◌≤◌, IfSome, map, string_bytes};
 ghost use Rattle.std.specs.List.{list_all};
-ghost use Rattle.gix_words.specs.Words.{Gives, Tells, AddsId, begins_with_caret, number_in, request_of_command, request_of, order_named, by_first_parents, by_cutoff, ids_from, commits_of, listed_of, since_of, in_order_of, file_of, files_of, ahead_of, is_shown, contained_among, contained_of};
+ghost use Rattle.gix_words.specs.Words.{Bases, Contained, Gives, Tells, AddsId, begins_with_caret, number_in, request_of_command, request_of, order_named, by_first_parents, by_cutoff, ids_from, commits_of, listed_of, since_of, in_order_of, file_of, files_of, ahead_of, is_shown, several_among, several_of, several_in, asked};
 
 use crate::fault::Fault;
 use gix_parts::hash::ObjectId;
@@ -43,11 +43,16 @@ pub enum Command {
         tip: ObjectId,
         ids: Vec<ObjectId>,
     },
+    /// The best common ancestors of the one and of any of the others.
+    Bases {
+        one: ObjectId,
+        others: Vec<ObjectId>,
+    },
 }
 
 /// The command that the words are: `breadth`, `newest`, `oldest`, `topo` or `date`, maybe an option, maybe `-n` and a limit, ids of tips, one
-/// at least, and ids of commits to be hidden, each after a `^`; or `files` and one id; or `ahead` and two ids; or `contains` and two ids at
-/// least. `breadth` has the option `--first-parent`, and `newest` and `oldest` have `--since` and a time. An id is 40 or 64 hex digits, a
+/// at least, and ids of commits to be hidden, each after a `^`; or `files` and one id; or `ahead` and two ids; or `contains` or `merge-base`
+/// and two ids at least. `breadth` has the option `--first-parent`, and `newest` and `oldest` have `--since` and a time. An id is 40 or 64 hex digits, a
 /// limit 1 to 9 decimal digits, a time 1 to 10.
 ///
 /// # Errors
@@ -69,6 +74,9 @@ pub fn read_command(alloc: Global, words: &[String]) -> Result<Command, Fault>
     }
     if name.as_str() == "contains" {
         return contained(alloc, ids);
+    }
+    if name.as_str() == "merge-base" {
+        return bases(alloc, ids);
     }
     Err(Fault::Usage)
 }
@@ -285,26 +293,52 @@ fn ahead(ids: &[String]) -> Result<Command, Fault>
     Ok(Command::Ahead { one, other })
 }
 
-/// The commits of these ids, two at least, of which the first is the tip.
+/// The tip of these ids, and the others, which it may contain.
 fn contained(alloc: Global, ids: &[String]) -> Result<Command, Fault>
-    ensures { Gives request_of_command result (contained_of (map string_bytes ids.now)) }
+    ensures { Gives request_of_command result (asked Contained (several_of (map string_bytes ids.now))) }
+{
+    let SomeIds { first, others } = several(alloc, ids)?;
+    Ok(Command::Contained {
+        tip: first,
+        ids: others,
+    })
+}
+
+/// The commits of these ids, whose best common ancestors are asked for.
+fn bases(alloc: Global, ids: &[String]) -> Result<Command, Fault>
+    ensures { Gives request_of_command result (asked Bases (several_of (map string_bytes ids.now))) }
+{
+    let SomeIds { first, others } = several(alloc, ids)?;
+    Ok(Command::Bases { one: first, others })
+}
+
+/// An id, and ids behind it.
+#[derive(Drop)]
+struct SomeIds {
+    first: ObjectId,
+    others: Vec<ObjectId>,
+}
+
+/// The commits of these ids, two at least.
+fn several(alloc: Global, ids: &[String]) -> Result<SomeIds, Fault>
+    ensures { Gives several_in result (several_of (map string_bytes ids.now)) }
 {
     if ids.len() < 2 || !are_shown(ids) {
         return Err(Fault::Usage);
     }
     let (tips, _hidden) = read_ids(alloc, ids, 2)?;
-    contained_among(tips)
+    several_among(tips)
 }
 
-/// The first of the ids is the tip.
-fn contained_among(mut ids: Vec<ObjectId>) -> Result<Command, Fault>
-    ensures { Tells request_of_command result (contained_among ids.items) }
+/// The first of the ids, and the others.
+fn several_among(mut ids: Vec<ObjectId>) -> Result<SomeIds, Fault>
+    ensures { Tells several_in result (several_among ids.items) }
 {
     if ids.is_empty() {
         return Err(Fault::Usage);
     }
-    let tip = ids.remove(0);
-    Ok(Command::Contained { tip, ids })
+    let first = ids.remove(0);
+    Ok(SomeIds { first, others: ids })
 }
 
 /// Whether no word names a commit that is to be hidden.

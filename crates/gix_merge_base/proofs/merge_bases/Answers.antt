@@ -1,4 +1,4 @@
-use Rattle.std.proofs.Common.{List, [], ap, subst, ◌∙◌}
+use Rattle.std.proofs.Common.{List, [], IsPermutation, ap, subst, ◌∙◌}
 use Rattle.std.specs.FinSet as set
 use Rattle.std.proofs.lemmas.Result.{err_from_is_err_and}
 use Rattle.gix_hash.specs.declared.ObjectId.{ObjectId}
@@ -39,4 +39,5 @@ returns-clause-ok g c =
     (subst (λ (xs : List ObjectId). ReadsOthers those rows xs parents) c.deref.ensures.value c.in_ok-parents.ensures.ok)
     (subst (λ (xs : List ObjectId). Selects those rows parents xs reached) c.deref-3.ensures.value (subst (λ (xs : List ObjectId). Selects those rows xs c.deref-3.result.now reached) c.deref-2.ensures.value c.in_ok-reached.ensures.ok))
     (subst (λ (xs : List ObjectId). Collects xs marks) c.deref-4.ensures.value c.in_ok-marks.ensures)
-    (c.in_ok-bases.ensures ∙ ap (new_ids (set.contains marks)) c.deref-5.ensures.value)
+    (subst (λ (xs : List ObjectId). IsPermutation xs c.in_ok-bases.bases.items) (c.in_ok-found.ensures ∙ ap (new_ids (set.contains marks)) c.deref-5.ensures.value) c.in_ok-bases.ensures.same)
+    c.in_ok-bases.ensures.rising

@@ -1,0 +1,2 @@
+//! The best common ancestors of commits.
+pub use gix_merge_base::{Error, merge_bases};

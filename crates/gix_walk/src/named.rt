@@ -1,0 +1,27 @@
+//! Lines that say how revisions were called.
+use crate::answer::write;
+use crate::chosen::Chosen;
+use crate::failure::Failure;
+use std::alloc::Global;
+use std::io::Write;
+
+/// Writes the lines of `contains`, each with a space behind its id and the revision as it was given. The lines are those of the revisions
+/// behind the first that are contained, in order and with repeats, so each is that of the next revision of its id.
+pub(crate) fn write_named<W: Write>(
+    alloc: Global,
+    chosen: &Chosen,
+    lines: &[u8],
+    output: &mut W,
+) -> Result<(), Failure> {
+    let mut left = lines;
+    for (id, name) in chosen.tips.iter().zip(chosen.names.iter()).skip(1) {
+        let line = format!(in alloc; "{id}\n")?;
+        let Some(behind) = left.strip_prefix(line.as_bytes()) else {
+            continue;
+        };
+        left = behind;
+        let line = format!(in alloc; "{id} {name}\n")?;
+        write(output, line.as_bytes())?;
+    }
+    Ok(())
+}
