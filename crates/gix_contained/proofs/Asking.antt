@@ -1,9 +1,10 @@
 -- The ids that are asked about: how they are looked up, and which is the lowest.
-use Rattle.std.proofs.Common.{Bor, ◌≡◌, ◌⊎◌, ◌≤◌, ℕ, suc, List, [], ◌∷◌, ◌++◌, length, true, false, Option, Some, None, Contains, IfSome, IsPermutation, IsSome, refl, sym, ap, subst, inl, inr, ⊎_elim, ◌∙◌, is_lt, nat_cmp, arith}
+use Rattle.std.proofs.Common.{Bor, ◌≡◌, ◌≢◌, ◌⊎◌, ◌≤◌, ℕ, suc, Bool, List, [], ◌∷◌, ◌++◌, length, true, false, Option, Some, None, Contains, IfSome, IsPermutation, IsSome, refl, sym, ap, subst, inl, inr, ⊎_elim, ◌∙◌, is_lt, nat_cmp, arith}
 use Rattle.std.specs.FinSet as set
 use Rattle.std.specs.BinaryHeap.{IsUpperBound}
 use Rattle.std.specs.declared.cmp.Reverse.{Reverse}
 use Rattle.std.proofs.Math.Path.{transport}
+use Rattle.std.proofs.lemmas.Bool.{false≢true}
 use Rattle.std.proofs.lemmas.Bool.Decides.{nat_tests}
 use Rattle.std.proofs.lemmas.List.Elements.{Contains-append_cases, Contains-append_left, Contains-append_right}
 use Rattle.std.proofs.lemmas.List.Sorted.{Contains-permutation, IsPermutation-sym, length_permutation}
@@ -13,8 +14,10 @@ use Rattle.gix_hash.proofs.Ids.Membership.{Contains-cons_cases, Contains-here, C
 use Rattle.gix_hash.proofs.Lists.{only_member}
 use Rattle.gix_object.specs.Object.{Objects}
 use Rattle.gix_commitgraph.specs.Rows.{GraphRow, row_of}
-use Rattle.gix_contained.specs.Inside.Search.{AreAsked, AreLookedUp, AskedId, LooksUp, LookUpFails, LookUpFailsAmong}
+use Rattle.gix_contained.specs.Inside.Search.{AreAsked, AreLookedUp, AskedId, IsUnrowed, Knows, LookUpFailsAmong, Queued}
+use Rattle.gix_object.specs.declared.find.existing_iter.Error.TheVariants as existing
 use Rattle.gix_paint.specs.declared.Hidden.{Hidden}
+use Rattle.gix_paint.specs.declared.Hidden.TheVariants as hidden_by
 use Rattle.gix_paint.specs.Painting.{IsFaultAt, generation_in}
 use Rattle.gix_revwalk.specs.Agreeing.{rows_in}
 use Rattle.gix_revwalk.specs.Commits.{commit_at}
@@ -53,30 +56,31 @@ module _ (objects : Objects) (rows : List GraphRow) where
   }
 
   -- one more id is looked up
-  pub looked_up : (ids later : List ObjectId) (i : ObjectId) (n : ℕ) (qs new : List AskedId) → later ≡ ids ++ i ∷ [] → AreLookedUp objects rows ids qs → LooksUp objects rows i n
+  pub looked_up : (ids later : List ObjectId) (i : ObjectId) (n : ℕ) (qs new : List AskedId) → later ≡ ids ++ i ∷ [] → AreLookedUp objects rows ids qs → (q : Queued) → Knows objects rows true i q → n ≡ q.0.generation
       → IsPermutation ((record { 0 = n }, i) ∷ qs) new → AreLookedUp objects rows later new
-  looked_up ids later i n qs new is h found queue = subst (λ xs. AreLookedUp objects rows xs new) (sym is) (record {
+  looked_up ids later i n qs new is h known found same queue = subst (λ xs. AreLookedUp objects rows xs new) (sym is) (record {
     are_asked = record {
       covers = λ j c. ⊎_elim
           (λ m. let w = h.are_asked.covers j m in (w.0, Contains-permutation _ _ w.0 queue (Contains-there w.0 (record { 0 = n }, i) qs w.1), w.2))
           (λ m. ((record { 0 = n }, i), Contains-permutation _ _ (record { 0 = n }, i) queue (Contains-here (record { 0 = n }, i) qs), only_member i j m))
           (Contains-append_cases ids (i ∷ []) j c);
       keyed = λ q c. ⊎_elim
-          (λ e. subst (λ x. Contains (ids ++ i ∷ []) x.1 × (x.0.0 ≡ generation_in (row_of rows x.1))) e (Contains-append_right ids (i ∷ []) i (Contains-here i []), found.0))
+          (λ e. subst (λ x. Contains (ids ++ i ∷ []) x.1 × (x.0.0 ≡ generation_in (row_of rows x.1))) e (Contains-append_right ids (i ∷ []) i (Contains-here i []), same ∙ found.generation))
           (λ m. let k = h.are_asked.keyed q m in (Contains-append_left ids (i ∷ []) q.1 k.0, k.1))
           (Contains-cons_cases q (record { 0 = n }, i) qs (Contains-permutation _ _ q (IsPermutation-sym _ _ queue) c));
     };
     read = λ j c e. ⊎_elim (λ m. h.read j m e)
-        (λ m. subst (λ k. IsSome (commit_at objects k)) (only_member i j m) (found.1 (subst (λ k. row_of rows k ≡ None) (sym (only_member i j m)) e)))
+        (λ m. subst (λ k. IsSome (commit_at objects k)) (only_member i j m) (found.read (subst (λ k. row_of rows k ≡ None) (sym (only_member i j m)) e)))
         (Contains-append_cases ids (i ∷ []) j c);
   })
 
--- what was looked up by the same store and graph
-module _ {F : Type 0} (objects : F → Objects) (faulty : F → ObjectId → Type 0) {a b : Bor F} {g h : Option (Bor (List GraphRow))} (same : a ≡ b) (graph : g ≡ h) where
-  pub fails_among : (ids : List ObjectId) (i : ObjectId) (why : Hidden) → Contains ids i → LookUpFails (objects a.now) (faulty a.now) (rows_in g) i why → LookUpFailsAmong (objects b.now) (faulty b.now) (rows_in h) ids why
+-- what was looked up by the same store and graph, while rows are in use
+module _ {F : Type 0} (objects : F → Objects) (faulty : F → ObjectId → Type 0) {a b : Bor F} {g h : Option (Bor (List GraphRow))} {in_use : Bool} (same : a ≡ b) (graph : g ≡ h) (used : in_use ≡ true) where
+  pub fails_among : (ids : List ObjectId) (i : ObjectId) (why : Hidden) → Contains ids i → (why ≢ hidden_by.Find existing.Memory → IsUnrowed (rows_in g) in_use i × IsFaultAt (objects a.now) (faulty a.now) i why)
+      → LookUpFailsAmong (objects b.now) (faulty b.now) (rows_in h) ids why
   fails_among ids i why m f n =
       let k = f n in
-      (i, m, transport (λ j. row_of (rows_in (graph j)) i ≡ None) k.0, transport (λ j. IsFaultAt (objects (same j).now) (faulty (same j).now) i why) k.1)
+      (i, m, ⊎_elim (λ r. transport (λ j. row_of (rows_in (graph j)) i ≡ None) r) (λ u. absurd (false≢true (sym u ∙ used))) k.0, transport (λ j. IsFaultAt (objects (same j).now) (faulty (same j).now) i why) k.1)
 
-  pub found_there : (i : ObjectId) (n : ℕ) → LooksUp (objects a.now) (rows_in g) i n → LooksUp (objects b.now) (rows_in h) i n
-  found_there i n l = transport (λ j. LooksUp (objects (same j).now) (rows_in (graph j)) i n) l
+  pub known_there : (i : ObjectId) (q : Queued) → Knows (objects a.now) (rows_in g) in_use i q → Knows (objects b.now) (rows_in h) true i q
+  known_there i q l = transport (λ j. Knows (objects (same j).now) (rows_in (graph j)) (used j) i q) l

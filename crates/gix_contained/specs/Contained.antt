@@ -30,13 +30,15 @@ pub record Selects (objects : Objects) (rows : List GraphRow) (tips ids those : 
       → (Reaches (parents_of history) tips a → ⊥) → (i : ObjectId) → Reaches (parents_of history) tips i → row_of rows i ≡ None
       → IsSome (commit_at objects i)
 
--- Why rows are dropped: for a corrupt one that the tips reach. It is that of a tip, or its generation isn't below that of each id.
+-- Why rows are dropped: for a corrupt one that the tips reach, whose generation isn't below that of each id.
 pub record DropsBy (parents : ObjectId → List ObjectId) (rows : List GraphRow) (tips ids : List ObjectId) : Type 0 where
   pub row : GraphRow
   pub present : row_of rows row.id ≡ Some row
   pub corrupt : IsCorrupt row
   pub reached : Reaches parents tips row.id
-  pub no_deeper : Contains tips row.id ⊎ ((a : ObjectId) × Contains ids a × (generation_in (row_of rows a) ≤ row.generation))
+  pub bound : ObjectId
+  pub asked : Contains ids bound
+  pub no_deeper : generation_in (row_of rows bound) ≤ row.generation
 
 -- A commit that has to be read can't be: one of the ids, or one that the tips reach. One with a row is read from the store only if the rows
 -- were dropped.

@@ -3,16 +3,16 @@ ghost use Rattle.std.specs.Prelude.{◌≡◌, ◌≤◌, ◌⊎◌, ◌∷◌, 
 ghost use Rattle.std.specs.FinSet as set;
 ghost use Rattle.gix_hash.specs.declared.ObjectId.{ObjectId};
 ghost use Rattle.gix_revwalk.specs.Agreeing.{rows_in};
-ghost use Rattle.gix_contained.specs.Inside.Search.{AskedId, AreAsked, AreLookedUp, LookUpFailsAmong, IsLowest, Decides, SearchFails, Meets, MeetFails};
+ghost use Rattle.gix_contained.specs.Inside.Search.{AskedId, AreAsked, AreLookedUp, LookUpFailsAmong, IsLowest, Decides, SearchFails, Meets, MeetFails, Follows, FollowFails};
 
-use crate::source::{Key, Named, Source};
+use crate::source::{Key, Named, Source, Waiting};
 use gix_commitgraph::Graph;
 use gix_hash::ObjectId;
 use gix_hash::hashtable::IdSet;
 use gix_object::find::Find;
 use gix_paint::Hidden;
 use gix_revwalk::queue::PriorityQueue;
-use gix_revwalk::row::Near;
+use gix_revwalk::row::{NOWHERE, Near};
 use std::alloc::Global;
 use std::cmp::Reverse;
 
@@ -38,8 +38,8 @@ pub(super) fn look_up_all<'a, F: Find>(
     };
     let mut asked = AskedIds::new(alloc);
     for id in ids {
-        let generation = source.look_up(id)?;
-        asked.insert(Reverse(generation), *id)?;
+        let (key, _) = source.look_up(*id, NOWHERE)?;
+        asked.insert(Reverse(key.generation), *id)?;
     }
     Ok(asked)
 }
@@ -66,44 +66,48 @@ struct Search<'a, F> {
     source: Source<'a, F>,
     /// Ids that the tips were found to reach.
     met: IdSet,
-    /// The parents of commits that were met, and that weren't met yet by way of these.
-    queue: PriorityQueue<Key, Named>,
+    queue: PriorityQueue<Key, Waiting>,
 }
 
 impl<'a, F: Find> Search<'a, F> {
-    /// Meets an id that the tips reach. Its commit is read if it is new and can be above an id that is asked, that is, unless its generation
-    /// is below the lowest of these.
-    fn meet(&mut self, id: ObjectId, near: u32, lowest: u32) -> Result<(), Hidden>
-        ensures ok { IfOk result (λ _. Meets F.objects lowest (id ∷ []) self.old self.new) }
-        ensures fault { IfErr result (MeetFails F.objects F.faulty lowest (id ∷ []) self.old) }
+    /// Meets an id that the tips reach. If it is new it waits.
+    fn meet(&mut self, id: ObjectId, near: u32) -> Result<(), Hidden>
+        ensures ok { IfOk result (λ _. Meets F.objects (id ∷ []) self.old self.new) }
+        ensures fault { IfErr result (MeetFails F.objects F.faulty (id ∷ []) self.old) }
     {
         if !self.met.insert(id)? {
             return Ok(());
         }
-        if self.source.generation(&id, near) < lowest {
-            return Ok(());
-        }
-        let (key, named) = self.source.read(&id, near)?;
-        self.queue.insert(key, named)?;
+        let (key, waiting) = self.source.look_up(id, near)?;
+        self.queue.insert(key, waiting)?;
         Ok(())
     }
 
     /// Meets ids that the tips reach, in order.
-    fn meet_all(&mut self, mut ids: &[ObjectId], mut near: Near, lowest: u32) -> Result<(), Hidden>
-        ensures ok { IfOk result (λ _. Meets F.objects lowest ids.entry.now self.old self.new) }
-        ensures fault { IfErr result (MeetFails F.objects F.faulty lowest ids.entry.now self.old) }
+    fn meet_all(&mut self, mut ids: &[ObjectId], mut near: Near) -> Result<(), Hidden>
+        ensures ok { IfOk result (λ _. Meets F.objects ids.entry.now self.old self.new) }
+        ensures fault { IfErr result (MeetFails F.objects F.faulty ids.entry.now self.old) }
     {
         while let Some((id, rest)) = ids.split_first() {
-            self.meet(*id, near.next(), lowest)?;
+            self.meet(*id, near.next())?;
             ids = rest;
         }
         Ok(())
     }
+
+    /// Meets the parents of a commit that waited.
+    fn follow(&mut self, waiting: Waiting) -> Result<(), Hidden>
+        ensures ok { IfOk result (λ _. Follows F.objects waiting self.old self.new) }
+        ensures fault { IfErr result (FollowFails F.objects F.faulty waiting self.old) }
+    {
+        let Named { parent_ids, near } = self.source.parents(waiting)?;
+        self.meet_all(parent_ids.as_slice(), near)
+    }
 }
 
-/// Of what the tips reach, enough to tell which of the ids that are asked about is among it. Each tip is looked up. Then the newest commits
-/// are read first, or those of the greatest generations where they have rows, until all ids were met, or all that waits is of a lower
-/// generation than each id that is left.
+/// Of what the tips reach, enough to tell which of the ids that are asked about is among it. Each tip is looked up. Then parents are met,
+/// those of the newest commits first, or of the greatest generations where they have rows, until all ids were met. Below the generation of
+/// each id that is left nothing is read.
 pub(super) fn reached<'a, F: Find>(
     alloc: Global,
     objects: &'a F,
@@ -125,12 +129,14 @@ pub(super) fn reached<'a, F: Find>(
         met: IdSet::new(alloc),
         queue: PriorityQueue::new(alloc),
     };
-    search.meet_all(tips, Near::nowhere(), 0)?;
+    search.meet_all(tips, Near::nowhere())?;
     while let Some(lowest) = lowest_left(&mut asked, &search.met) {
-        let Some((_, named)) = search.queue.pop() else {
+        let Some((key, waiting)) = search.queue.pop() else {
             break;
         };
-        search.meet_all(named.parent_ids.as_slice(), named.near, lowest)?;
+        if key.generation >= lowest {
+            search.follow(waiting)?;
+        }
     }
     let Search { met, .. } = search;
     Ok(met)

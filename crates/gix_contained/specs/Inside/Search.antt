@@ -1,6 +1,7 @@
 -- What the search reads, what it meets, and what it tells in the end.
 use Rattle.std.specs.Prelude.{◌≡◌, ◌≢◌, ◌⊎◌, ◌+◌, ◌-◌, ◌^◌, ◌<◌, ◌≤◌, ◌||◌, ℕ, List, [], ◌∷◌, length, Bool, true, false, cond, Option, Some, None, Contains, IsSome}
 use Rattle.std.specs.FinSet as set
+use Rattle.std.specs.Option.{option_map}
 use Rattle.std.specs.declared.cmp.Reverse.{Reverse}
 use Rattle.gix_hash.specs.declared.ObjectId.{ObjectId}
 use Rattle.gix_hash.specs.Id.{id_cmp, is_among}
@@ -12,7 +13,7 @@ use Rattle.gix_commitgraph.specs.Rows.{GraphRow, row_of}
 use Rattle.gix_contained.specs.Contained.{DropsBy, IsContainedFault}
 use Rattle.gix_contained.specs.declared.search.Search.{Search}
 use Rattle.gix_contained.specs.declared.source.Key.{Key}
-use Rattle.gix_contained.specs.declared.source.Named.{Named}
+use Rattle.gix_contained.specs.declared.source.Waiting.{Waiting}
 use Rattle.gix_paint.specs.declared.Hidden.{Hidden}
 use Rattle.gix_paint.specs.declared.Hidden.TheVariants as hidden_by
 use Rattle.gix_paint.specs.Painting.{IsFaultAt, IsHistory, generation_in}
@@ -36,18 +37,35 @@ pub data ReadsParents (objects : Objects) (rows : List GraphRow) (in_use : Bool)
 abbrev pub IsPassed : List GraphRow → Bool → ObjectId → Type 0
 IsPassed rows in_use i = (row_of rows i ≡ None) ⊎ (in_use ≡ false) ⊎ DropsRows rows i
 
+-- it has none, or rows aren't in use
+abbrev pub IsUnrowed : List GraphRow → Bool → ObjectId → Type 0
+IsUnrowed rows in_use i = (row_of rows i ≡ None) ⊎ (in_use ≡ false)
+
 -- the generation in a row that is in use, and infinity where there is none
 abbrev pub generation_if : Bool → Option GraphRow → ℕ
 generation_if in_use row = cond in_use (generation_in row) (2 ^ 32 - 1)
 
--- the generation of an id, which was read if it has no row
-abbrev pub LooksUp : Objects → List GraphRow → ObjectId → ℕ → Type 0
-LooksUp objects rows i generation = (generation ≡ generation_in (row_of rows i)) × (row_of rows i ≡ None → IsSome (commit_at objects i))
+-- a commit that waits, and by what it is taken
+abbrev pub Queued : Type 0
+Queued = Key × Waiting
 
--- out of memory, or the id has no row and can't be read
-abbrev pub LookUpFails : Objects → (ObjectId → Type 0) → List GraphRow → ObjectId → Hidden → Type 0
-LookUpFails objects faulty rows i why = why ≢ hidden_by.Find existing.Memory → (row_of rows i ≡ None) × IsFaultAt objects faulty i why
+-- the parents that a commit brings
+abbrev pub brings : Waiting → Option (List ObjectId)
+brings w = option_map (λ ids. ids.items) w.parent_ids
 
+-- the commit of an id waits, by its generation, and with the parents that the store says if that was asked
+pub record Knows (objects : Objects) (rows : List GraphRow) (in_use : Bool) (i : ObjectId) (q : Queued) : Type 0 where
+  pub of_id : q.1.id ≡ i
+  pub generation : q.0.generation ≡ generation_if in_use (row_of rows i)
+  pub brought : (ids : List ObjectId) → brings q.1 ≡ Some ids → Reads objects i ids
+  pub read : row_of rows i ≡ None → IsSome (commit_at objects i)
+
+-- the parents that a commit brings, or else those that are read now
+pub data GivesParents (objects : Objects) (rows : List GraphRow) (in_use : Bool) (w : Waiting) (ids : List ObjectId) : Bool → Type 0 where
+  brought : brings w ≡ Some ids → GivesParents objects rows in_use w ids in_use
+  looked_up : {after : Bool} → ReadsParents objects rows in_use w.id ids after → GivesParents objects rows in_use w ids after
+
+-- out of memory, or one of the ids has no row and can't be read
 abbrev pub LookUpFailsAmong : Objects → (ObjectId → Type 0) → List GraphRow → List ObjectId → Hidden → Type 0
 LookUpFailsAmong objects faulty rows ids why = why ≢ hidden_by.Find existing.Memory → (i : ObjectId) × Contains ids i × (row_of rows i ≡ None) × IsFaultAt objects faulty i why
 
@@ -71,41 +89,46 @@ IsLowest asked met generation =
     ((q : AskedId) × Contains asked q × (set.contains met q.1 ≡ false) × (q.0.0 ≡ generation))
     × ((q : AskedId) → Contains asked q → generation ≤ q.0.0)
 
-abbrev pub Waiting : Type 0
-Waiting = Key × Named
-
--- the parents that wait are those of an id, by its row or from the store
-abbrev pub HasParents : Objects → List GraphRow → ObjectId → Waiting → Type 0
-HasParents objects rows i q =
-    ((row : GraphRow) × (row_of rows i ≡ Some row) × (ids_at rows row.parents ≡ Some q.1.parent_ids.items)) ⊎ Reads objects i q.1.parent_ids.items
-
 -- how many ids are new and how many commits wait, of these ids
 abbrev pub room : {F : Type 0} → List ObjectId → Search F → ℕ
 room named s = length (new_ids (set.contains s.met) named) + length s.queue
 
--- a corrupt row was read, of an id among these whose generation isn't too low
-abbrev pub DropsAmong : List GraphRow → ℕ → List ObjectId → Type 0
-DropsAmong rows lowest ids = (i : ObjectId) × Contains ids i × DropsRows rows i × (lowest ≤ generation_in (row_of rows i))
-
--- ids are met, and each that is new waits, unless its generation is too low
-pub record Meets {F : Type 0} (objects : F → Objects) (lowest : ℕ) (ids : List ObjectId) (old new : Search F) : Type 0 where
+-- ids are met, and each that is new waits
+pub record Meets {F : Type 0} (objects : F → Objects) (ids : List ObjectId) (old new : Search F) : Type 0 where
   pub objects_stay : new.source.objects ≡ old.source.objects
   pub graph_stays : new.source.graph ≡ old.source.graph
+  pub use_stays : new.source.in_use ≡ old.source.in_use
   pub met : (i : ObjectId) → set.contains new.met i ≡ (is_among i ids || set.contains old.met i)
-  pub keeps : (q : Waiting) → Contains old.queue q → Contains new.queue q
-  pub adds : (q : Waiting) → Contains new.queue q
-      → Contains old.queue q ⊎ ((i : ObjectId) × Contains ids i × HasParents (objects old.source.objects.now) (rows_in old.source.graph) i q)
+  pub keeps : (q : Queued) → Contains old.queue q → Contains new.queue q
+  pub adds : (q : Queued) → Contains new.queue q → Contains old.queue q
+      ⊎ (Contains ids q.1.id × Knows (objects old.source.objects.now) (rows_in old.source.graph) old.source.in_use q.1.id q)
   pub waits : (i : ObjectId) → Contains ids i → set.contains old.met i ≡ false
-      → (generation_in (row_of (rows_in old.source.graph) i) < lowest)
-      ⊎ ((q : Waiting) × Contains new.queue q × HasParents (objects old.source.objects.now) (rows_in old.source.graph) i q)
-  pub drops : (new.source.in_use ≡ old.source.in_use) ⊎ DropsAmong (rows_in old.source.graph) lowest ids
+      → (q : Queued) × Contains new.queue q × Knows (objects old.source.objects.now) (rows_in old.source.graph) old.source.in_use i q
   pub spends : (named : List ObjectId) → ((i : ObjectId) → Contains ids i → is_among i named ≡ true) → room named new ≤ room named old
 
 -- out of memory, or one of the ids can't be read, for which no row is read
-abbrev pub MeetFails : {F : Type 0} → (F → Objects) → (F → ObjectId → Type 0) → ℕ → List ObjectId → Search F → Hidden → Type 0
-MeetFails objects faulty lowest ids old why = why ≢ hidden_by.Find existing.Memory
-    → (i : ObjectId) × Contains ids i × IsFaultAt (objects old.source.objects.now) (faulty old.source.objects.now) i why
-    × ((row_of (rows_in old.source.graph) i ≡ None) ⊎ (old.source.in_use ≡ false) ⊎ DropsAmong (rows_in old.source.graph) lowest ids)
+abbrev pub MeetFails : {F : Type 0} → (F → Objects) → (F → ObjectId → Type 0) → List ObjectId → Search F → Hidden → Type 0
+MeetFails objects faulty ids old why = why ≢ hidden_by.Find existing.Memory
+    → (i : ObjectId) × Contains ids i × IsUnrowed (rows_in old.source.graph) old.source.in_use i
+    × IsFaultAt (objects old.source.objects.now) (faulty old.source.objects.now) i why
+
+-- the parents of a commit are met
+pub record Follows {F : Type 0} (objects : F → Objects) (w : Waiting) (old new : Search F) : Type 0 where
+  pub mid : Search F
+  pub ids : List ObjectId
+  pub objects_stay : mid.source.objects ≡ old.source.objects
+  pub graph_stays : mid.source.graph ≡ old.source.graph
+  pub met_stays : mid.met ≡ old.met
+  pub queue_stays : mid.queue ≡ old.queue
+  pub gives : GivesParents (objects old.source.objects.now) (rows_in old.source.graph) old.source.in_use w ids mid.source.in_use
+  pub meets : Meets objects ids mid new
+
+-- out of memory, or the commit can't be read, or one of its parents
+abbrev pub FollowFails : {F : Type 0} → (F → Objects) → (F → ObjectId → Type 0) → Waiting → Search F → Hidden → Type 0
+FollowFails objects faulty w old why = why ≢ hidden_by.Find existing.Memory
+    → (IsPassed (rows_in old.source.graph) old.source.in_use w.id × IsFaultAt (objects old.source.objects.now) (faulty old.source.objects.now) w.id why)
+    ⊎ ((ids : List ObjectId) × (after : Bool) × GivesParents (objects old.source.objects.now) (rows_in old.source.graph) old.source.in_use w ids after
+    × ((i : ObjectId) × Contains ids i × IsUnrowed (rows_in old.source.graph) after i × IsFaultAt (objects old.source.objects.now) (faulty old.source.objects.now) i why))
 
 -- what was met tells which of the ids the tips reach
 pub record Decides (objects : Objects) (rows : List GraphRow) (tips ids : List ObjectId) (met : set.FinSet id_cmp) : Type 0 where
