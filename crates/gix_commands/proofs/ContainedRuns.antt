@@ -3,7 +3,8 @@ use Rattle.std.proofs.Common.{◌≡◌, ◌≢◌, ℕ, List, [], ◌∷◌, �
 use Rattle.gix_commands.proofs.Common.{Appends, Contains-append_left, Contains-append_right, Contains-append_cases, ObjectId, Contains-here, Contains-there, Contains-cons_cases, only_member, Objects, GraphRow}
 use Rattle.gix_commands.proofs.Common.{row_of, stored, IsAgreeing, RowAgrees, commit_at, parents_of, reach_more, row_stands, none_agree, whole_from, Fault, fault_of_contained, AreWhole, EndsWell}
 use Rattle.gix_commands.proofs.Common.{ContainsSucceeds, selected, not_selected, unserved, never_faulty, Contained}
-use Rattle.gix_contained.specs.Contained.{AreContained, Selects}
+use Rattle.gix_contained.specs.Contained.{AreContained}
+use Rattle.gix_hash.specs.Reach.{Reaches}
 use Rattle.gix_contained.proofs.Faultless.{store_alone}
 use Rattle.gix_paint.specs.Painting.{IsHistory}
 use Rattle.gix_paint.proofs.Invariant.{own_history}
@@ -29,20 +30,33 @@ module _ (tip : ObjectId) (ids : List ObjectId) where
     own : IsHistory objects rows objects
     own = own_history objects (never_faulty objects) rows agreeing
 
-    -- all that was reached was read, or has a row that agrees
-    read_whole : (those : List ObjectId) → ids ≢ [] → Selects objects rows (tip ∷ []) ids those → AreWhole objects (tip ∷ ids)
-    read_whole those some s i r = go (row_of rows i) refl
+    -- a commit is whole that was read or has a row, which agrees
+    whole_by : (i : ObjectId) → (row_of rows i ≡ None → IsSome (commit_at objects i)) → IsSome (commit_at objects i)
+    whole_by i read = go (row_of rows i) refl
       where
         go : (o : Option GraphRow) → row_of rows i ≡ o → IsSome (commit_at objects i)
-        go None e = s.read objects own (λ n. cc) some i (reach_more (parents_of objects) (tip ∷ ids) (ids ++ tip ∷ []) among i r) e
+        go None e = read e
         go (Some row) e =
             let h : Contains rows row × (i ≡ row.id) = row_stands rows i row e in
             let a : RowAgrees objects rows row = agreeing row h.0 in
             subst IsSome (sym (ap (commit_at objects) h.1 ∙ a.whole.stored)) refl
 
-    pub selected_so : (old new : Option (List ℕ)) → ids ≢ [] → Serves objects rows old (Contained tip ids) (Ok tt) new
-        → (those : List ObjectId) × AreContained (parents_of objects) (tip ∷ []) ids those × AreWhole objects (tip ∷ ids) × Appends old new (lines_of_ids those)
-    selected_so old new some (selected those s written) = (those, s.exact objects own, read_whole those some s, written)
+    -- what was written, and which commits are whole
+    pub record IsSelected (old new : Option (List ℕ)) : Type 0 where
+      pub those : List ObjectId
+      pub exact : AreContained (parents_of objects) (tip ∷ []) ids those
+      pub there : (i : ObjectId) → Contains (tip ∷ ids) i → IsSome (commit_at objects i)
+      pub whole : (a : ObjectId) → Contains ids a → (Reaches (parents_of objects) (tip ∷ []) a → ⊥) → AreWhole objects (tip ∷ [])
+      pub written : Appends old new (lines_of_ids those)
+
+    pub selected_so : (old new : Option (List ℕ)) → ids ≢ [] → Serves objects rows old (Contained tip ids) (Ok tt) new → IsSelected old new
+    selected_so old new some (selected those s written) = record {
+      those = those;
+      exact = s.exact objects own;
+      there = λ i c. whole_by i (s.read objects own (λ n. cc) some i (among i c));
+      whole = λ a c n i r. whole_by i (s.read_all objects own (λ e. cc) a c n i r);
+      written = written;
+    }
 
     -- where all that is reached is whole no commit is a fault
     selects_well : AreWhole objects (tip ∷ ids) → (answer : Result (Unit {0}) Fault) (new old : Option (List ℕ)) → Serves objects rows old (Contained tip ids) answer new → EndsWell answer

@@ -9,7 +9,7 @@ use Rattle.gix_object.specs.declared.decode.Error.{Error as DecodeError}
 use Rattle.gix_object.specs.declared.find.existing_iter.Error.{Error as ExistingError}
 use Rattle.gix_object.specs.declared.find.existing_iter.Error.TheVariants as existing
 use Rattle.gix_contained.specs.declared.Error.{Error as ContainedError}
-use Rattle.gix_contained.specs.Contained.{error_of, FailsBy}
+use Rattle.gix_contained.specs.Contained.{error_of, FailsBy, IsContainedFault}
 use Rattle.gix_merge_base.specs.declared.Error.{Error as BasesError}
 use Rattle.gix_merge_base.specs.Bases as base
 use Rattle.gix_merge_base.specs.Errors as base_error
@@ -94,9 +94,13 @@ same_fault (hidden_by.Find (existing.NotFound oid)) = refl
 same_fault (hidden_by.Find (existing.ObjectKind oid expected actual)) = refl
 same_fault (hidden_by.ObjectDecode e) = refl
 
+asked_sound : (objects : Objects) (rows : List GraphRow) (tips ids : List ObjectId) (why : Hidden) → IsContainedFault objects (never_faulty objects) rows tips ids why → fault_of_walk (error.HiddenGraph why) ≢ fault.Internal
+asked_sound objects rows tips ids (hidden_by.Find e) h = find_sound objects h.id object.Commit e h.fault
+asked_sound objects rows tips ids (hidden_by.ObjectDecode e) h = λ e. cc
+
 -- nor does a call that asks which ids are contained
 pub contained_sound : (objects : Objects) (rows : List GraphRow) (tips ids : List ObjectId) (e : ContainedError) → FailsBy objects (never_faulty objects) rows tips ids e → fault_of_contained e ≢ fault.Internal
-contained_sound objects rows tips ids e (why, f, is) same = history_sound objects rows ids tips why f (sym (same_fault why) ∙ sym (ap fault_of_contained is) ∙ same)
+contained_sound objects rows tips ids e (why, f, is) same = asked_sound objects rows tips ids why f (sym (same_fault why) ∙ sym (ap fault_of_contained is) ∙ same)
 
 same_find : (e : ExistingError) → fault_of_bases (base_error.error_of_find e) ≡ fault_of_find e
 same_find existing.Memory = refl

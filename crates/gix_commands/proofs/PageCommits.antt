@@ -135,6 +135,3 @@ module _ (objects : Objects) where
     reached_there tip among i r =
         let back = by_commits objects ids whole tip among i (reaches_back (text_next objects) (tip ∷ []) i r) in
         whole_there i (whole_from objects i (whole i (reach_more (parents_of objects) (tip ∷ []) ids (λ j c. ⊎_elim (λ e. subst (Contains ids) e among) (λ n. absurd (no_member j n)) (Contains-cons_cases j tip [] c)) i back)))
-
-    pub all_there : All (IsThere (page_objects objects) []) ids
-    all_there k d below = let among = Contains-get_or ids k d below in reached_there _ among _ (page.start (Contains-here _ []))

@@ -1,15 +1,15 @@
 -- What a run over objects and rows that agree with them has written is right in each history that has these objects, where what is said to
 -- be a commit has the text of one.
 use Rattle.std.proofs.Common.{◌≡◌, ◌≢◌, ℕ, List, [], ◌∷◌, Option, Some, Result, Ok, Err, Contains, codes, refl, sym, ap, subst, inl, ◌∙◌}
-use Rattle.gix_commands.proofs.Common.{get, kind_of, Parents, ReadsParents, IsCommitRead, IsReached, objects_of, plan_from, IsBuiltFrom, Appends, Contains-here, Contains-there, ObjectId, Objects, GraphRow, IsAgreeing, text_next, time_of, Fault, Simple, Topo, AreWhole}
+use Rattle.gix_commands.proofs.Common.{get, kind_of, Parents, ReadsParents, IsCommitRead, IsReached, objects_of, plan_from, IsBuiltFrom, Appends, Contains-get_or, Contains-here, Contains-there, ObjectId, Objects, GraphRow, IsAgreeing, text_next, time_of, Fault, Simple, Topo, AreWhole, whole_from}
 use Rattle.gix_commands.proofs.Common.{not_listed, not_ahead, not_behind, not_joined, not_selected, unserved, Request, Commits, Files, Ahead, Contained, Bases, request_of}
 use Rattle.gix_object.specs.CommitItems.{commit_items}
 use Rattle.gix_object.specs.declared.Kind.TheVariants as kind
 use Rattle.gix_revwalk.specs.declared.Parents.TheVariants as mode
 use Rattle.gix_simple.specs.declared.Sorting.{Sorting}
 use Rattle.gix_topo.specs.declared.Sorting.{Sorting as TopoSorting}
-use Rattle.gix_statement.proofs.InEach.{Each, ahead_each, bases_each, contains_each, files_each}
-use Rattle.gix_statement.specs.WholeStatement.{IsThere}
+use Rattle.gix_statement.proofs.InEach.{Each, ahead_each, bases_each, files_each}
+use Rattle.gix_statement.specs.WholeStatement.{IsThere, contains}
 use Rattle.gix_commands.specs.Pages.{HaveTexts, page_objects}
 use Rattle.gix_commands.specs.Run.{Serves, cut_off, misnamed}
 use Rattle.gix_commands.specs.TopoWalked.{Walk as TopoWalk}
@@ -17,7 +17,7 @@ use Rattle.gix_commands.proofs.AheadRuns.{counted_so, counted_whole}
 use Rattle.gix_commands.proofs.BasesRuns.{joined_so}
 use Rattle.gix_commands.proofs.ContainedRuns.{selected_so}
 use Rattle.gix_commands.proofs.RightSimple.{simple_right}
-use Rattle.gix_commands.proofs.PageCommits.{all_there, fed_history, reached_there}
+use Rattle.gix_commands.proofs.PageCommits.{fed_history, reached_there, whole_there}
 use Rattle.gix_commands.proofs.PageTexts.{scan_faultless, text_there}
 use Rattle.gix_commands.proofs.RightTopo.{topo_right}
 use Rattle.gix_commands.proofs.Right.{IsRight, cut_right}
@@ -75,11 +75,10 @@ module _ (objects : Objects) (rows : List GraphRow) (agrees : IsAgreeing objects
 
   contained_right : (words : List (List ℕ)) (tip : ObjectId) (ids : List ObjectId) → AreWordsOf words (Ok (Contained tip ids)) → (answer : Result (Unit {0}) Fault) (new : Option (List ℕ)) → Serves objects rows old (Contained tip ids) answer new → RightSo words answer new
   contained_right words tip ids (rest, is, tips, some) (Ok tt) new s =
-      let c = selected_so tip ids objects rows agrees old new some s in
-      subst (EachSo new) (sym is)
-      (contains_each (page_objects objects) [] (text_next objects) (time_of objects) (fed_history objects) old new tips some
-      (reached_there objects (tip ∷ ids) c.2 tip (Contains-here tip ids)) (all_there objects (tip ∷ ids) c.2)
-      (contained_kept objects tip ids c.0 c.2 c.1) (subst (Appends old new) (id_lines c.0) c.3))
+      let k = selected_so tip ids objects rows agrees old new some s in
+      subst (EachSo new) (sym is) (λ other times another.
+      contains tips some (λ n d below. whole_there objects _ (whole_from objects _ (k.there _ (Contains-get_or (tip ∷ ids) n d below))))
+      (contained_kept objects other times another tip [] ids k.exact k.whole) (subst (Appends old new) (id_lines k.those) k.written))
   contained_right words tip ids w (Err e) new (not_selected why f) = inl refl
   contained_right words tip ids w (Err e) new unserved = inl refl
   contained_right words tip ids w (Err e) new (cut_off {answer = answer} {full = full} some more s a b) = cut_right (page_objects objects) words old answer full new some more (contained_right words tip ids w answer full s) a b

@@ -1,23 +1,43 @@
--- Which ids a commit contains, by the parents that texts name and in the words of the statement.
-use Rattle.std.proofs.Common.{List, [], ◌∷◌}
-use Rattle.gix_commands.proofs.Common.{ObjectId, Contains-here, Objects, parents_of, text_next, AreWhole}
-use Rattle.gix_hash.specs.Reach.{Reaches}
+-- Which ids a commit contains, in each history that has the commits at hand, and in the words of the statement.
+use Rattle.std.proofs.Common.{◌≡◌, ℤ, List, [], ◌∷◌, Option, Some, None, Contains, IsSome, refl, sym, ap, subst, ◌∙◌}
+use Rattle.gix_commands.proofs.Common.{ObjectId, Contains-here, Contains-there, no_member, Objects, commit_at, parents_of, text_next, text_whole, time_of, whole_from, AreWhole}
 use Rattle.gix_contained.specs.Contained.{AreContained, empty, reached, passed}
+use Rattle.gix_hash.specs.Reach.{Reaches, start, step}
+use Rattle.gix_object.specs.CommitText.{Commit}
+use Rattle.gix_revwalk.specs.Commits.{parents_in}
 use Rattle.gix_statement.specs.WholeStatement as page
-use Rattle.gix_commands.proofs.SameOrders.{reaches, reaches_back}
-use Rattle.gix_commands.proofs.TextNumbers.{by_texts, by_commits}
+use Rattle.gix_statement.proofs.EachHistory.{same_parents}
+use Rattle.gix_commands.specs.Pages.{page_objects}
+use Rattle.gix_commands.proofs.PageCommits.{fed_history, whole_there}
 
-module _ (parents : ObjectId → List ObjectId) (tips : List ObjectId) (Is : ObjectId → Type 0) (is : (i : ObjectId) → Reaches parents tips i → Is i) (back : (i : ObjectId) → Is i → Reaches parents tips i) where
-  kept_so : (before : List ObjectId) {ids those : List ObjectId} → AreContained parents tips ids those → page.Keeps (λ (before : List ObjectId) i (after : List ObjectId). Is i) before ids those
-  kept_so before empty = page.empty
-  kept_so before (reached {i = i} r rest) = page.kept (is i r) (kept_so (i ∷ before) rest)
-  kept_so before (passed {i = i} n rest) = page.passed (λ k. n (back i k)) (kept_so (i ∷ before) rest)
+-- what names a parent was read
+names_there : (objects : Objects) (c i : ObjectId) → Contains (parents_of objects c) i → IsSome (commit_at objects c)
+names_there objects c i m = go (commit_at objects c) refl
+  where
+    go : (o : Option Commit) → commit_at objects c ≡ o → IsSome o
+    go None e = absurd (no_member i (subst (λ xs. Contains xs i) (ap parents_in e) m))
+    go (Some commit) e = refl
 
--- where all that the tip reaches are whole commits
-pub contained_kept : (objects : Objects) (tip : ObjectId) (ids those : List ObjectId) → AreWhole objects (tip ∷ ids) → AreContained (parents_of objects) (tip ∷ []) ids those
-    → page.Keeps (λ (before : List ObjectId) i (after : List ObjectId). page.Reaches (text_next objects) (tip ∷ []) i) [] ids those
-contained_kept objects tip ids those whole k =
-    let first = Contains-here tip ids in
-    kept_so (parents_of objects) (tip ∷ []) (page.Reaches (text_next objects) (tip ∷ []))
-    (λ i r. reaches (text_next objects) (tip ∷ []) i (by_texts objects (tip ∷ ids) whole tip first i r))
-    (λ i r. by_commits objects (tip ∷ ids) whole tip first i (reaches_back (text_next objects) (tip ∷ []) i r)) [] k
+module _ (objects : Objects) (other : ObjectId → List ObjectId) (times : ObjectId → ℤ) (another : page.IsHistory (page_objects objects) [] other times) (tip : ObjectId) where
+  same : (c : ObjectId) → IsSome (commit_at objects c) → parents_of objects c ≡ other c
+  same c w =
+      text_whole objects c (whole_from objects c w)
+      ∙ same_parents (page_objects objects) [] (text_next objects) other (time_of objects) times (fed_history objects) another c (whole_there objects c (whole_from objects c w))
+
+  -- what is reached by the commits at hand is reached in each history
+  forward : (i : ObjectId) → Reaches (parents_of objects) (tip ∷ []) i → page.Reaches other (tip ∷ []) i
+  forward i (start s) = page.start s
+  forward i (step {c = c} r m) = page.parent (forward c r) (subst (λ xs. Contains xs i) (same c (names_there objects c i m)) m)
+
+  -- and no more, where all of that is whole
+  backward : AreWhole objects (tip ∷ []) → (i : ObjectId) → page.Reaches other (tip ∷ []) i → Reaches (parents_of objects) (tip ∷ []) i
+  backward whole i (page.start s) = start s
+  backward whole i (page.parent {child = c} r m) = let before = backward whole c r in step before (subst (λ xs. Contains xs i) (sym (same c (whole c before))) m)
+
+  pub contained_kept : (before ids : List ObjectId) {those : List ObjectId} → AreContained (parents_of objects) (tip ∷ []) ids those
+      → ((a : ObjectId) → Contains ids a → (Reaches (parents_of objects) (tip ∷ []) a → ⊥) → AreWhole objects (tip ∷ []))
+      → page.Keeps (λ (before : List ObjectId) i (after : List ObjectId). page.Reaches other (tip ∷ []) i) before ids those
+  contained_kept before [] empty whole = page.empty
+  contained_kept before (i ∷ ids) (reached r rest) whole = page.kept (forward i r) (contained_kept (i ∷ before) ids rest (λ a c. whole a (Contains-there a i ids c)))
+  contained_kept before (i ∷ ids) (passed n rest) whole =
+      page.passed (λ k. n (backward (whole i (Contains-here i ids) n) i k)) (contained_kept (i ∷ before) ids rest (λ a c. whole a (Contains-there a i ids c)))

@@ -1,8 +1,9 @@
 -- Where all that is reached reads whole, no commit is a fault.
-use Rattle.std.proofs.Common.{◌≡◌, List, ◌++◌, Some, None, sym, ap, ◌∙◌}
+use Rattle.std.proofs.Common.{◌≡◌, List, ◌++◌, Some, None, sym, ap, ⊎_elim, ◌∙◌}
+use Rattle.std.proofs.lemmas.List.Elements.{Contains-append_left, Contains-append_right}
 use Rattle.gix_hash.specs.declared.ObjectId.{ObjectId}
 use Rattle.gix_hash.specs.Id.{kind_of}
-use Rattle.gix_hash.specs.Reach.{Reaches}
+use Rattle.gix_hash.specs.Reach.{Reaches, start}
 use Rattle.gix_object.specs.declared.find.existing_iter.Error.TheVariants as existing
 use Rattle.gix_object.specs.CommitItems.{commit_items}
 use Rattle.gix_object.specs.Object.{Objects}
@@ -17,6 +18,7 @@ use Rattle.gix_paint.proofs.Invariant.{own_history}
 use Rattle.gix_revwalk.specs.Agreeing.{IsAgreeing}
 use Rattle.gix_revwalk.specs.Commits.{ReadsWhole, commit_of_object, parents_of}
 use Rattle.gix_revwalk.proofs.Committer.{fault_unread}
+use Rattle.gix_revwalk.proofs.Reached.{reach_more}
 use Rattle.gix_revwalk.proofs.ReadsWhole.{no_fault}
 
 module _ (objects : Objects) (faulty : ObjectId → Type 0) where
@@ -30,4 +32,5 @@ module _ (objects : Objects) (faulty : ObjectId → Type 0) where
       → ((i : ObjectId) → Reaches (parents_of objects) (ids ++ tips) i → ReadsWhole objects i) → FailsBy objects faulty rows tips ids e
       → e ≡ error.Find existing.Store
   store_alone rows tips ids e agreeing whole (why, f, is) =
-      is ∙ at_whole f.id why (whole f.id (f.reached objects (own_history objects faulty rows agreeing))) f.fault
+      is ∙ at_whole f.id why
+      (whole f.id (⊎_elim (λ m. start (Contains-append_left ids tips f.id m)) (reach_more (parents_of objects) tips (ids ++ tips) (Contains-append_right ids tips) f.id) (f.reached objects (own_history objects faulty rows agreeing)))) f.fault

@@ -1,16 +1,17 @@
--- The ids that were painted are those that tips reach.
-use Rattle.std.proofs.Common.{◌≡◌, ◌⊎◌, List, [], ◌∷◌, Bool, true, false, cond, filter, Contains, refl, sym, subst, inl, ⊎_elim, ◌∙◌}
+-- The ids that were met are those that tips reach.
+use Rattle.std.proofs.Common.{◌≡◌, ◌⊎◌, List, [], ◌∷◌, Bool, true, false, cond, filter, None, Contains, IsSome, refl, sym, subst, ⊎_elim, ◌∙◌}
 use Rattle.std.specs.FinSet as set
-use Rattle.std.proofs.lemmas.Bool.{false≢true}
+use Rattle.std.proofs.lemmas.Bool.{false≢true, false_from_ne_true}
+use Rattle.std.proofs.lemmas.List.Elements.{Contains-append_cases}
 use Rattle.gix_hash.specs.declared.ObjectId.{ObjectId}
 use Rattle.gix_hash.specs.Id.{id_cmp}
 use Rattle.gix_hash.specs.Reach.{Reaches, start, step}
 use Rattle.gix_hash.proofs.Ids.Membership.{Contains-here, Contains-there, no_member}
 use Rattle.gix_object.specs.Object.{Objects}
-use Rattle.gix_commitgraph.specs.Rows.{GraphRow}
+use Rattle.gix_commitgraph.specs.Rows.{GraphRow, row_of}
 use Rattle.gix_contained.specs.Contained.{AreContained, empty, reached, passed, Selects}
-use Rattle.gix_paint.specs.Painting.{Paints}
-use Rattle.gix_revwalk.specs.Commits.{parents_of}
+use Rattle.gix_contained.specs.Inside.Search.{Decides}
+use Rattle.gix_revwalk.specs.Commits.{commit_at, parents_of}
 
 module _ (parents : ObjectId → List ObjectId) where
   -- without tips nothing is reached
@@ -38,13 +39,15 @@ module _ (objects : Objects) (rows : List GraphRow) where
   without_tips : (ids : List ObjectId) → Selects objects rows [] ids []
   without_tips ids = record {
     exact = λ history h. none_contained (parents_of history) ids;
-    read = λ history h no_tips some i r n. absurd (no_tips refl);
+    read = λ history h no_tips some i c n. absurd (no_tips refl);
+    read_all = λ history h no_tips a c u i r n. absurd (no_tips refl);
   }
 
   without_ids : (tips : List ObjectId) → Selects objects rows tips [] []
   without_ids tips = record {
     exact = λ history h. empty;
-    read = λ history h some no_ids i r n. absurd (no_ids refl);
+    read = λ history h some no_ids i c n. absurd (no_ids refl);
+    read_all = λ history h some a c u i r n. absurd (no_member a c);
   }
 
   -- without tips or ids nothing is selected
@@ -53,16 +56,11 @@ module _ (objects : Objects) (rows : List GraphRow) where
       (λ e. subst (λ xs. Selects objects rows xs ids []) (sym e) (without_tips ids))
       (λ e. subst (λ xs. Selects objects rows tips xs []) (sym e) (without_ids tips)) either)
 
-  painted : (tips ids : List ObjectId) (marks : set.FinSet id_cmp) (left : List GraphRow) → Paints objects rows ids tips marks left
-      → Selects objects rows tips ids (filter (set.contains marks) ids)
-  painted tips ids marks left p = record {
-    exact = λ history h.
-        kept (parents_of history) tips (set.contains marks) ids (p.marked history h).sound (λ i m. (p.marked history h).whole i (inl m));
-    read = λ history h some_tips some_ids. p.rowless history h;
-  }
-
-  -- what a painting marked of the ids is selected
-  pub painted_selected : (tips ids asked those : List ObjectId) (marks : set.FinSet id_cmp) (left : List GraphRow) → asked ≡ ids
-      → Paints objects rows asked tips marks left → those ≡ filter (set.contains marks) ids → Selects objects rows tips ids those
-  painted_selected tips ids asked those marks left same p is =
-      subst (Selects objects rows tips ids) (sym is) (painted tips ids marks left (subst (λ xs. Paints objects rows xs tips marks left) same p))
+  -- what was met of the ids is selected
+  pub met_selected : (tips ids those : List ObjectId) (met : set.FinSet id_cmp) → ((i : ObjectId) → Contains ids i → row_of rows i ≡ None → IsSome (commit_at objects i)) → Decides objects rows tips ids met
+      → those ≡ filter (set.contains met) ids → Selects objects rows tips ids those
+  met_selected tips ids those met looked_up d is = subst (Selects objects rows tips ids) (sym is) (record {
+    exact = λ history h. kept (parents_of history) tips (set.contains met) ids (d.sound history h) (d.whole history h);
+    read = λ history h some_tips some_ids i c n. ⊎_elim (λ m. looked_up i m n) (λ m. d.tips_read history h i m n) (Contains-append_cases ids tips i c);
+    read_all = λ history h some_tips a c unreached i r n. d.read history h a c (false_from_ne_true (set.contains met a) (λ e. unreached (d.sound history h a e))) i r n;
+  })

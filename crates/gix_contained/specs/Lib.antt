@@ -2,3 +2,5 @@
 pub mod Contained
 -- The statements of the laws.
 pub mod Laws
+-- What the search holds and does.
+pub mod Inside

@@ -6,19 +6,19 @@ ghost use Rattle.std.specs.FinSet as set;
 ghost use Rattle.gix_contained.specs.declared.Error.TheVariants as error;
 ghost use Rattle.gix_contained.specs.Contained.{Selects, FailsBy};
 ghost use Rattle.gix_revwalk.specs.Agreeing.{rows_in};
-ghost use Rattle.gix_revwalk.specs.Ids.{ids_of};
 
 pub mod laws;
+mod search;
+mod source;
 
 use gix_commitgraph::Graph;
 use gix_hash::ObjectId;
+use gix_hash::hashtable::IdSet;
 use gix_object::decode;
 use gix_object::find::{Find, existing_iter};
-use gix_paint::{Hidden, HiddenIds, paint};
-use gix_revwalk::Pending;
-use gix_revwalk::row::NOWHERE;
+use gix_paint::Hidden;
+use search::{look_up_all, reached};
 use std::alloc::{AllocError, Global};
-use std::collections::VecDeque;
 use thiserror::Error;
 
 /// Why it isn't known which commits are contained.
@@ -61,9 +61,11 @@ impl From<AllocError> for Error {
 
 /// Of the ids, in the order given and with repeats, those that the tips reach through all parents. A tip reaches itself.
 ///
-/// All ids are asked about at once: tips and ids are read by falling generation, each commit once, and where each of them has a row of the
-/// commit-graph, reading stops at the generation that decides the last id. Without one all that tips and ids reach is read. Without tips or
-/// ids nothing is. A corrupt row drops the commit-graph for the rest of the call.
+/// All ids are asked about at once. Each id and each tip is looked up. Then the search goes from the tips through parents, the newest first,
+/// or those of the greatest generation where they have rows of a commit-graph, and each commit is read once. It ends as soon as all ids were
+/// met, or all that waits is of a lower generation than each id that wasn't. So an id just below a tip is found at once; and where one isn't
+/// contained, all that the tips reach is read, but for what rows decide. Without tips or ids nothing is read. A corrupt row drops the
+/// commit-graph for the rest of the call.
 ///
 /// ```text
 /// 1----2----4 <- release
@@ -76,7 +78,7 @@ impl From<AllocError> for Error {
 /// # Errors
 ///
 /// No answer is given where it isn't known which parents a commit has that has to be read, be it a tip, an id that is asked about, or one
-/// that these reach:
+/// that the tips reach:
 /// - `Find` if the store hasn't the commit, has an object of another kind, or can't read it,
 /// - `ObjectDecode` if the commit's bytes are broken before its committer ends,
 /// - `Memory` when out of memory.
@@ -93,38 +95,19 @@ pub fn contained<F: Find>(
     if tips.is_empty() || ids.is_empty() {
         return Ok(Vec::new(alloc));
     }
-    let pending = pending_of(alloc, ids)?;
-    let painting = paint(alloc, objects, graph, &pending, tips)?;
-    let those = hidden_among(alloc, ids, &painting.hidden)?;
+    let asked = look_up_all(alloc, objects, graph, ids)?;
+    let met = reached(alloc, objects, graph, tips, asked)?;
+    let those = met_among(alloc, ids, &met)?;
     Ok(those)
 }
 
-/// The ids as the tips of a painting, which looks at no time of theirs.
-fn pending_of(alloc: Global, ids: &[ObjectId]) -> Result<VecDeque<Pending>, AllocError>
-    ensures { IfOk result (λ pending. ids_of pending.items ≡ ids.now) }
-{
-    let mut pending = VecDeque::new(alloc);
-    for id in ids {
-        pending.push_back(Pending {
-            id: *id,
-            time: 0,
-            near: NOWHERE,
-        })?;
-    }
-    Ok(pending)
-}
-
-/// The ids that were painted, in order.
-fn hidden_among(
-    alloc: Global,
-    ids: &[ObjectId],
-    hidden: &HiddenIds,
-) -> Result<Vec<ObjectId>, AllocError>
-    ensures { IfOk result (λ those. those.items ≡ filter (set.contains hidden.now) ids.now) }
+/// The ids that were met, in order.
+fn met_among(alloc: Global, ids: &[ObjectId], met: &IdSet) -> Result<Vec<ObjectId>, AllocError>
+    ensures { IfOk result (λ those. those.items ≡ filter (set.contains met.now) ids.now) }
 {
     let mut those = Vec::new(alloc);
     for id in ids {
-        if hidden.contains(id) {
+        if met.contains(id) {
             those.push(*id)?;
         }
     }

@@ -106,14 +106,20 @@ static TABLES: [Table<'static>; 9] = [
         },
         cases: &[
             (&[8], &[3], "Tag-3-for-Commit"),
-            (&[7], &[4, 6], "Tag-3-for-Commit"),
+            (&[8], &[1], "Tag-3-for-Commit"),
+            // What the ids reach isn't read, but for what the tips reach too.
+            (&[7], &[4, 6], "4"),
             (&[7], &[4], "4"),
         ],
         ..OF_SAMPLE
     },
     Table {
         fails: Some(2),
-        cases: &[(&[8], &[7], "store")],
+        cases: &[
+            (&[8], &[1], "store"),
+            // The newest are read first, until all is known.
+            (&[8], &[7], "7"),
+        ],
         ..OF_SAMPLE
     },
     // A commit that has a row isn't looked up.

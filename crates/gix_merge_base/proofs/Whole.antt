@@ -1,8 +1,7 @@
 -- The whole call: first common ancestors, what other parents of them reach, and what is left.
-use Rattle.std.proofs.Common.{◌≡◌, ◌≢◌, List, ◌∷◌, ◌++◌, Result, Err, IfErr, Contains, IsPermutation, refl, sym, ap, subst, ⊎_elim, ◌∙◌}
+use Rattle.std.proofs.Common.{◌≡◌, ◌≢◌, List, ◌∷◌, Result, Err, IfErr, Contains, IsPermutation, refl, sym, ap, subst, ⊎_elim, ◌∙◌}
 use Rattle.std.specs.FinSet as set
 use Rattle.std.specs.List.Sorted.{IsSorted}
-use Rattle.std.proofs.lemmas.List.Elements.{Contains-append_cases}
 use Rattle.gix_hash.specs.declared.ObjectId.{ObjectId}
 use Rattle.gix_hash.specs.Id.{id_cmp}
 use Rattle.gix_hash.specs.Reach.{Reaches, step}
@@ -80,7 +79,7 @@ module _ (objects : Objects) (faulty : ObjectId → Type 0) (rows : List GraphRo
           is = is ∙ ap error_of_contained r.2 ∙ by_contained r.0;
           id = r.1.id;
           fault = r.1.fault;
-          reached = reaches_from (parents_of objects) (common ++ parents) (one ∷ others) (λ j m. ⊎_elim (common_below agreeing j) (parents_below agreeing reads j) (Contains-append_cases common parents j m)) r.1.id (r.1.reached objects (own_history objects faulty rows agreeing));
+          reached = ⊎_elim (common_below agreeing r.1.id) (reaches_from (parents_of objects) parents (one ∷ others) (parents_below agreeing reads) r.1.id) (r.1.reached objects (own_history objects faulty rows agreeing));
         })
 
 -- no common ancestor was found

@@ -18,7 +18,7 @@ use std::io::Write;
 const NOT_ALL_CONTAINED: u8 = 3;
 /// How many objects are read until it is said how many there are.
 const STEP: usize = 8192;
-/// How many commits are read at first, where the first lines are asked for, beside one for each line.
+/// How many commits are read at first, where a part of them may be enough, beside those that are asked for.
 const FIRST_COMMITS: usize = 1000;
 /// How often more are read, at the most: each time four times as many.
 const MOST_READINGS: u32 = 64;
@@ -167,12 +167,12 @@ impl Asking<'_> {
         }
         let ids = self.chosen.all(alloc)?;
         let order = match self.question.name {
-            Name::Newest => Order::NewestFirst,
+            Name::Newest | Name::Contains | Name::IsAncestor => Order::NewestFirst,
             Name::Oldest => Order::OldestFirst,
             _ => Order::Met,
         };
-        let limit = match self.limit() {
-            Some(limit) => limit,
+        let least = match self.least() {
+            Some(least) => least,
             None => {
                 let mut gathering = Gathering::commits(
                     alloc,
@@ -185,12 +185,21 @@ impl Asking<'_> {
             }
         };
         let mut gathering = Gathering::commits(alloc, ids.as_slice(), order, IdSet::new(alloc))?;
-        self.first_lines(repository, &mut gathering, limit, graph, output)?;
-        Ok(0)
+        let lines = self.from_part(repository, &mut gathering, least, graph, output)?;
+        Ok(self.status(lines.as_slice()))
     }
 
-    /// The number of lines that are asked for, where a part of the commits may be enough for these.
-    fn limit(&self) -> Option<usize> {
+    /// Whether the question is which revisions a revision reaches.
+    fn asks_what_is_reached(&self) -> bool {
+        matches!(self.question.name, Name::Contains | Name::IsAncestor)
+    }
+
+    /// How many commits are read at the least, where a part of them may be enough: one for each line that is asked for, or for each
+    /// revision of `contains` and `is-ancestor`.
+    fn least(&self) -> Option<usize> {
+        if self.asks_what_is_reached() {
+            return Some(self.chosen.tips.len());
+        }
         let is_by_one_step = match self.question.name {
             Name::Breadth | Name::Newest | Name::Oldest => true,
             _ => false,
@@ -204,18 +213,19 @@ impl Asking<'_> {
         }
     }
 
-    /// Lists the first commits from a part of the history, and from a larger one where the walk meets a commit that wasn't read yet.
-    fn first_lines<W: Write>(
+    /// Writes the answer from a part of the history, and from a larger one where the command meets a commit that wasn't read yet. The
+    /// lines that were written.
+    fn from_part<W: Write>(
         &mut self,
         repository: &mut Repository<HostRuntime>,
         gathering: &mut Gathering,
-        limit: usize,
+        least: usize,
         graph: Option<&Graph>,
         output: &mut W,
-    ) -> Result<(), Failure> {
+    ) -> Result<Vec<u8>, Failure> {
         let alloc = self.rt.alloc();
         let words = self.chosen.words(alloc, self.question)?;
-        let mut count = limit.saturating_add(FIRST_COMMITS);
+        let mut count = least.saturating_add(FIRST_COMMITS);
         for _ in 0..MOST_READINGS {
             gathering.read_more(&mut repository.odb, graph, count)?;
             let mut lines = Vec::new(alloc);
@@ -234,11 +244,33 @@ impl Asking<'_> {
                 }
             }
             self.progress.end(self.rt);
-            write(output, lines.as_slice())?;
+            self.write_lines(lines.as_slice(), output)?;
             ended?;
-            return Ok(());
+            return Ok(lines);
         }
         Err(Failure::Command(Fault::Internal))
+    }
+
+    /// Writes the lines of the command, as the question asks for them: `contains --names` with words, and `is-ancestor` none.
+    fn write_lines<W: Write>(&self, lines: &[u8], output: &mut W) -> Result<(), Failure> {
+        if self.question.name == Name::IsAncestor {
+            return Ok(());
+        }
+        if self.question.options.gives_names {
+            return write_named(self.rt.alloc(), &self.chosen, lines, output);
+        }
+        write(output, lines)?;
+        Ok(())
+    }
+
+    /// The status of an answer of these lines.
+    fn status(&self, lines: &[u8]) -> u8 {
+        let count = lines.iter().filter(|byte| **byte == b'\n').count();
+        if self.asks_what_is_reached() && count.saturating_add(1) < self.chosen.tips.len() {
+            NOT_ALL_CONTAINED
+        } else {
+            0
+        }
     }
 
     /// Writes the id of each revision, those that are excluded with `^` and behind the others.
@@ -269,38 +301,12 @@ impl Asking<'_> {
                 self.chosen.hidden.extend_from_slice(ids.as_slice())?;
             }
         }
-        let words = self.chosen.words(alloc, self.question)?;
-        match name {
-            Name::Resolve => self.write_ids(output),
-            Name::Contains => {
-                let mut lines = Vec::new(alloc);
-                in_memory(run_named(alloc, words.as_slice(), objects, graph, &mut lines))?;
-                if self.question.options.gives_names {
-                    write_named(alloc, &self.chosen, lines.as_slice(), output)?;
-                } else {
-                    write(output, lines.as_slice())?;
-                }
-                let contained = lines.iter().filter(|byte| **byte == b'\n').count();
-                if contained.saturating_add(1) < self.chosen.tips.len() {
-                    Ok(NOT_ALL_CONTAINED)
-                } else {
-                    Ok(0)
-                }
-            }
-            Name::IsAncestor => {
-                let mut lines = Vec::new(alloc);
-                in_memory(run_named(alloc, words.as_slice(), objects, graph, &mut lines))?;
-                Ok(if lines.is_empty() {
-                    NOT_ALL_CONTAINED
-                } else {
-                    0
-                })
-            }
-            _ => {
-                run_named(alloc, words.as_slice(), objects, graph, output)?;
-                Ok(0)
-            }
+        if name == Name::Resolve {
+            return self.write_ids(output);
         }
+        let words = self.chosen.words(alloc, self.question)?;
+        run_named(alloc, words.as_slice(), objects, graph, output)?;
+        Ok(0)
     }
 }
 

@@ -2,7 +2,7 @@ use Rattle.std.proofs.Common.{◌≡◌, ◌⊎◌, ◌==◌, suc, List, [], ◌
 use Rattle.std.proofs.lemmas.Bool.{false≢true}
 use Rattle.std.proofs.lemmas.Bool.Decides.{eqb_tells}
 use Rattle.gix_hash.specs.declared.ObjectId.{ObjectId}
-use Rattle.gix_contained.proofs.Marked.{none_selected, painted_selected}
+use Rattle.gix_contained.proofs.Marked.{none_selected, met_selected}
 use Rattle.gix_contained.proofs.contained.Goals as goal
 use Rattle.gix_contained.proofs.contained.Goals.{then-is_empty-via-then-is_empty, then-is_empty-via-else-is_empty+then-is_empty-2}
 
@@ -22,5 +22,4 @@ returns-then-is_empty-clause-ok g c =
     none_selected _ _ c.args.tips.now c.args.ids.now _ c.new.ensures.items either
 
 pub returns-clause-ok : goal.returns-clause-ok
-returns-clause-ok g c =
-    painted_selected _ _ c.args.tips.now c.args.ids.now _ _ _ _ c.in_ok-pending.ensures c.in_ok-painting.ensures.ok c.in_ok-those.ensures
+returns-clause-ok g c = met_selected _ _ c.args.tips.now c.args.ids.now _ _ c.in_ok-asked.ensures.ok.read (c.in_ok-met.ensures.ok c.args.ids.now c.in_ok-asked.ensures.ok.are_asked) c.in_ok-those.ensures

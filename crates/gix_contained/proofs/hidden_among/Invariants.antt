@@ -1,7 +1,0 @@
-use Rattle.std.proofs.Common.{◌≡◌, filter, take}
-use Rattle.std.specs.FinSet as set
-use Rattle.gix_contained.proofs.hidden_among.Given as goal
-
--- of the ids so far those are kept that were painted
-abbrev pub invariant-loop-id : goal.invariant-loop-id
-invariant-loop-id l = l.those.items ≡ filter (set.contains l.hidden) (take l.id-index l.ids)

@@ -1,0 +1,2 @@
+-- What the search holds and does.
+pub mod Search
