@@ -16,7 +16,7 @@ use gix_hash::ObjectId;
 use gix_hash::hashtable::IdSet;
 use gix_object::find::Find;
 use gix_revwalk::row::{NOWHERE, Near};
-use gix_revwalk::{ParentIds, Parents};
+use gix_revwalk::{Info, ParentIds, Parents};
 use std::alloc::{AllocError, Global};
 use std::collections::VecDeque;
 
@@ -97,7 +97,7 @@ pub(super) fn last_places(alloc: Global, ids: &[ObjectId]) -> Result<ParentIds, 
 impl<F: Find + Drop> Counting<F> {
     ghost use Rattle.std.specs.Prelude.{IfErr};
     ghost use Rattle.gix_topo.specs.declared.Sorting.{Sorting};
-    ghost use Rattle.gix_topo.specs.Inside.Releasing.{LooksUpParent, plan_over};
+    ghost use Rattle.gix_topo.specs.Inside.Releasing.{FailsAmong, HasRowedParents, LooksUpAll, LooksUpParent, plan_over};
     ghost use Rattle.gix_topo.specs.Inside.Starting.{HasBegun, MeetsAll};
     ghost use Rattle.gix_topo.specs.Walk.{IsBuildFault};
 
@@ -163,6 +163,9 @@ impl<F: Find + Drop> Counting<F> {
         ensures fault { IfErr result (ReadFails (F.objects self.old.reader.find) (F.faulty self.old.reader.find) (rows_of self.old.reader.graph) self.old.reader.in_use id.now) }
     {
         let info = self.reader.read(id, near)?;
+        if info.parent_ids.len() <= 1 {
+            return Ok(info.parent_ids);
+        }
         let mode = match side {
             Side::Tips => self.parents,
             Side::Ends => Parents::All,
@@ -184,6 +187,26 @@ impl<F: Find + Drop> Counting<F> {
             return Ok(());
         }
         self.reader.look_up(id)
+    }
+
+    /// Looks the parents of a commit up, unless it was read by its row: then each of them has a row.
+    ///
+    /// # Errors
+    ///
+    /// Why the first of them that can't be read can't.
+    pub(super) fn look_up_parents(&mut self, info: &Info) -> Result<(), Error>
+        requires { HasRowedParents (F.objects self.old.reader.find) (rows_of self.old.reader.graph) self.old.reader.in_use info.now }
+        ensures same { self.new ≡ self.old }
+        ensures known { OnOk result (LooksUpAll (F.objects self.old.reader.find) (rows_of self.old.reader.graph) self.old.reader.in_use self.old.frontier info.now.parent_ids.items) }
+        ensures fault { IfErr result (FailsAmong (F.objects self.old.reader.find) (F.faulty self.old.reader.find) (rows_of self.old.reader.graph) self.old.reader.in_use info.now.parent_ids.items) }
+    {
+        if info.generation.is_some() {
+            return Ok(());
+        }
+        for parent in info.parent_ids.as_slice() {
+            self.look_up_parent(parent)?;
+        }
+        Ok(())
     }
 
     /// One id more whose parents are read, unless a side has read them before.

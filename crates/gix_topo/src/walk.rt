@@ -49,9 +49,7 @@ impl<F: Find + Drop> Walk<F> {
     {
         let info = self.counting.reader.read(id, near)?;
         let near = self.counting.reader.near;
-        for parent in info.parent_ids.as_slice() {
-            self.counting.look_up_parent(parent)?;
-        }
+        self.counting.look_up_parents(&info)?;
         let time = info.commit_time.unwrap_or(0);
         let Info {
             id,
@@ -162,8 +160,11 @@ impl<F: Find + Drop> Walk<F> {
     {
         let named = walked(self.counting.parents, commit.parent_ids.as_slice());
         self.counting.lower(named, commit.near);
-        let ids = last_places(self.counting.reader.alloc, named)?;
         self.counting.explore()?;
+        if named.len() <= 1 {
+            return self.release_all(named, commit.near);
+        }
+        let ids = last_places(self.counting.reader.alloc, named)?;
         self.release_all(ids.as_slice(), commit.near)
     }
 

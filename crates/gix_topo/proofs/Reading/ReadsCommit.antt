@@ -1,13 +1,25 @@
 -- What reading a commit says of the ids that rows and texts name, and, with rows that agree, of its parents.
-use Rattle.std.proofs.Common.{◌≡◌, ◌≤◌, ◌<◌, ◌^◌, ◌-◌, List, map, Bool, true, Option, Some, None, Ok, Contains, refl, sym, ap, subst, ◌∙◌, arith}
+use Rattle.std.proofs.Common.{◌≡◌, ◌≤◌, ◌<◌, ◌^◌, ◌-◌, List, [], ◌∷◌, map, Bool, true, false, cond, ◌||◌, inl, Option, Some, None, Ok, Contains, refl, sym, ap, subst, ◌∙◌, arith}
 use Rattle.gix_topo.proofs.Common.{or_left, or_right, ObjectId, is_among, Objects, GraphRow, row_of, parents_in, ReadsWhole, parents_of, commit_at, among-append, among_from, no_member, Info, IsAgreeing, known_generation, generation_in}
 use Rattle.gix_topo.proofs.Common.{infinity, is_read, Reads, by_row, by_text, named_ids, row_stands, row_parents, parent_below, text_whole, among_flat}
 use Rattle.std.specs.FinMap as map_of
 use Rattle.gix_object.specs.declared.Kind.TheVariants as object
 use Rattle.gix_object.specs.CommitText.{Commit}
 use Rattle.gix_revwalk.specs.Texts.{text_parents}
+use Rattle.gix_hash.specs.Id.{is_same}
+use Rattle.gix_topo.specs.Inside.Releasing.{HasRowedParents}
 use Rattle.gix_topo.specs.Inside.Searched.{text_next, next_in}
 use Rattle.gix_revwalk.proofs.Rows.{ids_in_rows, found_entry}
+
+-- an id among those of rows has a row
+has_row : (rows : List GraphRow) (i : ObjectId) → is_among i (map (λ row. row.id) rows) ≡ true → (row : GraphRow) × (row_of rows i ≡ Some row)
+has_row [] i e = cc
+has_row (first ∷ rows) i e = go (has_row rows i) (is_same i first.id) e
+  where
+    go : (is_among i (map (λ row. row.id) rows) ≡ true → (row : GraphRow) × (row_of rows i ≡ Some row)) → (b : Bool) → (b || is_among i (map (λ row. row.id) rows)) ≡ true
+        → (row : GraphRow) × (cond b (Some first) (row_of rows i) ≡ Some row)
+    go rest true e = (first, refl)
+    go rest false e = rest e
 
 module _ (objects : Objects) (faulty : ObjectId → Type 0) (rows : List GraphRow) where
   -- the parents that are read are among the ids that rows and texts name
@@ -18,6 +30,13 @@ module _ (objects : Objects) (faulty : ObjectId → Type 0) (rows : List GraphRo
       let entry : Contains (map_of.entries objects) (i, record { kind = object.Commit; bytes = t.0 }) = found_entry (map_of.entries objects) i _ (sym (map_of.get-entries objects i) ∙ t.1) in
       among-append j (map (λ row. row.id) rows) _ ∙ or_right (is_among j (map (λ row. row.id) rows)) _
       (among_flat (λ entry. text_parents entry.0 entry.1) (map_of.entries objects) _ j entry (among_from j _ (subst (λ ids. Contains ids j) t.2.0.same_parents m)))
+
+  -- the parents of a commit that is given with a generation have rows that are in use
+  pub reads_rowed : {in_use : Bool} {i : ObjectId} {info : Info} {new : Bool} → Reads objects faulty rows in_use i (Ok info) new → HasRowedParents objects rows new info
+  reads_rowed (by_row (is_read h says) is) generation e p m =
+      let there = has_row rows p (ids_in_rows rows says.row.parents _ says.parents p (subst (λ ids. Contains ids p) is.same_parents m)) in
+      inl (h, there.0, there.1)
+  reads_rowed (by_text n t) generation e p m = let no : None ≡ Some generation = sym t.2.0.same_generation ∙ e in cc
 
   module _ (agrees : IsAgreeing objects rows) where
     pub reads_text_next : {in_use : Bool} {i : ObjectId} {info : Info} {new : Bool} → Reads objects faulty rows in_use i (Ok info) new → info.parent_ids.items ≡ text_next objects i

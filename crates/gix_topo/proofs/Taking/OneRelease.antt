@@ -1,7 +1,9 @@
 -- How a commit becomes ready.
-use Rattle.std.proofs.Common.{◌≡◌, ◌⊎◌, ◌<◌, ℕ, take, suc, ℤ, pos, List, Bool, Option, Some, None, Ok, Contains, length, sym, ap, subst, ◌∙◌, get_or, take-suc, unwrap_or}
+use Rattle.std.proofs.Common.{◌≡◌, ◌⊎◌, ◌<◌, ◌≤◌, ℕ, take, suc, ℤ, pos, List, [], ◌∷◌, Bool, arith, refl, Option, Some, None, Ok, Contains, length, sym, ap, subst, ◌∙◌, get_or, take-suc, unwrap_or}
 use Rattle.gix_topo.proofs.Common.{Contains-get_or, Contains-push_cases, ObjectId, Objects, GraphRow, Info, Error, Walk, rows_of, Reads, by_row, by_text, LookUpFails, Counting, least, Explores, IsRested, by_mode, last_places, Ready}
 use Rattle.gix_topo.proofs.Common.{LooksUpParent, IsPushFault, parent, lowered, with_counting, TakesOne, IsTakingFault, releasing, ReleasesAll, IsFaultAmong}
+use Rattle.gix_revwalk.specs.declared.Parents.{Parents}
+use Rattle.gix_revwalk.specs.declared.Parents.TheVariants as mode
 use Rattle.gix_topo.specs.Inside.Reader.{Reader}
 
 -- what is read has the id that was asked for, and a time
@@ -40,9 +42,26 @@ pub looks_up_by : {F : Type 0} (objects : F → Objects) {now before : Counting 
     → LooksUpParent (objects before.reader.find) (rows_of before.reader.graph) before.reader.in_use before.frontier p
 looks_up_by objects same p = subst (λ c. LooksUpParent (objects c.reader.find) (rows_of c.reader.graph) c.reader.in_use c.frontier p) same
 
+-- and so does it fail
+pub fails_by : {F : Type 0} (objects : F → Objects) (faulty : F → ObjectId → Type 0) {now before : Counting F} → now ≡ before → (p : ObjectId) (e : Error) → LookUpFails (objects now.reader.find) (faulty now.reader.find) (rows_of now.reader.graph) now.reader.in_use p e
+    → LookUpFails (objects before.reader.find) (faulty before.reader.find) (rows_of before.reader.graph) before.reader.in_use p e
+fails_by objects faulty same p e = subst (λ c. LookUpFails (objects c.reader.find) (faulty c.reader.find) (rows_of c.reader.graph) c.reader.in_use p e) same
+
 pub time_told : (o : Option ℤ) (d r : ℤ) → o ≡ Some (or_zero o) → r ≡ unwrap_or o d → Some (or_zero o) ≡ Some r
 time_told None d r e u = cc
 time_told (Some t) d r e u = ap Some (sym u)
+
+-- of one id at most each mode takes all, and each is at its last place
+pub mode_of_one : (m : Parents) (ids : List ObjectId) → length ids ≤ 1 → by_mode m ids ≡ ids
+mode_of_one mode.All ids few = refl
+mode_of_one mode.First [] few = refl
+mode_of_one mode.First (i ∷ []) few = refl
+mode_of_one mode.First (i ∷ j ∷ ids) few = absurd (omega arith)
+
+pub last_of_one : (ids : List ObjectId) → length ids ≤ 1 → ids ≡ last_places ids
+last_of_one [] few = refl
+last_of_one (i ∷ []) few = refl
+last_of_one (i ∷ j ∷ ids) few = absurd (omega arith)
 
 -- a commit is taken, put together from what the parts did
 module _ {F : Type 0} (objects : F → Objects) (faulty : F → ObjectId → Type 0) (old : Walk F) (r : Ready) (low : Counting F) (named ids : List ObjectId) (by : named ≡ by_mode old.counting.parents r.parents) (lows : low ≡ record old.counting { depth = least (rows_of old.counting.reader.graph) old.counting.depth named }) (at : ids ≡ last_places named) where

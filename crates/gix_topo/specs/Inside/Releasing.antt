@@ -1,5 +1,5 @@
 -- How the parents of a taken commit become ready.
-use Rattle.std.specs.Prelude.{◌≡◌, ◌⊎◌, ◌+◌, ℕ, List, [], ◌∷◌, ◌++◌, Bool, true, false, not, ◌&&◌, Ok, Contains}
+use Rattle.std.specs.Prelude.{◌≡◌, ◌⊎◌, ◌+◌, ℕ, List, [], ◌∷◌, ◌++◌, Bool, true, false, not, ◌&&◌, Some, Ok, Contains}
 use Rattle.std.specs.FinSet as set
 use Rattle.std.specs.FinMap as map_of
 use Rattle.gix_hash.specs.declared.ObjectId.{ObjectId}
@@ -59,6 +59,19 @@ pub record IsSameWalk {F : Type 0} (old new : Walk F) : Type 0 where
 -- what is known: an id that a search has read, as long as the rows are in use, or one with a row, or one that can be read
 abbrev pub LooksUpParent : Objects → List GraphRow → Bool → Frontier → ObjectId → Type 0
 LooksUpParent objects rows in_use f i = ((in_use ≡ true) × IsDone f i) ⊎ IsKnown objects rows in_use i
+
+-- the same of all of these ids
+abbrev pub LooksUpAll : Objects → List GraphRow → Bool → Frontier → List ObjectId → Type 0
+LooksUpAll objects rows in_use f ids = (p : ObjectId) → Contains ids p → LooksUpParent objects rows in_use f p
+
+-- why one of these ids can't be looked up
+abbrev pub FailsAmong : Objects → (ObjectId → Type 0) → List GraphRow → Bool → List ObjectId → Error → Type 0
+FailsAmong objects faulty rows in_use ids e = (p : ObjectId) × Contains ids p × LookUpFails objects faulty rows in_use p e
+
+-- a commit that is given with a generation has parents that are known
+abbrev pub HasRowedParents : Objects → List GraphRow → Bool → Info → Type 0
+HasRowedParents objects rows in_use info = (generation : ℕ) → info.generation ≡ Some generation
+    → (p : ObjectId) → Contains info.parent_ids.items p → IsKnown objects rows in_use p
 
 module _ {F : Type 0} (objects : F → Objects) (faulty : F → ObjectId → Type 0) where
   -- a commit is read, and becomes ready
