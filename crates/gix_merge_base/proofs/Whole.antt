@@ -1,5 +1,5 @@
 -- The whole call: first common ancestors, what other parents of them reach, and what is left.
-use Rattle.std.proofs.Common.{◌≡◌, ◌≢◌, List, ◌∷◌, ◌++◌, Result, Err, IfErr, Contains, refl, sym, ap, subst, ⊎_elim, ◌∙◌}
+use Rattle.std.proofs.Common.{◌≡◌, ◌≢◌, List, ◌∷◌, Result, Err, IfErr, Contains, refl, sym, ap, subst, ⊎_elim, ◌∙◌}
 use Rattle.std.specs.FinSet as set
 use Rattle.gix_hash.specs.declared.ObjectId.{ObjectId}
 use Rattle.gix_hash.specs.Id.{id_cmp}
