@@ -1,7 +1,7 @@
 -- What is stored as a whole commit is a commit of the statement, and what is stored is one history.
 use Rattle.std.proofs.Common.{◌≡◌, ◌≢◌, ◌++◌, ℕ, ℤ, pos, List, [], ◌∷◌, take, Option, Some, None, All, Contains, codes, refl, sym, ap, subst, ◌∙◌, inl, inr, ⊎_elim, arith}
-use Rattle.gix_commands.proofs.Common.{get, none-some, All-contains, Contains-get_or, ObjectId, kind_of, Commit, seconds_of, Object, Objects, kind_word, commit_at, commit_of_object, time_of, time_in, next_in, text_next, no_member}
-use Rattle.gix_commands.proofs.Common.{parents_of, ReadsWhole, commit_stored, whole_from, Contains-here, reach_more, Contains-cons_cases, AreWhole, Spells, digits_in}
+use Rattle.gix_commands.proofs.Common.{get, none-some, All-contains, ObjectId, kind_of, Commit, seconds_of, Object, Objects, kind_word, commit_at, commit_of_object, time_of, time_in, next_in, text_next, no_member}
+use Rattle.gix_commands.proofs.Common.{parents_of, ReadsWhole, commit_stored, whole_from, reach_more, Contains-cons_cases, AreWhole, Spells, digits_in}
 use Rattle.gix_object.specs.declared.Kind.TheVariants as kind
 use Rattle.gix_object.proofs.Commits.Texts.{reads_texts}
 use Rattle.gix_statement.proofs.OneCommit.{drop_word, line_same, one_commit, signed_same}

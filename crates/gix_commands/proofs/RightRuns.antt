@@ -78,7 +78,7 @@ module _ (objects : Objects) (rows : List GraphRow) (agrees : IsAgreeing objects
       let k = selected_so tip ids objects rows agrees old new some s in
       subst (EachSo new) (sym is) (λ other times another.
       contains tips some (λ n d below. whole_there objects _ (whole_from objects _ (k.there _ (Contains-get_or (tip ∷ ids) n d below))))
-      (contained_kept objects other times another tip [] ids k.exact k.whole) (subst (Appends old new) (id_lines k.those) k.written))
+      (contained_kept objects other times another tip [] k.exact k.whole) (subst (Appends old new) (id_lines k.those) k.written))
   contained_right words tip ids w (Err e) new (not_selected why f) = inl refl
   contained_right words tip ids w (Err e) new unserved = inl refl
   contained_right words tip ids w (Err e) new (cut_off {answer = answer} {full = full} some more s a b) = cut_right (page_objects objects) words old answer full new some more (contained_right words tip ids w answer full s) a b

@@ -34,10 +34,10 @@ module _ (objects : Objects) (other : ObjectId → List ObjectId) (times : Objec
   backward whole i (page.start s) = start s
   backward whole i (page.parent {child = c} r m) = let before = backward whole c r in step before (subst (λ xs. Contains xs i) (sym (same c (whole c before))) m)
 
-  pub contained_kept : (before ids : List ObjectId) {those : List ObjectId} → AreContained (parents_of objects) (tip ∷ []) ids those
+  pub contained_kept : (before : List ObjectId) {ids those : List ObjectId} → AreContained (parents_of objects) (tip ∷ []) ids those
       → ((a : ObjectId) → Contains ids a → (Reaches (parents_of objects) (tip ∷ []) a → ⊥) → AreWhole objects (tip ∷ []))
       → page.Keeps (λ (before : List ObjectId) i (after : List ObjectId). page.Reaches other (tip ∷ []) i) before ids those
-  contained_kept before [] empty whole = page.empty
-  contained_kept before (i ∷ ids) (reached r rest) whole = page.kept (forward i r) (contained_kept (i ∷ before) ids rest (λ a c. whole a (Contains-there a i ids c)))
-  contained_kept before (i ∷ ids) (passed n rest) whole =
-      page.passed (λ k. n (backward (whole i (Contains-here i ids) n) i k)) (contained_kept (i ∷ before) ids rest (λ a c. whole a (Contains-there a i ids c)))
+  contained_kept before empty whole = page.empty
+  contained_kept before (reached {i = i} {ids = more} r rest) whole = page.kept (forward i r) (contained_kept (i ∷ before) rest (λ a c. whole a (Contains-there a i more c)))
+  contained_kept before (passed {i = i} {ids = more} n rest) whole =
+      page.passed (λ k. n (backward (whole i (Contains-here i more) n) i k)) (contained_kept (i ∷ before) rest (λ a c. whole a (Contains-there a i more c)))
