@@ -11,6 +11,7 @@ mod FileFacts
 mod NotedNames
 mod ListerFacts
 mod LostParents
+mod RowedParents
 mod CheckedWalks
 mod CheckedSteps
 mod AheadFacts

@@ -1,5 +1,5 @@
 -- A walk by time that goes on only where the parents of each commit that it gave are there.
-use Rattle.std.specs.Prelude.{◌≡◌, ◌≢◌, ◌+◌, ◌-◌, ◌*◌, ◌<◌, ℕ, List, [], ◌∷◌, ◌++◌, length, take, Contains, Option, Some, None, Result, Ok, Err}
+use Rattle.std.specs.Prelude.{◌≡◌, ◌≢◌, ◌⊎◌, ◌+◌, ◌-◌, ◌*◌, ◌<◌, ℕ, List, [], ◌∷◌, ◌++◌, length, take, Contains, Option, Some, None, Result, Ok, Err}
 use Rattle.std.specs.FinMap.{get}
 use Rattle.std.specs.Option.{option_or}
 use Rattle.gix_hash.specs.declared.ObjectId.{ObjectId}
@@ -80,6 +80,14 @@ pub record LacksParent (objects : Objects) (rows : List GraphRow) (infos : List 
 -- what the look at some commits finds, unless memory runs out
 abbrev pub Looks : Objects → List GraphRow → List ObjectId → Option Fault → Type 0
 Looks objects rows ids found = found ≢ Some fault.Memory → found ≡ first_lost objects rows ids
+
+-- behind a commit that is given with a generation nothing is found
+abbrev pub HasRows : Objects → List GraphRow → Info → Type 0
+HasRows objects rows info = (generation : ℕ) → info.generation ≡ Some generation → HasParents objects rows info
+
+-- a walk has these rows, or none since one of them proved corrupt
+abbrev pub KeepsRows : List GraphRow → List GraphRow → Type 0
+KeepsRows rows left = (left ≡ rows) ⊎ (left ≡ [])
 
 -- a walk over objects and rows, and the fault that comes next, if there is one
 pub record CheckedWalk : Type 0 where

@@ -3,7 +3,7 @@ ghost use Rattle.std.specs.Prelude.{◌≡◌, ◌≢◌, None, Some, MatchBool}
 ghost use Rattle.gix_commitgraph.specs.Rows.{row_of};
 ghost use Rattle.gix_revwalk.specs.Agreeing.{rows_in};
 ghost use Rattle.gix_graph_store.specs.WithRows.{with_rows};
-ghost use Rattle.gix_commands.specs.Checked.{Looks, lost_at};
+ghost use Rattle.gix_commands.specs.Checked.{HasRows, Looks, lost_at};
 ghost use Rattle.gix_commands.specs.Readable.{is_first, readable};
 
 use crate::commits::Lent;
@@ -19,6 +19,8 @@ use std::marker::Model;
 /// A walk by time that looks, behind each commit that it gives, whether the commit's parents are there: whether each has a row, or is a
 /// commit that can be read to its committer. A walk takes any other parent for one of 1970, so it would leave it out, or put it last,
 /// and what comes behind would be in a wrong place. So the next answer is the fault of the first such parent.
+///
+/// A commit that the walk read by its row isn't looked at: each of its parents has a row.
 #[derive(Drop)]
 pub struct Checked<'a> {
     walk: Simple<Lent<'a>, Unfiltered>,
@@ -43,10 +45,14 @@ impl<'a> Model for Checked<'a> {
     ghost coded = { Prim.hlevel (codes, id_set_code, map.code {R = id_cmp} id_code object_code) };
 
     ghost view = { λ c. record { walk = c.walk; objects = c.objects; rows = rows_in c.graph; lost = c.lost } };
+
+    ghost use Rattle.gix_commands.specs.Checked.{KeepsRows};
+
+    ghost invariant = { λ c. KeepsRows (rows_in c.graph) c.walk.rows };
 }
 
 impl<'a> Checked<'a> {
-    /// The walk, which is over this store and these rows, through these parents. Nothing is read yet.
+    /// The walk, which is over this store and these rows, through these parents, and has these rows. Nothing is read yet.
     pub fn new(
         alloc: Global,
         walk: Simple<Lent<'a>, Unfiltered>,
@@ -54,6 +60,7 @@ impl<'a> Checked<'a> {
         store: &'a LentStore<'a>,
         graph: Option<&'a Graph>,
     ) -> Checked<'a>
+        requires { walk.rows ≡ rows_in graph }
         ensures { result ≡ record { walk = walk.entry; objects = readable (is_first parents) (with_rows (rows_in graph.entry) store.now); rows = rows_in graph.entry; lost = None } }
     {
         Checked {
@@ -107,6 +114,18 @@ impl<'a> Checked<'a> {
         }
         None
     }
+
+    /// Why the first parent of this commit that isn't there isn't. A commit with a generation was read by its row, so it has none.
+    fn lost_parent(&mut self, info: &Info) -> Option<Fault>
+        requires { HasRows self.now.objects self.now.rows info.now }
+        ensures looks { Looks self.old.objects self.old.rows info.now.parent_ids.items result }
+        ensures kept { self.new ≡ self.old }
+    {
+        if info.generation.is_some() {
+            return None;
+        }
+        self.first_lost(info.parent_ids.as_slice())
+    }
 }
 
 impl Iterator for Checked<'_> {
@@ -125,7 +144,7 @@ impl Iterator for Checked<'_> {
         }
         match self.walk.next()? {
             Ok(info) => {
-                self.lost = self.first_lost(info.parent_ids.as_slice());
+                self.lost = self.lost_parent(&info);
                 Some(Ok(info))
             }
             Err(fault) => Some(Err(Fault::from(fault))),

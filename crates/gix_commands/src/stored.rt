@@ -99,6 +99,9 @@ fn check_graph(alloc: Global, store: &LentStore<'_>, graph: &Graph) -> Result<()
     if let Some(id) = first_unsound(graph) {
         return Err(Fault::Row(id));
     }
+    if store.is_empty() {
+        return Ok(());
+    }
     check_stored(alloc, graph, store)?;
     Ok(())
 }

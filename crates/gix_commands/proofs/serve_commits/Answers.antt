@@ -17,6 +17,9 @@ returns-in-BreadthFirst g c =
     subst (λ (o : Order). Serves (readable (reads_all_lines (Commits o c.args.limit c.args.tips.items c.args.hidden.items)) (with_rows (rows_in c.args.graph) c.args.store.now)) (rows_in c.args.graph) (g.W.Write.contents c.args.writer.now) (Commits o c.args.limit c.args.tips.items c.args.hidden.items) c.write_commits.result (g.W.Write.contents c.write_commits.new.writer)) (sym c.in-Simple.is)
     (serves_walk _ _ _ _ _ _ _ _ _ _ c.in-BreadthFirst.is c.in_ok-walk-in-Simple.ensures.ok _ c.write_commits.ensures)
 
+pub new-checked-requires : goal.new-checked-requires
+new-checked-requires g c = ap (λ w. w.rows) c.in_ok-walk-in-Simple.ensures.ok.hides
+
 pub returns-in_default : goal.returns-in_default
 returns-in_default g c =
     subst (λ (o : Order). Serves (readable (reads_all_lines (Commits o c.args.limit c.args.tips.items c.args.hidden.items)) (with_rows (rows_in c.args.graph) c.args.store.now)) (rows_in c.args.graph) (g.W.Write.contents c.args.writer.now) (Commits o c.args.limit c.args.tips.items c.args.hidden.items) c.write_commits-in-Simple.result (g.W.Write.contents c.write_commits-in-Simple.new.writer)) (sym c.in-Simple.is)

@@ -1,6 +1,6 @@
 use Rattle.std.proofs.Common.{IfErr, sym, subst}
 use Rattle.gix_commands.proofs.Common.{err_from_is_err_and}
-use Rattle.gix_commands.proofs.OverStores.{of_disagreement}
+use Rattle.gix_commands.proofs.OverStores.{none_stored, of_disagreement}
 use Rattle.gix_commands.specs.StoredRuns.{FailsToAgree, unsound}
 use Rattle.gix_graph_store.proofs.SoundRows.{told-rows-agree}
 use Rattle.gix_commands.proofs.stored.check_graph.Goals as goal
@@ -22,3 +22,15 @@ returns-clause-agrees c = told-rows-agree c.args.graph.now c.args.store.now c.nu
 
 pub returns-clause-graph : goal.returns-clause-graph
 returns-clause-graph c = c.num_commits.ensures.sound
+
+pub returns-then-is_empty-clause-graph : goal.returns-then-is_empty-clause-graph
+returns-then-is_empty-clause-graph c = c.num_commits.ensures.sound
+
+pub returns-then-is_empty-clause-sound : goal.returns-then-is_empty-clause-sound
+returns-then-is_empty-clause-sound c = c.in_default.ensures
+
+pub returns-then-is_empty-clause-stored : goal.returns-then-is_empty-clause-stored
+returns-then-is_empty-clause-stored c = none_stored c.args.graph.now c.args.store.now (c.is_empty.ensures.0 c.if-is_empty.true)
+
+pub returns-then-is_empty-clause-agrees : goal.returns-then-is_empty-clause-agrees
+returns-then-is_empty-clause-agrees c = told-rows-agree c.args.graph.now c.args.store.now c.num_commits.ensures.sound c.in_default.ensures (none_stored c.args.graph.now c.args.store.now (c.is_empty.ensures.0 c.if-is_empty.true))
