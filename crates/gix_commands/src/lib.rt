@@ -16,8 +16,8 @@ ghost use Rattle.gix_graph_store.specs.WithRows.{with_rows};
 ghost use Rattle.gix_revwalk.specs.Agreeing.{rows_in};
 
 mod ahead;
-mod checked;
-mod commits;
+pub mod checked;
+pub mod commits;
 mod contains;
 mod digits;
 mod files;
