@@ -1,4 +1,4 @@
-use Rattle.std.proofs.Common.{Err, refl, sym, subst, ap, ◌∙◌}
+use Rattle.std.proofs.Common.{[], Err, refl, sym, subst, ap, ◌∙◌}
 use Rattle.std.proofs.lemmas.Result.{err_from_is_err_and}
 use Rattle.gix_graph_store.specs.WithRows.{with_rows}
 use Rattle.gix_words.specs.Words.{Commits}
