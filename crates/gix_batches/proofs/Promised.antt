@@ -1,5 +1,5 @@
 -- What the slices hold is what the page promises of the records.
-use Rattle.std.proofs.Common.{◌≡◌, ◌≢◌, ◌<◌, ℕ, Bool, true, false, List, [], ◌∷◌, ◌++◌, map, length, Option, Some, None, Result, Ok, Err, IfErr, IfOk, refl, sym, ap, subst, ◌∙◌, inl, inr}
+use Rattle.std.proofs.Common.{◌≡◌, ◌≢◌, ◌<◌, ℕ, Bool, false, List, [], ◌∷◌, ◌++◌, map, Option, Some, None, Result, Ok, Err, IfErr, IfOk, refl, sym, ap, subst, ◌∙◌, inl, inr}
 use Rattle.std.specs.List.{AllByRecursion}
 use Rattle.std.proofs.lemmas.List.{length-map, map-append}
 use Rattle.gix_hash.specs.declared.ObjectId.{ObjectId}
@@ -11,7 +11,6 @@ use Rattle.gix_records.specs.Reading.{IsReadFrom}
 use Rattle.gix_records.specs.Records.{AreRecords, Record, stored}
 use Rattle.gix_revwalk.proofs.Rows.{none_agree}
 use Rattle.gix_revwalk.specs.declared.Info.{Info}
-use Rattle.gix_statement.specs.WholeStatement as page
 use Rattle.gix_statement.specs.WholeStatement.{Entry, IsCommit, IsTree, Lists, Row}
 use Rattle.gix_words.specs.Words.{Commits, Request, request_of}
 use Rattle.gix_words.specs.declared.fault.Fault.{Fault}
@@ -45,7 +44,7 @@ use Rattle.gix_batches.specs.declared.commit.Commit.{Commit}
 use Rattle.gix_batches.specs.declared.commit.CommitId.{CommitId}
 use Rattle.gix_batches.specs.declared.commit.Ending.{Ending}
 use Rattle.gix_batches.specs.declared.commit.Ending.TheVariants.{Ended, More, Small, Failed}
-use Rattle.gix_batches.specs.Batches.{Fails, Gives, IfFailed, IsNext, IsTold, Promises, Shows, gives, has_ended, runs}
+use Rattle.gix_batches.specs.Batches.{Fails, IfFailed, IsNext, IsTold, Promises, Shows, gives, has_ended, runs}
 use Rattle.gix_batches.specs.Draws.{Draws, Fills, IsSkipped, failed}
 use Rattle.gix_batches.specs.Slices.{Told, told_by, told_of}
 use Rattle.gix_batches.specs.Walks.{FillsBy, IsItself, breadth, down, timed}

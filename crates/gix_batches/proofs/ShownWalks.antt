@@ -1,7 +1,6 @@
 -- The commits that each walk gave are the beginning of the right list, or all of it, and are told as their texts say.
-use Rattle.std.proofs.Common.{◌≡◌, ◌≢◌, ◌≤◌, ◌-◌, ◌+◌, ℕ, ℤ, Bool, true, false, List, [], ◌∷◌, ◌++◌, length, take, Option, Some, None, Result, Ok, Err, refl, subst, arith, length-append}
+use Rattle.std.proofs.Common.{◌≡◌, ◌≢◌, ◌-◌, ◌+◌, ℕ, Bool, true, false, List, [], ◌∷◌, ◌++◌, length, take, Option, Some, None, Result, Ok, Err, refl, subst, arith, length-append}
 use Rattle.std.specs.Iterator.{Yields}
-use Rattle.gix_commitgraph.specs.Rows.{GraphRow}
 use Rattle.gix_hash.specs.declared.ObjectId.{ObjectId}
 use Rattle.gix_object.specs.Object.{Objects}
 use Rattle.gix_revwalk.specs.Agreeing.{IsAgreeing}
@@ -12,7 +11,7 @@ use Rattle.gix_simple.specs.Walk.{time_if, time_order}
 use Rattle.gix_simple.specs.declared.Sorting.{Sorting}
 use Rattle.gix_simple.specs.declared.Sorting.TheVariants as sorting
 use Rattle.gix_topo.specs.declared.Sorting.{Sorting as TopoSorting}
-use Rattle.gix_statement.specs.WholeStatement.{AreTips, InEach, Lists, Row}
+use Rattle.gix_statement.specs.WholeStatement.{AreTips, InEach, Lists}
 use Rattle.gix_words.specs.Words.{Commits}
 use Rattle.gix_words.specs.declared.fault.Fault.{Fault}
 use Rattle.gix_words.specs.declared.words.Order.TheVariants.{Simple, Topo}

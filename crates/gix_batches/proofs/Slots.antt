@@ -1,8 +1,7 @@
 -- Slices that are filled from the front.
-use Rattle.std.proofs.Common.{◌≡◌, ◌<◌, ◌≤◌, ◌+◌, ℕ, List, [], ◌∷◌, ◌++◌, map, length, take, drop, set, get_or, flat_map, refl, sym, ap, subst, ◌∙◌, arith, length-append, length-drop, append_assoc, append-nil}
-use Rattle.std.proofs.lemmas.List.{map-append, length-map, take_more, drop_more, drop-drop, length-take-le}
-use Rattle.std.proofs.lemmas.Grind.{flat_map-append}
-use Rattle.std.proofs.Math.Seq.{set-append_seam, take-append_seam, drop-append-add}
+use Rattle.std.proofs.Common.{◌≡◌, ◌<◌, ◌≤◌, ◌+◌, ℕ, List, [], ◌∷◌, ◌++◌, map, length, take, drop, set, get_or, sym, ap, ◌∙◌, arith, length-append, append_assoc}
+use Rattle.std.proofs.lemmas.List.{map-append, length-map, take_more, drop_more, length-take-le}
+use Rattle.std.proofs.Math.Seq.{set-append_seam}
 
 module _ {A : Type 0} where
   -- one more is put behind those at the front

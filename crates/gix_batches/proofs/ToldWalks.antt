@@ -3,13 +3,13 @@ use Rattle.std.proofs.Common.{◌≡◌, ℕ, ℤ, List, [], ◌∷◌, ◌++◌
 use Rattle.std.specs.Iterator.{Yields}
 use Rattle.std.specs.List.{AllByRecursion, AllZip}
 use Rattle.std.proofs.lemmas.List.Elements.{Contains-append_left}
-use Rattle.gix_commitgraph.specs.Rows.{GraphRow, row_of}
+use Rattle.gix_commitgraph.specs.Rows.{GraphRow}
 use Rattle.gix_hash.specs.Reach.{Reaches}
 use Rattle.gix_hash.specs.declared.ObjectId.{ObjectId}
 use Rattle.gix_hash.proofs.Ids.Membership.{Contains-here, Contains-there}
 use Rattle.gix_object.specs.Object.{Objects}
 use Rattle.gix_revwalk.specs.Agreeing.{IsAgreeing}
-use Rattle.gix_revwalk.specs.Commits.{ReadsWhole, by_mode, parents_of, time_of}
+use Rattle.gix_revwalk.specs.Commits.{by_mode, parents_of, time_of}
 use Rattle.gix_revwalk.specs.Ids.{ids_of}
 use Rattle.gix_revwalk.specs.Infos.{IsInfo, IsRowGeneration}
 use Rattle.gix_revwalk.specs.Texts.{text_next}

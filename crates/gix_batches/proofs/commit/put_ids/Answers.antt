@@ -1,4 +1,4 @@
-use Rattle.std.proofs.Common.{◌≡◌, ◌≤◌, ◌+◌, ◌++◌, map, take, drop, length, ℕ, List, arith, ap, ◌∙◌, set}
+use Rattle.std.proofs.Common.{arith, ap, ◌∙◌, set}
 use Rattle.gix_batches.specs.Slices.{id_of}
 use Rattle.gix_batches.proofs.Slots.{one_put}
 use Rattle.gix_batches.proofs.commit.put_ids.Goals as goal

@@ -1,4 +1,4 @@
-use Rattle.std.proofs.Common.{◌≤◌, ◌<◌, ◌∷◌, [], ◌++◌, length, arith, subst}
+use Rattle.std.proofs.Common.{◌<◌, ◌∷◌, [], ◌++◌, length, arith, subst}
 use Rattle.gix_batches.specs.declared.commit.Ending.TheVariants.{Ended, Small, Failed}
 use Rattle.gix_batches.specs.Draws.{ended, failed}
 use Rattle.gix_commands.specs.Walked.{finished}

@@ -1,4 +1,4 @@
-use Rattle.std.proofs.Common.{[], subst, sym, refl}
+use Rattle.std.proofs.Common.{[], refl}
 use Rattle.gix_words.specs.declared.fault.Fault.TheVariants as fault
 use Rattle.gix_batches.specs.declared.commit.Ending.TheVariants.{Failed}
 use Rattle.gix_batches.specs.Batches.{gives_none, runs}
