@@ -1,8 +1,11 @@
 /* Kestrelrack's commands over the objects of a Git repository, for callers in C.
  *
- * Both functions keep nothing between calls, write to the room alone, and end whatever the bytes are. A call owes them:
+ * All functions keep nothing between calls, write to the room alone, or to the two slices that take its place, and end whatever the bytes
+ * are. A call owes them:
  *   - each pointer, also that of 0 bytes, isn't NULL and begins as many bytes as its length says, which are fewer than 2^63;
- *   - the room overlaps neither the words nor the records, and no other thread writes any of them during the call;
+ *   - what is written overlaps neither the words nor the records nor what else is written, and no other thread writes any of them during
+ *     the call;
+ *   - a pointer to commits or ids is aligned as these are, and the lengths of such slices count them and not their bytes;
  *   - malloc, realloc and free are of one allocator, and the call is in no signal handler, and in no forked child of a program
  *     with threads;
  *   - there are 32 KiB of stack: the most that was measured is 20 KiB, however deep the history or the tree is;
@@ -40,14 +43,16 @@ enum {
     KESTRELRACK_GRAPH = 13,     /* never answered: only the program takes a commit-graph */
     KESTRELRACK_ROW = 14,       /* never answered */
     KESTRELRACK_DISAGREES = 15, /* never answered */
-    KESTRELRACK_NAME = 16       /* the tree of this `id` has an entry whose name is empty or holds a '/' */
+    KESTRELRACK_NAME = 16,      /* the tree of this `id` has an entry whose name is empty or holds a '/' */
+    KESTRELRACK_MORE = 17       /* of kestrelrack_commits alone: there is no room for more commits, and there may be more */
 };
 
 struct kestrelrack_answer {
     uint32_t number;    /* one of the numbers above; a later version may have more */
     uint32_t id_length; /* how many bytes of `id` are an id: 20 (SHA-1), 32 (SHA-256), or 0 where the number names no object */
-    size_t length;      /* in bytes: of the lines, at KESTRELRACK_WELL and KESTRELRACK_ROOM; otherwise 0 */
-    size_t place;       /* the number of the word or of the record that is named, otherwise 0 */
+    size_t length;      /* in bytes: of the lines, at KESTRELRACK_WELL and KESTRELRACK_ROOM; otherwise 0. Of kestrelrack_commits: how many
+                           commits there are, at each number */
+    size_t place;       /* the number of the word or of the record that is named, or the room for parents that a commit needs; otherwise 0 */
     uint8_t id[32];     /* the id that is named, as bytes and not as digits, and zeros behind it */
 };
 
@@ -69,6 +74,47 @@ struct kestrelrack_answer {
  */
 struct kestrelrack_answer kestrelrack_run(const void *words, size_t words_length, const void *records, size_t records_length, void *room,
                                           size_t room_length);
+
+/* The bytes of an id, and zeros behind one of 20 bytes. */
+struct kestrelrack_id {
+    uint8_t bytes[32];
+};
+
+/* A commit that a walk gives: 64 bytes, none of them padding. */
+struct kestrelrack_commit {
+    struct kestrelrack_id id;
+    int64_t time;        /* the committer's seconds since 1970-01-01 00:00 UTC where `known` has the bit KESTRELRACK_TIME, otherwise 0 */
+    size_t parents_at;   /* its parents are parents[parents_at] and those behind it, as the commit names them, repeats kept */
+    size_t parents;      /* how many they are; with "--first-parent" one at most */
+    uint32_t generation; /* in its row of a commit-graph where `known` has the bit KESTRELRACK_GENERATION, otherwise 0 */
+    uint16_t id_length;  /* how many bytes its id has, and those of its parents: 20 (SHA-1) or 32 (SHA-256) */
+    uint16_t known;      /* KESTRELRACK_TIME and KESTRELRACK_GENERATION, or'ed: by "breadth" no time is known, and of records no generation */
+};
+
+enum { KESTRELRACK_TIME = 1, KESTRELRACK_GENERATION = 2 };
+
+/* Runs a list command over records, and puts its commits from the one number `skip` on (the first is 0) at the front of `commits`, and the
+ * ids of their parents at the front of `parents`, as many commits as both have room for.
+ *
+ * words    "breadth", "newest", "oldest", "topo" or "date" with its options and ids, as for kestrelrack_run. Another command is
+ *          KESTRELRACK_USAGE. The number behind "-n" counts those that are skipped.
+ * records  As for kestrelrack_run.
+ *
+ * The answer's `length` is the number of commits, at each number:
+ *   KESTRELRACK_WELL  they are the last (and none where `skip` is at the end or behind it);
+ *   KESTRELRACK_MORE  there is no room for more of them: go on with skip + length. `length` isn't 0;
+ *   KESTRELRACK_ROOM  not one fits, and `length` is 0: `place` is the room for parents that the next commit needs, or 0 where there is no
+ *                     room for a commit;
+ *   any other         the fault, which comes behind these commits.
+ * What is behind the commits in `commits`, and behind their parents in `parents`, is as it was.
+ *
+ * Each call walks from the start, and reads as many objects as one with "-n" and skip + length. Whoever wants all takes batches that grow,
+ * as 1,000, 8,000, 64,000: together they cost at most 1.5 walks by breadth, newest and oldest, and 2.2 by topo and date. As long as the
+ * words and the records are the same, batches one behind another are the list.
+ */
+struct kestrelrack_answer kestrelrack_commits(const void *words, size_t words_length, const void *records, size_t records_length,
+                                              uint64_t skip, struct kestrelrack_commit *commits, size_t commits_length,
+                                              struct kestrelrack_id *parents, size_t parents_length);
 
 /* Puts the text of a number at the front of the room, in English, without a place, an id or a zero byte at the end: "missing". Gives the
  * length of the text in bytes, at most 32. Where the room is smaller it is as it was; the rest of a larger room is too.

@@ -1,6 +1,6 @@
 mod Common
 mod WordFaults
-mod WalkFaults
+pub mod WalkFaults
 mod MemoryFaults
 mod OutputFacts
 mod BrokenOff
@@ -12,22 +12,22 @@ mod NotedNames
 mod ListerFacts
 mod LostParents
 mod RowedParents
-mod CheckedWalks
+pub mod CheckedWalks
 mod CheckedSteps
 mod AheadFacts
 mod ContainedFacts
 mod BasesFacts
 mod StartFacts
-mod RunFacts
-mod GivenRuns
+pub mod RunFacts
+pub mod GivenRuns
 mod ListedCommits
 mod KeptLists
-mod SimpleRuns
+pub mod SimpleRuns
 mod OtherParents
-mod CommitRuns
-mod TopoRuns
+pub mod CommitRuns
+pub mod TopoRuns
 mod GoesOn
-mod SimpleBegins
+pub mod SimpleBegins
 mod TopoBegins
 mod FirstCommits
 mod NamedTrees
@@ -49,28 +49,28 @@ mod FileHeads
 mod FileLayers
 mod FileOrder
 mod SameNumbers
-mod SameCommits
+pub mod SameCommits
 mod SameTexts
 mod SameOrders
 mod SameDescents
 mod SameTrees
-mod SameWords
+pub mod SameWords
 mod SameContained
 mod SameBases
 mod SameLists
 mod RightTrees
 mod Right
-mod PageCommits
+pub mod PageCommits
 mod PageTexts
 mod PageLists
 mod OrderNames
-mod RightSimple
-mod RightTopo
-mod RightRuns
+pub mod RightSimple
+pub mod RightTopo
+pub mod RightRuns
 mod ReadableObjects
-mod ReadableTexts
+pub mod ReadableTexts
 mod ReachedIsRead
-mod SameCommitsThere
+pub mod SameCommitsThere
 mod RowsAsTexts
 mod NamedOnes
 mod Promised

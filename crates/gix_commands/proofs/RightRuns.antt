@@ -99,11 +99,11 @@ module _ (objects : Objects) (rows : List GraphRow) (agrees : IsAgreeing objects
     some_text : (i : ObjectId) (bytes : List ℕ) → get objects i ≡ Some (record { kind = kind.Commit; bytes = bytes }) → bytes ≢ []
     some_text i bytes at e = have.0 i (held objects i (record { kind = kind.Commit; bytes = bytes }) at ∙ ap (λ bs. Some (record { kind = codes "commit"; bytes = bs })) e)
 
-    simple_there : (m : Parents) (by : Sorting) (limit : Option ℕ) (tips hidden : List ObjectId) → request ≡ Commits (Simple m by) limit tips hidden → (i : ObjectId) → ReadsParents objects m i → IsThere (page_objects objects) [] i
+    pub simple_there : (m : Parents) (by : Sorting) (limit : Option ℕ) (tips hidden : List ObjectId) → request ≡ Commits (Simple m by) limit tips hidden → (i : ObjectId) → ReadsParents objects m i → IsThere (page_objects objects) [] i
     simple_there mode.All by limit tips hidden is i r = text_there objects i r.bytes (some_text i r.bytes r.stored) r.stored r.unbroken
     simple_there mode.First by limit tips hidden is i r = have.1 by limit tips hidden is i r.bytes (held objects i (record { kind = kind.Commit; bytes = r.bytes }) r.stored) r.unbroken
 
-    down_there : (i : ObjectId) → IsCommitRead objects i → IsThere (page_objects objects) [] i
+    pub down_there : (i : ObjectId) → IsCommitRead objects i → IsThere (page_objects objects) [] i
     down_there i c = text_there objects i c.bytes (some_text i c.bytes c.stored) c.stored (scan_faultless (commit_items (kind_of i) c.bytes) c.faultless)
 
   -- THE LAW

@@ -89,7 +89,7 @@ module _ (objects : Objects) (rows : List GraphRow) (m : Parents) (by : Sorting)
 
     -- without hidden tips, by the parents that texts name
     module _ (none : hidden ≡ []) where
-      begun : BeginsTextOrder objects_of before (λ i. true) (given infos)
+      pub begun : BeginsTextOrder objects_of before (λ i. true) (given infos)
       begun =
           text_beginning objects_of never_faulty accepts_all before (λ i. true) (by_test objects rows m by tips hidden walk starts) (fresh objects rows m by tips hidden walk starts) none agreeing (given infos) last (no_faults infos) drawn_so
 
@@ -133,7 +133,7 @@ module _ (objects : Objects) (rows : List GraphRow) (m : Parents) (by : Sorting)
         drawn = drawn_so;
       }
 
-      gave : GivesBeginning objects_of before (λ i. true) hides (given infos)
+      pub gave : GivesBeginning objects_of before (λ i. true) hides (given infos)
       gave = begins objects_of never_faulty accepts_all before (λ i. true) hides (given infos) last run
 
       ids_are : ids ≡ gave.ids

@@ -17,8 +17,8 @@ ghost use Rattle.gix_revwalk.specs.Agreeing.{rows_in};
 
 mod ahead;
 mod bases;
-mod checked;
-mod commits;
+pub mod checked;
+pub mod commits;
 mod contains;
 mod digits;
 mod files;

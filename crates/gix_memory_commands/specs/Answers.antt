@@ -10,7 +10,7 @@ use Rattle.gix_memory_commands.specs.declared.answer.Answer.{Answer}
 use Rattle.gix_memory_commands.specs.Room.{answer_to, of_length, put_in}
 use Rattle.gix_memory_commands.specs.WordsOf.{words_of}
 
--- the answer of a fault that names a word or a record
+-- an answer that names a word or a record, or a room
 abbrev pub of_place : ℕ → ℕ → Answer
 of_place number place = record { number = number; id_length = 0; length = 0; place = place; id = replicate 32 0 }
 
@@ -73,4 +73,5 @@ text_of n =
     else if nat_eq n 14 then codes "bad row in the commit-graph"
     else if nat_eq n 15 then codes "commit-graph disagrees"
     else if nat_eq n 16 then codes "bad name in tree"
+    else if nat_eq n 17 then codes "more commits"
     else codes "unknown fault"

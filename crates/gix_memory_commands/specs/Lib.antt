@@ -4,4 +4,6 @@ pub mod WordsOf
 pub mod Room
 -- What a call answers, and what it leaves in the room.
 pub mod Answers
+-- What a call for a batch of commits answers, and what it leaves in the slices.
+pub mod BatchAnswers
 pub mod Examples

@@ -1,24 +1,27 @@
 //! What a call answers.
 ghost use Rattle.std.specs.Prelude.{◌≡◌};
 ghost use Rattle.gix_memory_commands.specs.Answers.{of_fault, of_id, of_place, text_of};
+ghost use Rattle.gix_memory_commands.specs.BatchAnswers.{of_batch, of_full};
 ghost use Rattle.gix_memory_commands.specs.Room.{of_length, too_small, well};
 
+use gix_batches::{Batch, Ending};
 use gix_commands::Fault;
 use gix_parts::hash::ObjectId;
 
-/// What a call answers, in numbers: which fault, what it names, and how many bytes there are.
+/// What a call answers, in numbers: which fault, what it names, and how many bytes or commits there are.
 #[repr(C)]
 #[derive(Clone, Copy, PartialEq, Eq, Debug)]
 pub struct Answer {
     /// 0 where all went well, 1 where the room was too small, or the number of the fault: 2 `Usage`, 3 `Id`, 4 `Record`, 5 `Missing`,
     /// 6 `WrongKind`, 7 `Broken`, 8 `Cycle`, 9 `Memory`, 10 `Read`, 11 `Write`, 12 `Internal`, 13 `Graph`, 14 `Row`, 15 `Disagrees`,
-    /// 16 `Name`. Those from 10 to 15 never come.
+    /// 16 `Name`. Those from 10 to 15 never come. 17 where a batch of commits is full, and there may be more.
     pub number: u32,
     /// How many bytes of `id` are an id: 20 or 32 where the fault names an object, otherwise 0.
     pub id_length: u32,
-    /// How many bytes were put into the room, or, where it was too small, how many there are. 0 at a fault.
+    /// How many bytes were put into the room, or, where it was too small, how many there are. 0 at a fault. Of a batch, how many commits.
     pub length: usize,
-    /// The number of the word or of the record that the fault names, from 1; otherwise 0.
+    /// The number of the word or of the record that the fault names, from 1; or of a batch in which not one commit fits the room for
+    /// parents that the next one needs; otherwise 0.
     pub place: usize,
     /// The id of the object that the fault names, and zeros behind it.
     pub id: [u8; 32],
@@ -62,6 +65,32 @@ impl Answer {
         }
     }
 
+    /// The answer to a batch.
+    pub(crate) fn of_batch(batch: Batch) -> Answer
+        ensures { result ≡ of_batch batch }
+    {
+        match batch.ending {
+            Ending::Ended => Answer::of_length(0, batch.commits),
+            Ending::More => Answer::of_full(batch.commits, 0),
+            Ending::Small(needed) => Answer::of_full(batch.commits, needed),
+            Ending::Failed(fault) => Answer {
+                length: batch.commits,
+                ..Answer::of_fault(fault)
+            },
+        }
+    }
+
+    /// The answer to a batch of so many commits behind which there is no room: for none, with the room for parents that is needed.
+    fn of_full(commits: usize, needed: usize) -> Answer
+        ensures { result ≡ of_full commits needed }
+    {
+        if commits == 0 {
+            Answer::of_place(1, needed)
+        } else {
+            Answer::of_length(17, commits)
+        }
+    }
+
     /// An answer that names nothing.
     fn of_length(number: u32, length: usize) -> Answer
         ensures { result ≡ of_length number length }
@@ -75,7 +104,7 @@ impl Answer {
         }
     }
 
-    /// The answer of a fault that names a word or a record.
+    /// An answer that names a word or a record, or a room.
     fn of_place(number: u32, place: usize) -> Answer
         ensures { result ≡ of_place number place }
     {
@@ -137,6 +166,7 @@ pub fn text_of(number: u32) -> &'static str
         14 => "bad row in the commit-graph",
         15 => "commit-graph disagrees",
         16 => "bad name in tree",
+        17 => "more commits",
         _ => "unknown fault",
     }
 }

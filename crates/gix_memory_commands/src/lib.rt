@@ -1,7 +1,7 @@
 //! The commands of the program over bytes in memory: for callers in other languages, which hand over slices and numbers.
 //!
 //! [`run_over_bytes`] takes the words of a command and the records as bytes, and room for the lines. What these lines are is stated by
-//! the laws of `gix_commands`.
+//! the laws of `gix_commands`. [`commits_over_bytes`] takes slices for commits and for their parents in place of the room.
 #![tactic(auto)]
 
 ghost use Rattle.std.specs.Prelude.{◌≡◌, Ok, IfOk, IfErr, length, nat_le};
@@ -9,9 +9,11 @@ ghost use Rattle.gix_memory_commands.specs.Answers.{Answers, FailsOver, RunsOver
 ghost use Rattle.gix_memory_commands.specs.Room.{IsWhole, PromisesOver, answer_to, put_in};
 
 mod answer;
+mod commits;
 mod words;
 
 pub use answer::Answer;
+pub use commits::commits_over_bytes;
 use gix_commands::{Fault, run_in};
 use std::alloc::Global;
 use words::words_of;

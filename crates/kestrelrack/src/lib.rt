@@ -3,9 +3,11 @@
 
 ghost use Rattle.std.specs.Prelude.{◌≡◌, length};
 ghost use Rattle.gix_memory_commands.specs.Answers.{Answers, text_of};
+ghost use Rattle.gix_memory_commands.specs.BatchAnswers.{AnswersBatch};
 ghost use Rattle.gix_memory_commands.specs.Room.{IsWhole, put_in};
 
-use gix_memory_commands::{Answer, put_text, run_over_bytes};
+use gix_batches::{Commit, CommitId};
+use gix_memory_commands::{Answer, commits_over_bytes, put_text, run_over_bytes};
 use std::alloc::Global;
 
 /// Runs the command that the words are over the records, and puts its lines at the front of the room, where they fit.
@@ -21,6 +23,23 @@ pub extern "C" fn kestrelrack_run(
     ensures whole { IsWhole words.now records.now room.old result room.new }
 {
     run_over_bytes(alloc, words, records, room)
+}
+
+/// Puts the commits of a list command over the records, from the one number `skip` on, at the front of the slice for commits, and the ids
+/// of their parents at the front of the slice for parents, as many commits as both have room for.
+#[unsafe(no_mangle)]
+pub extern "C" fn kestrelrack_commits(
+    alloc: Global,
+    words: &[u8],
+    records: &[u8],
+    skip: u64,
+    commits: &mut [Commit],
+    parents: &mut [CommitId],
+) -> Answer
+    // What the slices hold, from lists of bytes up.
+    ensures { AnswersBatch words.now records.now skip commits.old commits.new parents.old parents.new result }
+{
+    commits_over_bytes(alloc, words, records, skip, commits, parents)
 }
 
 /// Puts the text of an answer of this number at the front of the room, where it fits. How many bytes the text has, without an end.

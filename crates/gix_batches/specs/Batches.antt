@@ -1,0 +1,85 @@
+-- What a batch is, from lists of bytes up, in the words of the page: the beginning of the right list, and what the text of each commit says.
+use Rattle.std.specs.Prelude.{◌≡◌, ◌≢◌, ℕ, List, [], ◌∷◌, ◌++◌, map, take, length, Bool, true, false, Option, Some, None, Ok, Err, Contains, codes}
+use Rattle.std.specs.List.{AllByRecursion}
+use Rattle.gix_hash.specs.declared.ObjectId.{ObjectId}
+use Rattle.gix_statement.specs.WholeStatement.{AreFed, InEach, IsText, Lists, Objects, Row}
+use Rattle.gix_words.specs.declared.fault.Fault.{Fault}
+use Rattle.gix_words.specs.declared.fault.Fault.TheVariants as fault
+use Rattle.gix_words.specs.Words.{Request, Commits, request_of}
+use Rattle.gix_words.specs.declared.words.Order.{Order}
+use Rattle.gix_commands.specs.Run.{Runs}
+use Rattle.gix_batches.specs.declared.commit.Batch.{Batch}
+use Rattle.gix_batches.specs.declared.commit.Commit.{Commit}
+use Rattle.gix_batches.specs.declared.commit.CommitId.{CommitId}
+use Rattle.gix_batches.specs.declared.commit.Ending.{Ending}
+use Rattle.gix_batches.specs.declared.commit.Ending.TheVariants.{Ended, More, Small, Failed}
+use Rattle.gix_batches.specs.Draws.{Holds, IsFull, IsSkipped}
+use Rattle.gix_batches.specs.Slices.{Told}
+
+-- What is told of a commit by these words, of which this is its text: all that it says, or its first parent alone; and no time by `breadth`.
+pub data Says (r : Row) : List (List ℕ) → Told → Type 0 where
+  breadth : {rest : List (List ℕ)} → take 1 rest ≢ codes "--first-parent" ∷ []
+      → Says r (codes "breadth" ∷ rest) (record { id = r.id; parents = r.parents; time = None; generation = None })
+  first : {rest : List (List ℕ)}
+      → Says r (codes "breadth" ∷ codes "--first-parent" ∷ rest) (record { id = r.id; parents = take 1 r.parents; time = None; generation = None })
+  timed : {by : List ℕ} {rest : List (List ℕ)} → Contains (codes "newest" ∷ codes "oldest" ∷ codes "topo" ∷ codes "date" ∷ []) by
+      → Says r (by ∷ rest) (record { id = r.id; parents = r.parents; time = Some r.time; generation = None })
+
+abbrev pub IsTold : Objects → List (List ℕ) → Told → Type 0
+IsTold objects words t = (r : Row) × IsText objects r × Says r words t
+
+-- in each history these commits are the beginning of the list that the words ask for, or all of it, and each is told as its text says
+pub record Shows (objects : Objects) (words : List (List ℕ)) (told : List Told) (has_ended : Bool) : Type 0 where
+  pub lists : InEach objects [] (λ parents time. Lists objects [] parents time (map (λ t. t.id) told) has_ended words)
+  pub texts : AllByRecursion (IsTold objects words) told
+
+abbrev pub has_ended : Ending → Bool
+has_ended Ended = true
+has_ended More = false
+has_ended (Small n) = false
+has_ended (Failed e) = false
+
+-- where there is no room for the parents of the next commit, it has so many
+abbrev pub IsNext : Objects → List (List ℕ) → List Told → Ending → Type 0
+IsNext objects words told Ended = Unit {0}
+IsNext objects words told More = Unit {0}
+IsNext objects words told (Small n) = (next : Told) × Shows objects words (told ++ next ∷ []) false × (n ≡ length next.parents)
+IsNext objects words told (Failed e) = Unit {0}
+
+-- of the objects of records: behind those that are skipped, the slices hold the next commits of the list, and the rest of both is as it was
+pub record Gives (words : List (List ℕ)) (records : List ℕ) (skip : ℕ) (old new : List Commit) (before after : List CommitId) (batch : Batch)
+    : Type 0 where
+  pub objects : Objects
+  pub fed : AreFed (Some records) objects
+  pub skipped : List Told
+  pub told : List Told
+  pub shows : Shows objects words (skipped ++ told) (has_ended batch.ending)
+  pub next : IsNext objects words (skipped ++ told) batch.ending
+  pub passed : IsSkipped skip skipped told
+  pub holds : Holds told old new before after batch
+  pub full : IsFull (length old) (length before) batch
+
+-- what a call promises of a batch: that, or a fault behind which both slices are as they were
+pub data Promises (words : List (List ℕ)) (records : List ℕ) (skip : ℕ) (old new : List Commit) (before after : List CommitId) (batch : Batch)
+    : Type 0 where
+  gives : Gives words records skip old new before after batch → Promises words records skip old new before after batch
+  gives_none : (e : Fault) → batch ≡ record { commits = 0; parents = 0; ending = Failed e } → new ≡ old → after ≡ before
+      → Promises words records skip old new before after batch
+
+-- These words ask for something else than a list of commits.
+abbrev pub AskForOther : List (List ℕ) → Type 0
+AskForOther words = (request : Request) × (request_of words ≡ Ok request)
+    × ((by : Order) (limit : Option ℕ) (tips hidden : List ObjectId) → request ≢ Commits by limit tips hidden)
+
+-- Why a batch fails: as a run over these words and records does that writes into memory, whose lines are of the commits before; or its words ask
+-- for something else.
+pub data Fails (words : List (List ℕ)) (records : List ℕ) : Fault → Type 0 where
+  runs : {e : Fault} (lines : List ℕ) → Runs words (Some records) (Some []) (Err e) (Some lines) → e ≢ fault.Read → e ≢ fault.Internal
+      → Fails words records e
+  asks_for_other : AskForOther words → Fails words records fault.Usage
+
+abbrev pub IfFailed : (Fault → Type 0) → Ending → Type 0
+IfFailed P Ended = Unit {0}
+IfFailed P More = Unit {0}
+IfFailed P (Small n) = Unit {0}
+IfFailed P (Failed e) = P e
