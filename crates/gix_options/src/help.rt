@@ -142,13 +142,15 @@ slash.
   -C FOLDER    takes the repository of this folder, or of the nearest one above it that has one; no variable names another
   --git-dir FOLDER
                takes the folder that is called .git elsewhere
-  -n NUMBER    ends after so many lines, in the first five commands; a number has 1 to 9 digits
+  -n NUMBER    ends after so many lines, in the first five commands; a number has 1 to 9 digits. -n2, --max-count 2 and
+               --max-count=2 are the same as -n 2
   --names      writes behind each id of contains a space and the revision as it was given, or the name of the ref
   --first-parent
                goes from each commit to its first parent alone, in breadth; what ^A excludes is reached by all parents
-  --since SECONDS
-               leaves out the commits of an earlier time, in seconds since 1970, and what it would meet by them alone, in
-               newest and oldest; a number has 1 to 10 digits
+  --since TIME leaves out the commits of an earlier time and what it would meet by them alone, in newest and oldest. The time
+               is in seconds since 1970, of 1 to 10 digits, or a date, as 2024-05-01 for its midnight in UTC, or
+               2024-05-01T12:00:00 with nothing or Z for UTC behind it or an offset as +02:00. --after TIME, --since=TIME
+               and --after=TIME are the same
   -z           ends each entry in a byte 0 and not in a newline, in files: a path may have a newline
   --all        adds all refs and HEAD to the revisions; --branches adds all branches, and --tags all tags
   --stdin      adds the lines of standard input to the revisions, none of which is empty or an option

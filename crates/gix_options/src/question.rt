@@ -1,6 +1,7 @@
 //! Arguments that ask something of a repository.
 ghost use Rattle.std.specs.Prelude.{◌≡◌, ◌+◌, ◌≤◌, ◌<◌, length};
 
+use crate::date::seconds_of;
 use crate::misuse::LineFault;
 use crate::{Misuse, Name};
 use std::alloc::{AllocError, Global};
@@ -182,10 +183,12 @@ impl Arguments {
 
     /// Reads an argument, and lends the arguments that are left behind it and what goes with it.
     fn read<'a>(&mut self, word: &str, behind: &'a [String]) -> Result<&'a [String], Misuse> {
+        let (option, value) = with_value(word);
+        if takes_value(option) {
+            return self.read_value(option, value, behind);
+        }
         match word {
             "-C" | "--git-dir" => return self.read_place(word, behind),
-            "-n" => return self.read_limit(behind),
-            "--since" => return self.read_since(behind),
             "--help" | "-h" => self.needs_help = true,
             "--no-graph" => self.options.rows = Rows::Unused,
             "--trust-graph" => self.options.rows = Rows::Trusted,
@@ -226,26 +229,50 @@ impl Arguments {
         Ok(behind)
     }
 
-    /// Reads the most lines.
-    fn read_limit<'a>(&mut self, behind: &'a [String]) -> Result<&'a [String], Misuse> {
+    /// Reads the value of an option: the one in its own word, or else the next word.
+    fn read_value<'a>(
+        &mut self,
+        option: &str,
+        value: Option<&str>,
+        behind: &'a [String],
+    ) -> Result<&'a [String], Misuse> {
+        if let Some(value) = value {
+            self.set(option, value)?;
+            return Ok(behind);
+        }
         match behind {
-            [digits, behind @ ..] if is_number(digits.as_str(), 9) => {
-                self.options.limit = Some(digits.clone()?);
+            [value, behind @ ..] => {
+                self.set(option, value.as_str())?;
                 Ok(behind)
             }
-            _ => Err(Misuse::Limit),
+            [] => {
+                self.set(option, "")?;
+                Ok(behind)
+            }
         }
     }
 
-    /// Reads the least time.
-    fn read_since<'a>(&mut self, behind: &'a [String]) -> Result<&'a [String], Misuse> {
-        match behind {
-            [digits, behind @ ..] if is_number(digits.as_str(), 10) => {
-                self.options.since = Some(digits.clone()?);
-                Ok(behind)
+    /// Takes the value of an option.
+    fn set(&mut self, option: &str, value: &str) -> Result<(), Misuse> {
+        match option {
+            "-n" | "--max-count" => {
+                if !is_number(value, 9) {
+                    return Err(Misuse::Limit);
+                }
+                self.options.limit = Some(String::from_str(self.alloc, value)?);
             }
-            _ => Err(Misuse::Since),
+            "--since" => self.options.since = Some(self.digits_of("--since", value)?),
+            _ => self.options.since = Some(self.digits_of("--after", value)?),
         }
+        Ok(())
+    }
+
+    /// The digits of a time.
+    fn digits_of(&self, option: &'static str, value: &str) -> Result<String, Misuse> {
+        let Some(seconds) = seconds_of(value) else {
+            return Err(Misuse::Time(option));
+        };
+        Ok(format!(in self.alloc; "{seconds}")?)
     }
 
     /// Reads a word that is no option: the command, or a revision.
@@ -386,6 +413,25 @@ fn may_be_tip(asked: &Asked) -> bool {
         Asked::Word(word) => !word.starts_with('^'),
         _ => true,
     }
+}
+
+/// An option, and its value where it is in the same word.
+fn with_value(word: &str) -> (&str, Option<&str>) {
+    if word.starts_with("--") {
+        return match word.split_once('=') {
+            Some((option, value)) => (option, Some(value)),
+            None => (word, None),
+        };
+    }
+    match word.strip_prefix("-n") {
+        Some("") | None => (word, None),
+        Some(value) => ("-n", Some(value)),
+    }
+}
+
+/// Whether an option has a value.
+fn takes_value(option: &str) -> bool {
+    matches!(option, "-n" | "--max-count" | "--since" | "--after")
 }
 
 /// Whether a word is 1 to so many decimal digits.
