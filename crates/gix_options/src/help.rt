@@ -92,8 +92,8 @@ pub const COMMANDS: &[Command] = &[
         name: Name::MergeBase,
         arguments: "A B..",
         what: &[
-            "the best common ancestors of the first revision and of any of the others, in rising order: what",
-            "these reach, and no other such commit reaches, as git merge-base --all",
+            "the best common ancestors of the first revision and of any of the others, in rising order,",
+            "as git merge-base --all lists them in another",
         ],
         example: "merge-base HEAD~3 HEAD~9",
     },
