@@ -1,7 +1,7 @@
 -- What is stored as a whole commit is a commit of the statement, and what is stored is one history.
 use Rattle.std.proofs.Common.{◌≡◌, ◌≢◌, ◌++◌, ℕ, ℤ, pos, List, [], ◌∷◌, take, Option, Some, None, All, Contains, codes, refl, sym, ap, subst, ◌∙◌, inl, inr, ⊎_elim, arith}
-use Rattle.gix_commands.proofs.Common.{get, none-some, All-contains, ObjectId, kind_of, Commit, seconds_of, Object, Objects, kind_word, commit_at, commit_of_object, time_of, time_in, next_in, text_next, no_member}
-use Rattle.gix_commands.proofs.Common.{parents_of, ReadsWhole, commit_stored, whole_from, reach_more, Contains-cons_cases, AreWhole, Spells, digits_in}
+use Rattle.gix_commands.proofs.Common.{get, none-some, All-contains, Contains-get_or, ObjectId, kind_of, Commit, seconds_of, Object, Objects, kind_word, commit_at, commit_of_object, time_of, time_in, next_in, text_next, no_member}
+use Rattle.gix_commands.proofs.Common.{parents_of, ReadsWhole, commit_stored, whole_from, Contains-here, reach_more, Contains-cons_cases, AreWhole, Spells, digits_in}
 use Rattle.gix_object.specs.declared.Kind.TheVariants as kind
 use Rattle.gix_object.proofs.Commits.Texts.{reads_texts}
 use Rattle.gix_statement.proofs.OneCommit.{drop_word, line_same, one_commit, signed_same}
@@ -135,3 +135,6 @@ module _ (objects : Objects) where
     reached_there tip among i r =
         let back = by_commits objects ids whole tip among i (reaches_back (text_next objects) (tip ∷ []) i r) in
         whole_there i (whole_from objects i (whole i (reach_more (parents_of objects) (tip ∷ []) ids (λ j c. ⊎_elim (λ e. subst (Contains ids) e among) (λ n. absurd (no_member j n)) (Contains-cons_cases j tip [] c)) i back)))
+
+    pub all_there : All (IsThere (page_objects objects) []) ids
+    all_there k d below = let among = Contains-get_or ids k d below in reached_there _ among _ (page.start (Contains-here _ []))

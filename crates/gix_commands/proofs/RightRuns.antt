@@ -17,7 +17,7 @@ use Rattle.gix_commands.proofs.AheadRuns.{counted_so, counted_whole}
 use Rattle.gix_commands.proofs.BasesRuns.{joined_so}
 use Rattle.gix_commands.proofs.ContainedRuns.{selected_so}
 use Rattle.gix_commands.proofs.RightSimple.{simple_right}
-use Rattle.gix_commands.proofs.PageCommits.{fed_history, reached_there, whole_there}
+use Rattle.gix_commands.proofs.PageCommits.{all_there, fed_history, reached_there, whole_there}
 use Rattle.gix_commands.proofs.PageTexts.{scan_faultless, text_there}
 use Rattle.gix_commands.proofs.RightTopo.{topo_right}
 use Rattle.gix_commands.proofs.Right.{IsRight, cut_right}
