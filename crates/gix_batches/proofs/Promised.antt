@@ -189,6 +189,7 @@ module _ (words : List (List ℕ)) (records : List ℕ) where
   is_other (command_of.Files ending tree) other by limit tips hidden = λ e. cc
   is_other (command_of.Ahead one two) other by limit tips hidden = λ e. cc
   is_other (command_of.Contained tip ids) other by limit tips hidden = λ e. cc
+  is_other (command_of.Bases one others) other by limit tips hidden = λ e. cc
 
 module _ (words : List (List ℕ)) (records : List ℕ) (order : Order) (limit : Option ℕ) (tips hidden : List ObjectId) (asked : request_of words ≡ Ok (Commits order limit tips hidden)) (objects : Objects) (read : IsReadFrom (Some records) objects) where
   -- what a walk filled that could start
