@@ -20,6 +20,8 @@ const NOT_ALL_CONTAINED: u8 = 3;
 const STEP: usize = 8192;
 /// How many commits are read at first, where a part of them may be enough, beside those that are asked for.
 const FIRST_COMMITS: usize = 1000;
+/// How many lines are few: the commits that they need are read in less time than the rows of a long history.
+const FEW_LINES: usize = 1000;
 /// How often more are read, at the most: each time four times as many.
 const MOST_READINGS: u32 = 64;
 
@@ -134,6 +136,9 @@ impl Asking<'_> {
         repository: &mut Repository<HostRuntime>,
         output: &mut W,
     ) -> Result<u8, Failure> {
+        if let Some(status) = self.few_lines(repository, output)? {
+            return Ok(status);
+        }
         let known = rows(self.rt, repository, &self.question.options)?;
         let answered = match &known.graph {
             Some(graph) => match self.over(repository, Some(graph), output) {
@@ -187,6 +192,30 @@ impl Asking<'_> {
         let mut gathering = Gathering::commits(alloc, ids.as_slice(), order, IdSet::new(alloc))?;
         let lines = self.from_part(repository, &mut gathering, least, graph, output)?;
         Ok(self.status(lines.as_slice()))
+    }
+
+    /// Answers a question for few lines from the commits alone, without rows. None if it isn't such a question, or has no such answer, as
+    /// where a commit has a row and can't be read: then nothing is written.
+    fn few_lines<W: Write>(
+        &mut self,
+        repository: &mut Repository<HostRuntime>,
+        output: &mut W,
+    ) -> Result<Option<u8>, Failure> {
+        match self.least() {
+            Some(least)
+                if least <= FEW_LINES
+                    && !self.asks_what_is_reached()
+                    && !self.question.options.takes_border => {}
+            _ => return Ok(None),
+        }
+        let mut lines = Vec::new(self.rt.alloc());
+        match self.over(repository, None, &mut lines) {
+            Ok(status) => {
+                write(output, lines.as_slice())?;
+                Ok(Some(status))
+            }
+            Err(_) => Ok(None),
+        }
     }
 
     /// Whether the question is which revisions a revision reaches.
