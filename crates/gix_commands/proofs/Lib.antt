@@ -3,6 +3,7 @@ mod WordFaults
 mod WalkFaults
 mod MemoryFaults
 mod OutputFacts
+mod ChosenFacts
 mod BrokenOff
 mod InternalFacts
 mod TreeFacts
@@ -27,7 +28,6 @@ mod TopoRuns
 mod GoesOn
 mod SimpleBegins
 mod TopoBegins
-mod FirstCommits
 mod NamedTrees
 mod FileRuns
 mod SimpleFaults
@@ -60,6 +60,7 @@ mod PageCommits
 mod PageTexts
 mod PageLists
 mod OrderNames
+mod WrittenBytes
 mod RightSimple
 mod RightTopo
 mod RightRuns

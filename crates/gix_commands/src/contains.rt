@@ -42,7 +42,7 @@ pub fn write_contained<W: Write>(
 }
 
 /// The ids in hex digits, one a line.
-fn lines_of(alloc: Global, ids: &[ObjectId]) -> Result<Vec<u8>, AllocError>
+pub fn lines_of(alloc: Global, ids: &[ObjectId]) -> Result<Vec<u8>, AllocError>
     ensures { IfOk result (λ lines. lines.items ≡ flat_map line_of ids.now) }
 {
     let mut lines = Vec::new(alloc);

@@ -1,6 +1,7 @@
 //! What the arguments of the program ask of a repository, and what its help says. Nothing is opened or printed here.
 #![tactic(auto)]
 
+mod date;
 mod help;
 mod misuse;
 mod name;

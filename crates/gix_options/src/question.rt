@@ -1,6 +1,7 @@
 //! Arguments that ask something of a repository.
 ghost use Rattle.std.specs.Prelude.{◌≡◌, ◌+◌, ◌≤◌, ◌<◌, length};
 
+use crate::date::seconds_of;
 use crate::misuse::LineFault;
 use crate::{Misuse, Name};
 use std::alloc::{AllocError, Global};
@@ -54,10 +55,43 @@ pub struct Options {
     pub by_first_parents: bool,
     /// The digits of the least time, in seconds since 1970.
     pub since: Option<String>,
+    /// The digits of the greatest time of a commit that is listed.
+    pub until: Option<String>,
+    /// Whether only commits of two parents at least are listed.
+    pub merges: bool,
+    /// Whether only commits of one parent at most are listed.
+    pub no_merges: bool,
+    /// The digits of the number of lines that are left out first.
+    pub skip: Option<String>,
     /// The digits of the most lines.
     pub limit: Option<String>,
+    /// Whether only the number of lines is written.
+    pub counts: bool,
+    /// Whether the last line comes first.
+    pub is_reversed: bool,
     /// Whether a byte 0 ends each line.
     pub ends_in_zero: bool,
+}
+
+impl Options {
+    /// An option that goes with lists of commits alone, if there is one.
+    fn of_list(&self) -> Option<&'static str> {
+        let given = [
+            (self.limit.is_some(), "-n"),
+            (self.skip.is_some(), "--skip"),
+            (self.until.is_some(), "--until"),
+            (self.merges, "--merges"),
+            (self.no_merges, "--no-merges"),
+            (self.counts, "--count"),
+            (self.is_reversed, "--reverse"),
+        ];
+        for (is_given, option) in given {
+            if is_given {
+                return Some(option);
+            }
+        }
+        None
+    }
 }
 
 /// What is asked of a repository.
@@ -171,7 +205,13 @@ impl Arguments {
                 is_verbose: false,
                 by_first_parents: false,
                 since: None,
+                until: None,
+                merges: false,
+                no_merges: false,
+                skip: None,
                 limit: None,
+                counts: false,
+                is_reversed: false,
                 ends_in_zero: false,
             },
         }
@@ -179,10 +219,16 @@ impl Arguments {
 
     /// Reads an argument, and lends the arguments that are left behind it and what goes with it.
     fn read<'a>(&mut self, word: &str, behind: &'a [String]) -> Result<&'a [String], Misuse> {
+        let (option, value) = with_value(word);
+        if takes_value(option) {
+            return self.read_value(option, value, behind);
+        }
         match word {
             "-C" | "--git-dir" => return self.read_place(word, behind),
-            "-n" => return self.read_limit(behind),
-            "--since" => return self.read_since(behind),
+            "--merges" => self.options.merges = true,
+            "--no-merges" => self.options.no_merges = true,
+            "--count" => self.options.counts = true,
+            "--reverse" => self.options.is_reversed = true,
             "--help" | "-h" => self.needs_help = true,
             "--no-graph" => self.options.rows = Rows::Unused,
             "--trust-graph" => self.options.rows = Rows::Trusted,
@@ -222,26 +268,58 @@ impl Arguments {
         Ok(behind)
     }
 
-    /// Reads the most lines.
-    fn read_limit<'a>(&mut self, behind: &'a [String]) -> Result<&'a [String], Misuse> {
+    /// Reads the value of an option: the one in its own word, or else the next word.
+    fn read_value<'a>(
+        &mut self,
+        option: &str,
+        value: Option<&str>,
+        behind: &'a [String],
+    ) -> Result<&'a [String], Misuse> {
+        if let Some(value) = value {
+            self.set(option, value)?;
+            return Ok(behind);
+        }
         match behind {
-            [digits, behind @ ..] if is_number(digits.as_str(), 9) => {
-                self.options.limit = Some(digits.clone()?);
+            [value, behind @ ..] => {
+                self.set(option, value.as_str())?;
                 Ok(behind)
             }
-            _ => Err(Misuse::Limit),
+            [] => {
+                self.set(option, "")?;
+                Ok(behind)
+            }
         }
     }
 
-    /// Reads the least time.
-    fn read_since<'a>(&mut self, behind: &'a [String]) -> Result<&'a [String], Misuse> {
-        match behind {
-            [digits, behind @ ..] if is_number(digits.as_str(), 10) => {
-                self.options.since = Some(digits.clone()?);
-                Ok(behind)
+    /// Takes the value of an option.
+    fn set(&mut self, option: &str, value: &str) -> Result<(), Misuse> {
+        match option {
+            "-n" | "--max-count" => {
+                if !is_number(value, 9) {
+                    return Err(Misuse::Limit);
+                }
+                self.options.limit = Some(String::from_str(self.alloc, value)?);
             }
-            _ => Err(Misuse::Since),
+            "--skip" => {
+                if !is_number(value, 9) {
+                    return Err(Misuse::Skip);
+                }
+                self.options.skip = Some(String::from_str(self.alloc, value)?);
+            }
+            "--since" => self.options.since = Some(self.digits_of("--since", value)?),
+            "--after" => self.options.since = Some(self.digits_of("--after", value)?),
+            "--until" => self.options.until = Some(self.digits_of("--until", value)?),
+            _ => self.options.until = Some(self.digits_of("--before", value)?),
         }
+        Ok(())
+    }
+
+    /// The digits of a time.
+    fn digits_of(&self, option: &'static str, value: &str) -> Result<String, Misuse> {
+        let Some(seconds) = seconds_of(value) else {
+            return Err(Misuse::Time(option));
+        };
+        Ok(format!(in self.alloc; "{seconds}")?)
     }
 
     /// Reads a word that is no option: the command, or a revision.
@@ -297,8 +375,13 @@ impl Arguments {
 
     /// Whether each option goes with the command.
     fn check_options(&self, name: Name) -> Result<(), Misuse> {
-        if self.options.limit.is_some() && !name.is_list() {
-            return Err(Misuse::option("-n", name));
+        if !name.is_list() {
+            if let Some(option) = self.options.of_list() {
+                return Err(Misuse::option(option, name));
+            }
+        }
+        if self.options.merges && self.options.no_merges {
+            return Err(Misuse::Merges);
         }
         if self.options.by_first_parents && name != Name::Breadth {
             return Err(Misuse::option("--first-parent", name));
@@ -372,6 +455,28 @@ fn may_be_tip(asked: &Asked) -> bool {
         Asked::Word(word) => !word.starts_with('^'),
         _ => true,
     }
+}
+
+/// An option, and its value where it is in the same word.
+fn with_value(word: &str) -> (&str, Option<&str>) {
+    if word.starts_with("--") {
+        return match word.split_once('=') {
+            Some((option, value)) => (option, Some(value)),
+            None => (word, None),
+        };
+    }
+    match word.strip_prefix("-n") {
+        Some("") | None => (word, None),
+        Some(value) => ("-n", Some(value)),
+    }
+}
+
+/// Whether an option has a value.
+fn takes_value(option: &str) -> bool {
+    matches!(
+        option,
+        "-n" | "--max-count" | "--skip" | "--since" | "--after" | "--until" | "--before"
+    )
 }
 
 /// Whether a word is 1 to so many decimal digits.

@@ -17,9 +17,24 @@ const CASES: &[(&str, &str)] = &[
     ("-C . topo HEAD -n 123456789", ""),
     (
         "-C . newest --since x HEAD",
-        "--since needs a number of 1 to 10 digits",
+        "--since needs seconds of 1 to 10 digits, or a date from 1970 on, as 2024-05-01 or 2024-05-01T12:00:00Z",
     ),
     ("-C . newest --since 1234567890 HEAD", ""),
+    ("-C . newest --after=2024-02-29 HEAD", ""),
+    (
+        "-C . newest --before 2023-02-29 HEAD",
+        "--before needs seconds of 1 to 10 digits, or a date from 1970 on, as 2024-05-01 or 2024-05-01T12:00:00Z",
+    ),
+    ("-C . topo HEAD --max-count=2 -n3 --skip 4", ""),
+    (
+        "-C . topo HEAD --skip=",
+        "--skip needs a number of 1 to 9 digits",
+    ),
+    (
+        "-C . topo --merges HEAD --no-merges",
+        "--merges and --no-merges don't go together",
+    ),
+    ("-C . ahead a b --count", "--count doesn't go with ahead"),
     ("-C . topo --since 1 HEAD", "--since doesn't go with topo"),
     (
         "-C . newest HEAD --first-parent",
@@ -152,6 +167,40 @@ fn lines_have_numbers(rt: HostRuntime) -> Result<(), Fail> {
         };
         if said.as_str() != *wanted {
             return Err(Fail::new(format_args!("{said}, not {wanted}")));
+        }
+    }
+    Ok(())
+}
+
+/// Texts, and the seconds that they say, as `date -u -d` has them.
+const TIMES: &[(&str, Option<u64>)] = &[
+    ("0", Some(0)),
+    ("0000000017", Some(17)),
+    ("12345678901", None),
+    ("1970-01-01", Some(0)),
+    ("2024-05-01", Some(1714521600)),
+    ("2000-02-29", Some(951782400)),
+    ("1900-02-28", None),
+    ("2024-05-01T12:00:00Z", Some(1714564800)),
+    ("2024-05-01T12:00", Some(1714564800)),
+    ("2024-05-01T12:00:07+02:00", Some(1714557607)),
+    ("2024-05-01T12:00:00-0330", Some(1714577400)),
+    ("1970-01-01T00:00:00+00:01", None),
+    ("2286-11-20T17:46:39Z", Some(9999999999)),
+    ("2286-11-20T17:46:40Z", None),
+    ("2024-13-01", None),
+    ("2024-04-31", None),
+    ("2024-05-01T24:00", None),
+    ("2024-05-01 12:00", None),
+    ("yesterday", None),
+    ("", None),
+];
+
+#[test]
+fn times_are_read() -> Result<(), Fail> {
+    for (text, seconds) in TIMES {
+        if crate::date::seconds_of(text) != *seconds {
+            return Err(Fail::new(format_args!("{text}")));
         }
     }
     Ok(())

@@ -187,16 +187,19 @@ abbrev pub skip_from : ℕ → List (List ℕ) → Result Asked Fault
 skip_from n [] = Err fault.Usage
 skip_from n (number ∷ words) = skip_by (number_in 9 number) (n + 2) words
 
-abbrev pub skipped_of : ℕ → List (List ℕ) → Result Asked Fault
+unfoldable pub skipped_of : ℕ → List (List ℕ) → Result Asked Fault
 skipped_of n [] = Err fault.Usage
 skipped_of n (option ∷ words) = if bytes_eq option (codes "--skip") then skip_from n words else limited_of n (option ∷ words)
+
+abbrev pub no_merges_of : ℕ → List (List ℕ) → Result Asked Fault
+no_merges_of n [] = Err fault.Usage
+no_merges_of n (option ∷ words) =
+    if bytes_eq option (codes "--no-merges") then with_merges merges.No (skipped_of (n + 1) words) else skipped_of n (option ∷ words)
 
 abbrev pub merges_of : ℕ → List (List ℕ) → Result Asked Fault
 merges_of n [] = Err fault.Usage
 merges_of n (option ∷ words) =
-    if bytes_eq option (codes "--merges") then with_merges merges.Only (skipped_of (n + 1) words)
-    else if bytes_eq option (codes "--no-merges") then with_merges merges.No (skipped_of (n + 1) words)
-    else skipped_of n (option ∷ words)
+    if bytes_eq option (codes "--merges") then with_merges merges.Only (skipped_of (n + 1) words) else no_merges_of n (option ∷ words)
 
 abbrev pub until_by : Option ℕ → ℕ → List (List ℕ) → Result Asked Fault
 until_by (Some seconds) n words = with_until (pos seconds) (merges_of n words)

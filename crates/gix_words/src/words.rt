@@ -1,7 +1,7 @@
 //! The words of a command.
 ghost use Rattle.std.specs.Prelude.{◌≡◌, ◌≤◌, IfSome, map, string_bytes};
 ghost use Rattle.std.specs.List.{list_all};
-ghost use Rattle.gix_words.specs.Words.{Gives, Tells, AddsId, begins_with_caret, number_in, request_of_command, request_of, order_named, by_first_parents, by_cutoff, ids_from, plain_of, asked_by, until_of, until_from, merges_of, skipped_of, skip_from, limited_of, limit_from, formed_of, listed_of, since_of, in_order_of, file_of, files_of, ahead_of, is_shown, contained_among, contained_of};
+ghost use Rattle.gix_words.specs.Words.{Gives, Tells, AddsId, begins_with_caret, number_in, request_of_command, request_of, order_named, by_first_parents, by_cutoff, ids_from, plain_of, asked_by, until_of, until_from, merges_of, no_merges_of, with_merges, skipped_of, skip_from, limited_of, limit_from, formed_of, listed_of, since_of, in_order_of, file_of, files_of, ahead_of, is_shown, contained_among, contained_of};
 
 use crate::fault::Fault;
 use gix_parts::hash::ObjectId;
@@ -245,7 +245,7 @@ fn choice(alloc: Global, words: &[String], number: usize) -> Result<Chosen, Faul
     if option.as_str() == "--until" {
         return until(alloc, behind, number);
     }
-    merges(alloc, words, number)
+    by_merges(alloc, words, number)
 }
 
 /// What the words behind `--until`, the word of this number, choose with it.
@@ -259,13 +259,13 @@ fn until(alloc: Global, words: &[String], number: usize) -> Result<Chosen, Fault
     let Some(seconds) = number_in(seconds, 10) else {
         return Err(Fault::Usage);
     };
-    let mut chosen = merges(alloc, behind, number + 2)?;
+    let mut chosen = by_merges(alloc, behind, number + 2)?;
     chosen.shown.until = Some(seconds as i64);
     Ok(chosen)
 }
 
 /// What these words choose: maybe `--merges` or `--no-merges`, further options, ids.
-fn merges(alloc: Global, words: &[String], number: usize) -> Result<Chosen, Fault>
+fn by_merges(alloc: Global, words: &[String], number: usize) -> Result<Chosen, Fault>
     requires few { number ≤ 6 }
     ensures { Gives asked_by result (merges_of number (map string_bytes words.now)) }
 {
@@ -273,16 +273,33 @@ fn merges(alloc: Global, words: &[String], number: usize) -> Result<Chosen, Faul
         return Err(Fault::Usage);
     };
     if option.as_str() == "--merges" {
-        let mut chosen = skipped(alloc, behind, number + 1)?;
-        chosen.shown.merges = Merges::Only;
-        return Ok(chosen);
+        return merged(alloc, Merges::Only, behind, number + 1);
     }
+    by_no_merges(alloc, words, number)
+}
+
+/// What these words choose: maybe `--no-merges`, further options, ids.
+fn by_no_merges(alloc: Global, words: &[String], number: usize) -> Result<Chosen, Fault>
+    requires few { number ≤ 6 }
+    ensures { Gives asked_by result (no_merges_of number (map string_bytes words.now)) }
+{
+    let [option, behind @ ..] = words else {
+        return Err(Fault::Usage);
+    };
     if option.as_str() == "--no-merges" {
-        let mut chosen = skipped(alloc, behind, number + 1)?;
-        chosen.shown.merges = Merges::No;
-        return Ok(chosen);
+        return merged(alloc, Merges::No, behind, number + 1);
     }
     skipped(alloc, words, number)
+}
+
+/// What these words choose of such commits alone. The first of them is the word of this number.
+fn merged(alloc: Global, kept: Merges, words: &[String], number: usize) -> Result<Chosen, Fault>
+    requires few { number ≤ 7 }
+    ensures { Gives asked_by result (with_merges kept (skipped_of number (map string_bytes words.now))) }
+{
+    let mut chosen = skipped(alloc, words, number)?;
+    chosen.shown.merges = kept;
+    Ok(chosen)
 }
 
 /// What these words choose: maybe `--skip` and a number, further options, ids.
