@@ -68,7 +68,7 @@ module _ (objects : Objects) (shown : Shown) where
   less_by_one : (limit : Option ℕ) (n m : ℕ) (left : Option ℕ) → IsLimitLeft limit n left → left ≢ Some 0 → m ≡ n + 1 → IsLimitLeft limit m (one_less left)
   less_by_one None n m left is some e = ap one_less is
   less_by_one (Some most) n m left (zero, is, sum) some e = absurd (some is)
-  less_by_one (Some most) n m left (suc k, is, sum) some e = (k, ap one_less is, omega (arith, sum, e))
+  less_by_one (Some most) n m left (suc k, is, sum) some e = let back : suc k - 1 ≡ k = omega arith in (k, ap one_less is ∙ ap Some back, omega (arith, sum, e))
 
   pub moves : (infos : List Info) (info : Info) (old new : Choosing) (t : Bool) → IsAt infos old → old.left ≢ Some 0 → Passes old info.id t new → IsAt (infos ++ info ∷ []) new × (kept_in objects shown (infos ++ info ∷ []) ≡ kept_in objects shown infos ++ added_by t info.id)
   moves infos info old new t at some passes = go old at some new t passes

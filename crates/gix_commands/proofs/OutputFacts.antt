@@ -80,9 +80,9 @@ module _ {W E : Type 0} where
 
       -- how the walk ended, by what is left to be written
       pub ends_before : (infos : List Info) (left : Option ℕ) {answer : Result (Unit {0}) Fault} → IsLimitLeft limit (length (those infos)) left → left ≢ Some 0 → Ends Steps Tells walk infos answer → EndsBy Steps Tells those limit walk infos answer
-      ends_before infos left is some ends = go limit is
+      ends_before infos left {answer} is some ends = go limit is
         where
-          go : (limit : Option ℕ) → IsLimitLeft limit (length (those infos)) left → EndsBy Steps Tells those limit walk infos _
+          go : (limit : Option ℕ) → IsLimitLeft limit (length (those infos)) left → EndsBy Steps Tells those limit walk infos answer
           go None is = ends
           go (Some n) (k, e, sum) = before ends (fewer _ k n sum (λ z. some (e ∙ ap Some z)))
 
@@ -90,7 +90,7 @@ module _ {W E : Type 0} where
       ends_enough infos left at is none h = go limit is
         where
           go : (limit : Option ℕ) → IsLimitLeft limit (length (those infos)) left → EndsBy Steps Tells those limit walk infos (Ok tt)
-          go None is = let no : None ≡ Some 0 = sym is ∙ none in cc
+          go None is = let no : ◌≡◌ {A = Option ℕ} None (Some 0) = sym is ∙ none in cc
           go (Some n) (k, e, sum) = enough at h (all_drawn _ k n sum (let z : k ≡ 0 = cc in z))
 
       -- the walk's answer was a fault
@@ -176,7 +176,7 @@ module _ {W E : Type 0} where
       stops_enough at infos left is none h = inl (infos, h, go limit is)
         where
           go : (limit : Option ℕ) → IsLimitLeft limit (length (those infos)) left → Some (length (those infos)) ≡ limit
-          go None is = let no : None ≡ Some 0 = sym is ∙ none in cc
+          go None is = let no : ◌≡◌ {A = Option ℕ} None (Some 0) = sym is ∙ none in cc
           go (Some n) (k, e, sum) = ap Some (all_drawn _ k n sum (let z : k ≡ 0 = cc in z))
 
     module _ (Tells : E → Fault → Type 0) (those : List Info → List ObjectId) (limit : Option ℕ) (walk : W) (old : Option (List ℕ)) (held : Held) (none : held.lines ≡ []) where
@@ -217,10 +217,10 @@ module _ {W E : Type 0} where
     -- a list that is written at once, or whose number is
     module _ (Tells : E → Fault → Type 0) (those : List Info → List ObjectId) (limit : Option ℕ) (by : Form) (other : by ≢ form.Lines) (walk : W) (old : Option (List ℕ)) (held : Held) where
       -- nothing was written before
-      still : (by : Form) → by ≢ form.Lines → {ids : List ObjectId} {mid : Option (List ℕ)} {holds : Held} → Takes by old held ids mid holds → mid ≡ old
-      still form.Lines other takes = absurd (other refl)
-      still form.Count other takes = takes.0
-      still form.Reverse other takes = takes.0
+      still : (by : Form) → by ≢ form.Lines → (ids : List ObjectId) (mid : Option (List ℕ)) (holds : Held) → Takes by old held ids mid holds → mid ≡ old
+      still form.Lines other ids mid holds takes = absurd (other refl)
+      still form.Count other ids mid holds takes = takes.0
+      still form.Reverse other ids mid holds takes = takes.0
 
       writes_none : (by : Form) → by ≢ form.Lines → (e : Fault) (ids : List ObjectId) {mid : Option (List ℕ)} → mid ≡ old → Writes by (Err e) ids old mid
       writes_none form.Lines other e ids is = absurd (other refl)
@@ -232,14 +232,14 @@ module _ {W E : Type 0} where
       whole_failed {mid} {holds} {answer} {result} e (added h) fails same = subst (λ (r : Result (Unit {0}) Fault). WritesBegun Steps Tells those limit by walk old r mid) (sym same) (written (record {
         infos = h.infos;
         ends = subst (EndsBy Steps Tells those limit walk h.infos) fails h.ends;
-        writes = writes_none by other e (those h.infos) (still by other h.takes);
+        writes = writes_none by other e (those h.infos) (still by other (those h.infos) mid holds h.takes);
       }))
       whole_failed e (broken_off more lines empty h) fails same = absurd (other lines)
 
       -- the walk ended, and what was asked for was written, or not
       pub whole_written : {mid new : Option (List ℕ)} {holds : Held} (bytes : List ℕ) → AddsBegun Steps Tells those limit by walk old held (Ok tt) mid holds
           → ((ids : List ObjectId) → Takes by old held ids mid holds → (full : Option (List ℕ)) → Appends old full bytes → Writes by (Ok tt) ids old full) → (result : Result (Unit {0}) Fault) → WritesWhole mid bytes result new → WritesBegun Steps Tells those limit by walk old result new
-      whole_written {mid} {new} {holds} bytes (added h) writes result whole = go result (subst (λ o. WritesWhole o bytes result new) (still by other h.takes) whole)
+      whole_written {mid} {new} {holds} bytes (added h) writes result whole = go result (subst (λ o. WritesWhole o bytes result new) (still by other (those h.infos) mid holds h.takes) whole)
         where
           all : (full : Option (List ℕ)) → Appends old full bytes → WritesAll Steps Tells those limit by walk old (Ok tt) full
           all full a = record { infos = h.infos; ends = h.ends; writes = writes (those h.infos) h.takes full a }
