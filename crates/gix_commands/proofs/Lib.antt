@@ -4,6 +4,7 @@ mod WalkFaults
 mod MemoryFaults
 mod OutputFacts
 mod ChosenFacts
+mod LookedAt
 mod BrokenOff
 mod InternalFacts
 mod TreeFacts

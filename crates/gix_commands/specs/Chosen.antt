@@ -1,9 +1,10 @@
 -- Which of the commits that a walk gives are written, and how.
-use Rattle.std.specs.Prelude.{◌≡◌, ◌-◌, ◌<◌, ◌&&◌, ℕ, ℤ, int_le, nat_lt, nat_le, List, [], ◌∷◌, ◌++◌, length, map, reverse, Bool, true, false, Option, Some, None, Result, Ok, Err}
+use Rattle.std.specs.Prelude.{◌≡◌, ◌-◌, ◌<◌, ◌&&◌, ℕ, ℤ, pos, int_le, nat_lt, nat_le, List, [], ◌∷◌, ◌++◌, length, map, reverse, Bool, true, false, Option, Some, None, Result, Ok, Err}
 use Rattle.std.specs.Fmt.{digits}
 use Rattle.std.specs.Io.KnownBytes.{Appends}
 use Rattle.std.specs.List.{flat_map}
 use Rattle.gix_hash.specs.declared.ObjectId.{ObjectId}
+use Rattle.gix_object.specs.declared.decode.Error.{Error as DecodeError}
 use Rattle.gix_object.specs.Object.{Objects}
 use Rattle.gix_revwalk.specs.declared.Info.{Info}
 use Rattle.gix_revwalk.specs.Commits.{time_of}
@@ -51,6 +52,11 @@ Writes form.Count (Ok done) ids old new = Appends old new (digits 10 false (leng
 Writes form.Count (Err e) ids old new = new ≡ old
 Writes form.Reverse (Ok done) ids old new = Appends old new (flat_map line_of (reverse ids))
 Writes form.Reverse (Err e) ids old new = new ≡ old
+
+-- the time of a commit of which none may be read
+abbrev pub seconds_or_zero : Result ℤ DecodeError → ℤ
+seconds_or_zero (Ok time) = time
+seconds_or_zero (Err e) = pos 0
 
 -- how many more commits are left out, and how many are written at most
 pub record Choosing : Type 0 where

@@ -1,6 +1,7 @@
 //! Which of the commits that a walk gives are written.
-ghost use Rattle.std.specs.Prelude.{◌≡◌, ◌≢◌, ℕ, ℤ, true, Some, IfOk, IfErr, MatchBool, length};
-ghost use Rattle.gix_commands.specs.Chosen.{Passes, fresh_choosing, is_kept, keeps};
+ghost use Rattle.std.specs.Prelude.{◌≡◌, ◌≢◌, ℕ, ℤ, true, Some, IfOk, IfErr, MatchBool, length, pos};
+ghost use Rattle.gix_commands.specs.Chosen.{Passes, fresh_choosing, is_kept, keeps, seconds_or_zero};
+ghost use Rattle.gix_object.specs.declared.find.existing_iter.Error.TheVariants as existing;
 ghost use Rattle.gix_commands.specs.Readable.{is_first, readable};
 ghost use Rattle.gix_graph_store.specs.WithRows.{with_rows};
 ghost use Rattle.gix_revwalk.specs.Agreeing.{rows_in};
@@ -12,7 +13,7 @@ use gix_parts::graph::Graph;
 use gix_parts::hash::ObjectId;
 use gix_parts::object::find::existing_iter;
 use gix_parts::records::LentStore;
-use gix_revwalk::read::find_header;
+use gix_revwalk::read::{Header, find_header};
 use gix_traverse::commit::Parents;
 use gix_words::{Fault, Form, Merges, Shown};
 use std::alloc::Global;
@@ -124,10 +125,32 @@ impl<'a> Chooser<'a> {
         ensures err { IfErr result (λ e. e ≡ Fault.Memory) }
     {
         match find_header(self.alloc, &self.objects, id, &mut self.text) {
-            Ok(header) => Ok((header.parent_ids.len(), header.time.unwrap_or(0))),
-            Err(existing_iter::Error::Memory) => Err(Fault::Memory),
-            Err(_) => Ok((0, 0)),
+            Ok(header) => Ok(numbers_of(&header)),
+            Err(why) => no_numbers(why),
         }
+    }
+}
+
+/// How many parents a header names, and its seconds, or 0 where they can't be read.
+fn numbers_of(header: &Header) -> (usize, i64)
+    ensures parents { result.0 ≡ length header.now.parent_ids.items }
+    ensures time { result.1 ≡ seconds_or_zero header.now.time }
+{
+    let time = match header.time {
+        Ok(time) => time,
+        Err(_) => 0,
+    };
+    (header.parent_ids.len(), time)
+}
+
+/// What is no commit has no parents, and no time.
+fn no_numbers(why: existing_iter::Error) -> Result<(usize, i64), Fault>
+    ensures ok { IfOk result (λ r. (r.0 ≡ 0) × (r.1 ≡ pos 0) × (why ≢ existing.Memory)) }
+    ensures err { IfErr result (λ e. e ≡ Fault.Memory) }
+{
+    match why {
+        existing_iter::Error::Memory => Err(Fault::Memory),
+        _ => Ok((0, 0)),
     }
 }
 
