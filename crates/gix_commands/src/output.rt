@@ -52,7 +52,7 @@ where
     requires can { I.can_next walk }
     requires finite { IsFinite (I.remaining walk) }
     requires fresh { chooser ≡ fresh_choosing chooser.objects chooser.shown }
-    ensures { WritesBegun I.next_gives E.converts (kept_in chooser.objects chooser.shown) chooser.shown.limit chooser.shown.form walk (W.contents writer.old) result (W.contents writer.new) }
+    ensures { WritesBegun I.next_gives E.converts (kept_in chooser.entry.objects chooser.entry.shown) chooser.entry.shown.limit chooser.entry.shown.form walk (W.contents writer.old) result (W.contents writer.new) }
 {
     let form = chooser.form();
     let mut sink = Sink {

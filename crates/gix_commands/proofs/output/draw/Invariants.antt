@@ -1,4 +1,4 @@
-use Rattle.std.proofs.Common.{List}
+use Rattle.std.proofs.Common.{◌≡◌, List}
 use Rattle.std.specs.Iterator.{IsFinite, size}
 use Rattle.gix_commands.proofs.Common.{Yields, Info, kept_in}
 use Rattle.gix_commands.specs.Output.{Takes, held_in}
@@ -13,6 +13,7 @@ invariant-draws g l = record {
   drawn : Yields g.I.Iterator.next_gives l.fn.walk (given infos) l.walk;
   can : g.I.Iterator.can_next l.walk;
   finite : IsFinite (g.I.Iterator.remaining l.walk);
+  form : l.sink.form ≡ l.fn.sink.form;
   at : IsAt l.fn.chooser.objects l.fn.chooser.shown infos l.chooser;
   takes : Takes l.fn.sink.form (g.W.Write.contents l.fn.writer) (held_in l.fn.sink) (kept_in l.fn.chooser.objects l.fn.chooser.shown infos) (g.W.Write.contents l.writer) (held_in l.sink);
 }
