@@ -115,3 +115,23 @@ module _ (objects : Objects) (shown : Shown) where
             },
             kept,
           )
+
+-- one call of a chooser, by what it holds inside
+module _ (old inside : Choosing) (i : ObjectId) (same : inside ≡ old) where
+  pub passes_unkept : keeps old i ≡ false → (new : Choosing) → new ≡ old → Passes old i false new
+  passes_unkept e new is = subst (Passes old i false) (sym is) (unkept e)
+
+  here : keeps old i ≡ true → keeps inside i ≡ true
+  here e = subst (λ c. keeps c i ≡ true) (sym same) e
+
+  pub passes_skipped : keeps old i ≡ true → 0 < inside.skip → Passes old i false (record inside { skip = inside.skip - 1 })
+  passes_skipped e more = subst (λ c. Passes c i false (record inside { skip = inside.skip - 1 })) same (skipped (here e) more)
+
+  pub passes_taken : keeps old i ≡ true → inside.skip ≡ 0 → (n : ℕ) → inside.left ≡ Some n → Passes old i true (record inside { left = Some (n - 1) })
+  passes_taken e none n is =
+      subst (λ (l : Option ℕ). Passes old i true (record inside { left = l })) (ap one_less is) (subst (λ c. Passes c i true (record inside { left = one_less inside.left })) same (taken (here e) none))
+
+  pub passes_all : keeps old i ≡ true → inside.skip ≡ 0 → inside.left ≡ None → (new : Choosing) → new ≡ old → Passes old i true new
+  passes_all e none is new kept =
+      subst (Passes old i true) (sym (kept ∙ sym same))
+      (subst (λ (l : Option ℕ). Passes old i true (record inside { left = l })) (ap one_less is ∙ sym is) (subst (λ c. Passes c i true (record inside { left = one_less inside.left })) same (taken (here e) none)))

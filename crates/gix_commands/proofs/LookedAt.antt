@@ -1,6 +1,6 @@
 -- What is read of a commit again is what its text says.
-use Rattle.std.proofs.Common.{◌≡◌, ◌≢◌, ℕ, ℤ, pos, List, [], length, Option, Some, None, Result, Ok, Err, refl, sym, ap, subst, ◌∙◌}
-use Rattle.gix_commands.proofs.Common.{get, ObjectId, Objects, Object, Commit, IsExistingFault, commit_at, commit_of_kind, commit_of_object, kind_of, never_faulty, next_in, read_commit, text_next, text_parents_of_kind, time_in, time_of}
+use Rattle.std.proofs.Common.{◌≡◌, ◌≢◌, ℕ, ℤ, pos, List, [], length, Option, Some, None, Result, Ok, Err, IfOk, refl, sym, ap, subst, ◌∙◌}
+use Rattle.gix_commands.proofs.Common.{Fault, get, ObjectId, Objects, Object, Commit, IsExistingFault, commit_at, commit_of_kind, commit_of_object, kind_of, never_faulty, next_in, read_commit, text_next, text_parents_of_kind, time_in, time_of}
 use Rattle.gix_object.specs.CommitItems.{commit_items}
 use Rattle.gix_object.specs.CommitRefIter.{first_committer}
 use Rattle.gix_object.specs.declared.Kind.{Kind}
@@ -47,3 +47,16 @@ numbers_unread objects i why n time fails none zero other = go why (fails other)
     go (existing.NotFound oid) f = unstored f.1
     go (existing.ObjectKind oid wanted actual) f = of_kind actual f.3 f.2 f.4
     go existing.Memory f = absurd f
+
+module _ (objects seen : Objects) (i : ObjectId) (same : objects ≡ seen) (result : Result (ℕ × ℤ) Fault) where
+  -- what was read, by the store that was looked at
+  pub ok_read : (r : ℕ × ℤ) (header : Header) → result ≡ Ok r → ReadsHeader objects i header → r.0 ≡ length header.parent_ids.items → r.1 ≡ seconds_or_zero header.time → IfOk result (AreNumbersOf seen i)
+  ok_read r header is h parents seconds = subst (λ x. IfOk x (AreNumbersOf seen i)) (sym is) (numbers_read seen i header r.0 r.1 (subst (λ o. ReadsHeader o i header) same h) parents seconds)
+
+  pub ok_unread : (why : ExistingError) (inner : Result (ℕ × ℤ) Fault) → result ≡ inner → (why ≢ existing.Memory → IsExistingFault objects (never_faulty objects) i kind.Commit why)
+      → IfOk inner (λ r. (r.0 ≡ 0) × (r.1 ≡ pos 0) × (why ≢ existing.Memory)) → IfOk result (AreNumbersOf seen i)
+  ok_unread why inner is fails h = subst (λ x. IfOk x (AreNumbersOf seen i)) (sym is) (go inner h)
+    where
+      go : (inner : Result (ℕ × ℤ) Fault) → IfOk inner (λ r. (r.0 ≡ 0) × (r.1 ≡ pos 0) × (why ≢ existing.Memory)) → IfOk inner (AreNumbersOf seen i)
+      go (Ok r) h = numbers_unread seen i why r.0 r.1 (subst (λ o. why ≢ existing.Memory → IsExistingFault o (never_faulty o) i kind.Commit why) same fails) h.0 h.1 h.2
+      go (Err e) h = tt
