@@ -13,17 +13,17 @@ draws-init g c = record {
   can = c.requires.can;
   finite = c.requires.finite;
   form = refl;
-  at = at_first _ _ _ c.requires.fresh;
-  takes = takes_nothing _ _ _ _ (none_kept _ _);
+  at = at_first c.args.chooser.now.objects c.args.chooser.now.shown _ c.requires.fresh;
+  takes = takes_nothing _ _ _ _ (none_kept c.args.chooser.now.objects c.args.chooser.now.shown);
 }
 
 pub returns-in_default-clause-adds : goal.returns-in_default-clause-adds
-returns-in_default-clause-adds g c = adds_all g.I.Iterator.next_gives g.E.Into.converts _ _ _ _ _ _ _ _ c.draws.invariant.infos _ _ _ c.draws.invariant.at.left ? c.draws.invariant.drawn c.in_default.ensures.steps c.draws.invariant.takes
+returns-in_default-clause-adds g c = adds_all g.I.Iterator.next_gives g.E.Into.converts _ _ _ _ _ _ _ _ c.draws.invariant.infos _ _ _ c.draws.invariant.at.left c.draws-test.ensures c.draws.invariant.drawn c.in_default.ensures.steps c.draws.invariant.takes
 
 pub returns-in-Err-clause-adds : goal.returns-in-Err-clause-adds
-returns-in-Err-clause-adds g c = adds_failed g.I.Iterator.next_gives g.E.Into.converts _ _ _ _ _ _ _ _ c.draws.invariant.infos _ _ _ _ _ _ c.draws.invariant.at.left ? c.draws.invariant.drawn c.in-Some.ensures.steps c.in-Err.is c.into.ensures c.draws.invariant.takes
+returns-in-Err-clause-adds g c = adds_failed g.I.Iterator.next_gives g.E.Into.converts _ _ _ _ _ _ _ _ c.draws.invariant.infos _ _ _ _ _ _ c.draws.invariant.at.left c.draws-test.ensures c.draws.invariant.drawn c.in-Some.ensures.steps c.in-Err.is c.into.ensures c.draws.invariant.takes
 
 pub returns-in_err-take-clause-adds : goal.returns-in_err-take-clause-adds
 returns-in_err-take-clause-adds g c =
     let p = err_from_is_err_and c.from_residual-in_err-take.result c.from_residual-in_err-take.ensures.1 in
-    adds_cut g.I.Iterator.next_gives g.E.Into.converts _ _ _ _ _ _ _ _ c.draws.invariant.infos _ _ _ _ _ _ _ _ _ c.draws.invariant.at.left ? c.draws.invariant.drawn c.in-Some.ensures.steps c.in-Ok.is c.draws.invariant.takes (p.1 ∙ ap (λ f. Err f) p.2) ?
+    adds_cut g.I.Iterator.next_gives g.E.Into.converts _ _ _ _ _ _ _ _ c.draws.invariant.infos _ _ _ _ _ _ _ _ _ c.draws.invariant.at.left c.draws-test.ensures c.draws.invariant.drawn c.in-Some.ensures.steps c.in-Ok.is c.draws.invariant.takes (p.1 ∙ ap (λ f. Err f) p.2) ?
