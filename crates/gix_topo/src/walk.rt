@@ -162,7 +162,8 @@ impl<F: Find + Drop> Walk<F> {
     {
         let named = walked(self.counting.parents, commit.parent_ids.as_slice());
         self.counting.lower(named, commit.near);
-        let ids = last_places(self.counting.reader.alloc, named)?;
+        let keys = self.counting.reader.find.keys();
+        let ids = last_places(self.counting.reader.alloc, keys, named)?;
         self.counting.explore()?;
         self.release_all(ids.as_slice(), commit.near)
     }
