@@ -17,6 +17,8 @@ use std::io::Write;
 
 /// The generation of a row that has no parents.
 const FIRST_GENERATION: u32 = 1;
+/// The most bytes of a block that the C library keeps when it is given back: 32 MiB, less what it adds to a block.
+const KEPT_BLOCK: usize = (32 << 20) - (1 << 14);
 
 /// The rows of a question.
 #[derive(Drop)]
@@ -61,6 +63,7 @@ pub(crate) fn rows(
             is_unchecked: true,
         });
     }
+    keep_blocks(rt);
     let layers = match read_layers(rt, folder_of(cache.as_ref()), paths.as_slice()) {
         Ok(layers) => layers,
         Err(fault) => {
@@ -86,6 +89,13 @@ pub(crate) fn rows(
             Ok(nothing())
         }
     }
+}
+
+/// Has the C library keep large blocks that are given back. Else it hands each to the system, whose new pages take half of the time in which
+/// rows are opened. It does so once a block of the size has been given back. This one is never touched, and needn't be had.
+fn keep_blocks(rt: &HostRuntime) {
+    let block: Result<Vec<u8>, _> = Vec::with_capacity(rt.alloc(), KEPT_BLOCK);
+    drop(block);
 }
 
 /// Says that the rows aren't used, and why.
