@@ -60,9 +60,9 @@ struct kestrelrack_answer {
  *
  * words    The command and its ids: "breadth", "newest", "oldest", "topo" or "date", maybe "--first-parent" behind "breadth", or
  *          "--since" and a number of 1 to 10 digits behind "newest" or "oldest", maybe "-n" and a number of 1 to 9 digits, and ids of
- *          tips, one at least, and ids of commits to be hidden, each after a ^; "ahead" and two ids; "contains" or
- *          "merge-base" and two ids at least; "files" and the id of a tree. One space or one newline is between two words, and none at either end. An id is 40 or 64 hex
- *          digits. After "-n" and a number no more lines are written than the number says.
+ *          tips, one at least, and ids of commits to be hidden, each after a ^; "ahead" and two ids; "contains" or "merge-base" and two
+ *          ids at least; "files" and the id of a tree. One space or one newline is between two words, and none at either end. An id is
+ *          40 or 64 hex digits. After "-n" and a number no more lines are written than the number says.
  * records  The objects, as `git cat-file --batch='%(objecttype) %(objectname) %(objectsize)'` prints them. They are read where they
  *          are: only an object that the walk looks up is copied, one at a time.
  * room     For the lines, each with a newline and none with a zero byte. The lines of commits are never longer than the records, and
@@ -108,9 +108,10 @@ enum { KESTRELRACK_TIME = 1, KESTRELRACK_GENERATION = 2 };
  *   any other         the fault, which comes behind these commits.
  * What is behind the commits in `commits`, and behind their parents in `parents`, is as it was.
  *
- * Each call walks from the start, and reads as many objects as one with "-n" and skip + length. Whoever wants all takes batches that grow,
- * as 1,000, 8,000, 64,000: together they cost at most 1.5 walks by breadth, newest and oldest, and 2.2 by topo and date. As long as the
- * words and the records are the same, batches one behind another are the list.
+ * Each call finds all records and walks from the start, and it looks up as many objects as one with "-n" and skip + length. Whoever wants
+ * all takes one large room, or batches that grow, as 1,000, 8,000, 64,000: over 200,000 commits these took 1.9 to 2.3 times as long as one
+ * call by breadth and newest, and 2.6 to 3.3 times by topo and date. As long as the words and the records are the same, batches one behind
+ * another are the list.
  */
 struct kestrelrack_answer kestrelrack_commits(const void *words, size_t words_length, const void *records, size_t records_length,
                                               uint64_t skip, struct kestrelrack_commit *commits, size_t commits_length,
