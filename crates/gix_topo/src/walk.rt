@@ -36,8 +36,8 @@ impl<F: Find + Drop> Walk<F> {
     ghost use Rattle.gix_topo.specs.Inside.Steady.{IsOpen, TakesNext};
     ghost use Rattle.gix_topo.specs.Walk.{Ready, IsBuildFault};
 
-    /// A commit whose children were all taken is read, and becomes ready. All its parents are looked up, also those that aren't walked.
-    /// `near` is where to look first for its row.
+    /// A commit whose children were all taken is read, and becomes ready. Where it wasn't read by its row, all its parents are looked up,
+    /// also those that aren't walked. `near` is where to look first for its row.
     ///
     /// # Errors
     ///
