@@ -80,11 +80,6 @@ word_at bytes i =
     from_le_bytes w64 (slice_index bytes i ∷ slice_index bytes (i + 1) ∷ slice_index bytes (i + 2) ∷ slice_index bytes (i + 3)
     ∷ slice_index bytes (i + 4) ∷ slice_index bytes (i + 5) ∷ slice_index bytes (i + 6) ∷ slice_index bytes (i + 7) ∷ [])
 
--- the number that an id is hashed by
-abbrev pub spread : ObjectId → ℕ
-spread (id.Sha1 bytes) = (word_at bytes 0 + word_at bytes 12) % 2 ^ 64
-spread (id.Sha256 bytes) = (word_at bytes 0 + word_at bytes 24) % 2 ^ 64
-
 -- an id is stored as whether it is long, and its bytes
 abbrev pub is_long : ObjectId → Bool
 is_long (id.Sha1 bytes) = false

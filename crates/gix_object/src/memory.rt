@@ -5,7 +5,7 @@ ghost use Rattle.gix_object.specs.MemoryStore.{objects_at, AreWithin};
 
 use crate::Kind;
 use crate::find::{Error, Find};
-use gix_hash::ObjectId;
+use gix_hash::{Keys, ObjectId};
 use gix_hash::hashtable::IdMap;
 use std::alloc::{AllocError, Global};
 use std::marker::Model;
@@ -124,5 +124,9 @@ impl Find for MemoryStore {
             Ok(()) => Ok(Some(stored.kind)),
             Err(_) => Err(Error::Memory),
         }
+    }
+
+    fn keys(&self) -> Keys {
+        self.objects.keys()
     }
 }

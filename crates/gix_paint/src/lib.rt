@@ -282,6 +282,7 @@ pub fn paint<'a, F: Find>(
     ensures fault { IfErr result (λ why. why ≢ Hidden.Find existing.Memory → IsHiddenFault (F.objects objects.now) (F.faulty objects.now) (rows_in graph.entry)
         (ids_of tips.now.items) hidden_tips.now why) }
 {
+    let keys = objects.keys();
     let mut painter = Painter {
         source: Source {
             objects,
@@ -290,8 +291,8 @@ pub fn paint<'a, F: Find>(
             text: Vec::new(alloc),
             alloc,
         },
-        marks: IdMap::new(alloc),
-        frontier: IdSet::new(alloc),
+        marks: IdMap::new(alloc, keys),
+        frontier: IdSet::new(alloc, keys),
         queue: PriorityQueue::new(alloc),
     };
     painter.meet_all(hidden_tips, Side::Hidden)?;

@@ -21,7 +21,7 @@ mod named;
 mod objects;
 
 use front::record_at;
-use gix_hash::ObjectId;
+use gix_hash::{Keys, ObjectId};
 use gix_hash::hashtable::IdMap;
 use gix_object::memory::{MemoryStore, Stored};
 pub use input::read_to_end;
@@ -106,33 +106,33 @@ pub fn records_of(alloc: Global, input: Vec<u8>) -> Result<MemoryStore, Error>
     // Input that is records is read, unless memory runs out.
     ensures only { (records : List Record) → AreRecords records input.items → MatchResult result (λ store. store ≡ stored records) (λ e. e ≡ Error.Memory) }
 {
-    let objects = places_of(alloc, input.as_slice())?;
+    let objects = places_of(alloc, Keys::KNOWN, input.as_slice())?;
     Ok(MemoryStore::over(input, objects))
 }
 
 /// The objects of the records that the bytes are, in a store that borrows the bytes and copies none. Of two records of one id the later
-/// counts.
+/// counts. The table of ids has these keys.
 ///
 /// # Errors
 /// `Record` with the number of the first that isn't one, `Memory`.
-pub fn records_in(alloc: Global, bytes: &[u8]) -> Result<LentStore<'_>, Error>
+pub fn records_in(alloc: Global, keys: Keys, bytes: &[u8]) -> Result<LentStore<'_>, Error>
     ensures read { IfOk result (λ store. (records : List Record) × AreRecords records bytes.now × (store ≡ stored records)) }
     ensures fault { IfErr result (λ e. IsRecordFault bytes.now e) }
     // Bytes that are records are read, unless memory runs out.
     ensures only { (records : List Record) → AreRecords records bytes.now → MatchResult result (λ store. store ≡ stored records) (λ e. e ≡ Error.Memory) }
 {
-    let objects = places_of(alloc, bytes)?;
+    let objects = places_of(alloc, keys, bytes)?;
     Ok(LentStore::over(bytes, objects))
 }
 
 /// The places of the objects of the records that the bytes are.
-fn places_of(alloc: Global, bytes: &[u8]) -> Result<IdMap<Stored>, Error>
+fn places_of(alloc: Global, keys: Keys, bytes: &[u8]) -> Result<IdMap<Stored>, Error>
     ensures within { IfOk result (λ places. AreWithin places (length bytes.now)) }
     ensures read { IfOk result (λ places. (records : List Record) × AreRecords records bytes.now × (objects_at bytes.now places ≡ stored records)) }
     ensures fault { IfErr result (λ e. IsRecordFault bytes.now e) }
     ensures only { (records : List Record) → AreRecords records bytes.now → MatchResult result (λ places. objects_at bytes.now places ≡ stored records) (λ e. e ≡ Error.Memory) }
 {
-    let mut objects = IdMap::new(alloc);
+    let mut objects = IdMap::new(alloc, keys);
     let mut rest = bytes;
     let mut number = 1;
     while !rest.is_empty() {
