@@ -1,5 +1,5 @@
 -- Ids of objects: 20 bytes (SHA-1) or 32 (SHA-256), written as hex digits.
-use Rattle.std.specs.Prelude.{ℕ, ◌+◌, ◌*◌, ◌%◌, ◌^◌, List, [], ◌∷◌, Bool, true, false, if◌then◌else◌, ◌==◌, length, slice_index, Option, Some, None, Result, Ok, Err, refl}
+use Rattle.std.specs.Prelude.{ℕ, ◌+◌, ◌*◌, List, [], ◌∷◌, Bool, true, false, if◌then◌else◌, ◌==◌, length, slice_index, Option, Some, None, Result, Ok, Err, refl}
 use Rattle.std.specs.Int.{w64, from_le_bytes}
 use Rattle.std.specs.Ordering.{nat_cmp}
 use Rattle.std.specs.declared.cmp.Ordering.{Ordering}
