@@ -4,9 +4,11 @@ ghost use Rattle.gix_hash.specs.Keyed.{folded_multiply, mixed, keys_of};
 
 use crate::word_at;
 use std::hash::{BuildHasher, Hasher};
+use std::io;
+use std::random::RandomSource;
 
-/// The keys of tables of ids. They change no answer, but who knows them can choose ids that make tables slow. So where ids come from
-/// strangers take random keys, by [`Keys::of`], the same for all tables of a run. Tables that are made without keys have [`Keys::KNOWN`].
+/// The keys of tables of ids. They change no answer. But whoever knows them can choose ids that make tables slow. So if ids come from
+/// strangers, take [`Keys::random`], once in a run, for all its tables. A caller without a source of randomness has [`Keys::KNOWN`].
 #[derive(Clone, Copy)]
 pub struct Keys {
     /// Where a hash begins.
@@ -16,13 +18,24 @@ pub struct Keys {
 }
 
 impl Keys {
-    /// The keys that anybody knows, for ids that nobody has chosen.
+    /// Keys that anybody knows, for tests, and for ids that nobody chose.
     pub const KNOWN: Keys = Keys {
         first: 0x243F_6A88_85A3_08D3,
         second: 0x1319_8A2E_0370_7345,
     };
 
-    /// The keys that these bytes say, each of which should be random.
+    /// Keys of the system's randomness.
+    ///
+    /// # Errors
+    ///
+    /// Why the system has none.
+    pub fn random(rt: &impl RandomSource) -> io::Result<Keys> {
+        let mut bytes = [0; 16];
+        rt.fill_bytes(&mut bytes)?;
+        Ok(Keys::of(bytes))
+    }
+
+    /// The keys that these bytes say. Each byte should be random.
     pub fn of(bytes: [u8; 16]) -> Keys
         ensures { result ≡ keys_of bytes }
     {
