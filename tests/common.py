@@ -137,7 +137,7 @@ class Repository:
         revisions = [word for word in rest if not word.startswith("-")] + input.split()
         if command in WALKS:
             order = {"topo": ["--topo-order"], "date": ["--date-order"]}.get(command, [])
-            rest = ["--max-age" if word == "--since" else word for word in rest if word != "--stdin"]
+            rest = [{"--since": "--max-age", "--until": "--min-age"}.get(word, word) for word in rest if word != "--stdin"]
             return self.git("rev-list", *order, *rest, *input.split()), 0
         if command == "ahead":
             pair = "...".join(revisions)
