@@ -3,6 +3,8 @@ mod WordFaults
 pub mod WalkFaults
 mod MemoryFaults
 mod OutputFacts
+mod ChosenFacts
+mod LookedAt
 mod BrokenOff
 mod InternalFacts
 mod TreeFacts
@@ -29,7 +31,6 @@ pub mod TopoRuns
 mod GoesOn
 pub mod SimpleBegins
 mod TopoBegins
-mod FirstCommits
 mod NamedTrees
 mod FileRuns
 mod SimpleFaults
@@ -64,6 +65,7 @@ pub mod PageCommits
 mod PageTexts
 mod PageLists
 mod OrderNames
+mod WrittenBytes
 pub mod RightSimple
 pub mod RightTopo
 pub mod RightRuns

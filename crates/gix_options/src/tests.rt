@@ -25,7 +25,20 @@ const CASES: &[(&str, &str)] = &[
         "-C . newest --after 2023-02-29 HEAD",
         "--after needs seconds of 1 to 10 digits, or a date from 1970 on, as 2024-05-01 or 2024-05-01T12:00:00Z",
     ),
-    ("-C . topo HEAD --max-count=2 -n3 --max-count 4", ""),
+    (
+        "-C . newest --before 2023-02-29 HEAD",
+        "--before needs seconds of 1 to 10 digits, or a date from 1970 on, as 2024-05-01 or 2024-05-01T12:00:00Z",
+    ),
+    ("-C . topo HEAD --max-count=2 -n3 --skip 4", ""),
+    (
+        "-C . topo HEAD --skip=",
+        "--skip needs a number of 1 to 9 digits",
+    ),
+    (
+        "-C . topo --merges HEAD --no-merges",
+        "--merges and --no-merges don't go together",
+    ),
+    ("-C . ahead a b --count", "--count doesn't go with ahead"),
     ("-C . topo --since 1 HEAD", "--since doesn't go with topo"),
     (
         "-C . newest HEAD --first-parent",
