@@ -30,6 +30,9 @@ pub enum Misuse {
     /// No commit has one parent at most and two at least.
     #[error("--merges and --no-merges don't go together")]
     Merges,
+    /// A number of lines has no last line.
+    #[error("--count and --reverse don't go together")]
+    Count,
     /// `--` would separate revisions from paths.
     #[error("paths aren't known: what follows the command are revisions")]
     Paths,

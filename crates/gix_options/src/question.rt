@@ -387,6 +387,9 @@ impl Arguments {
         if self.options.merges && self.options.no_merges {
             return Err(Misuse::Merges);
         }
+        if self.options.counts && self.options.is_reversed {
+            return Err(Misuse::Count);
+        }
         if self.options.by_first_parents && name != Name::Breadth {
             return Err(Misuse::option("--first-parent", name));
         }

@@ -38,7 +38,26 @@ const CASES: &[(&str, &str)] = &[
         "-C . topo --merges HEAD --no-merges",
         "--merges and --no-merges don't go together",
     ),
+    (
+        "-C . topo --count HEAD --reverse",
+        "--count and --reverse don't go together",
+    ),
     ("-C . ahead a b --count", "--count doesn't go with ahead"),
+    (
+        "-C . contains --no-merges a b",
+        "--no-merges doesn't go with contains",
+    ),
+    ("-C . files a --until 1", "--until doesn't go with files"),
+    (
+        "-C . merge-base --skip=1 a b",
+        "--skip doesn't go with merge-base",
+    ),
+    (
+        "-C . resolve --reverse a",
+        "--reverse doesn't go with resolve",
+    ),
+    ("-C . date --before=1 --merges --skip 2 --count a", ""),
+    ("-C . oldest --until=2024-02-29 --no-merges --reverse a", ""),
     ("-C . topo --since 1 HEAD", "--since doesn't go with topo"),
     (
         "-C . newest HEAD --first-parent",

@@ -356,8 +356,8 @@ module _ (parents : ObjectId → List ObjectId) (time : ObjectId → ℤ) where
         ⊎_elim
             (λ e. ([], sym (append-nil bytes ∙ same e)))
             (λ (lines : c.form ≡ Lines).
-                let b = begun_before parents followed time starts hidden c by ids others [] ids others begins allows second refl refl in
-                (flat_map id_line b.0, full_so ∙ ap (λ f. written f (chosen parents time c others)) lines ∙ ap (flat_map id_line) b.1 ∙ flat_more (chosen parents time c ids) b.0 ∙ ap (λ x. x ++ flat_map id_line b.0) (ap (λ f. written f (chosen parents time c ids)) (sym lines) ∙ sym is_written)))
+            let b = begun_before parents followed time starts hidden c by ids others [] ids others begins allows second refl refl in
+            (flat_map id_line b.0, full_so ∙ ap (λ f. written f (chosen parents time c others)) lines ∙ ap (flat_map id_line) b.1 ∙ flat_more (chosen parents time c ids) b.0 ∙ ap (λ x. x ++ flat_map id_line b.0) (ap (λ f. written f (chosen parents time c ids)) (sym lines) ∙ sym is_written)))
             may,
         same,
       )
