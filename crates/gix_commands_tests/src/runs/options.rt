@@ -12,7 +12,7 @@ fn lines_are_skipped_and_limited(rt: HostRuntime) -> Result<(), Fail> {
             (&["newest", "--skip", "4", "#8", "^#6"], ""),
             (&["newest", "--skip", "999999999", "#8", "^#6"], ""),
             (&["newest", "--skip", "1", "-n", "2", "#8"], "#7\n#6\n"),
-            (&["oldest", "--skip", "7", "-n", "1", "#8"], "#1\n"),
+            (&["oldest", "--skip", "7", "-n", "1", "#8"], "#2\n"),
             (&["topo", "--skip", "1", "-n", "0", "#8"], ""),
             (&["date", "--skip", "3", "#8", "^#1"], "#5\n#4\n#3\n#2\n"),
             (
