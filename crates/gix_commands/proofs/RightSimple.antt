@@ -39,15 +39,6 @@ use Rattle.gix_commands.proofs.ListedCommits.{IsSimpleBy, followed, kept_tips}
 first_within : (k : ℕ) (infos : List Info) (info : Info) → Contains (take k infos) info → Contains infos info
 first_within k infos info c = subst (λ xs. Contains xs info) (take-append-drop k infos) (Contains-append_left (take k infos) (drop k infos) info c)
 
--- they are no more than a limit
-abbrev pub IsWithin : Option ℕ → List Info → Type 0
-IsWithin None infos = Unit {0}
-IsWithin (Some n) infos = length infos ≤ n
-
-pub asks_within : (limit : Option ℕ) (infos : List Info) → AsksForMore limit infos → IsWithin limit infos
-asks_within None infos more = tt
-asks_within (Some n) infos more = omega (arith, more)
-
 -- what is behind others and before one is before the last
 in_front : (ids taken rest : List ObjectId) (j c : ObjectId) → ids ≡ taken ++ j ∷ rest → Contains taken c → Contains (front ids) c
 in_front ids taken rest j c is m =
@@ -178,27 +169,28 @@ module _ (objects : Objects) (rows : List GraphRow) (agrees : IsAgreeing objects
     abbrev pub bytes_of : List ObjectId → List ℕ
     bytes_of ids = page.written (page_form shown.form) (kept ids)
 
-    -- in each history what is written of these is the list, or so far a beginning of it
+    -- these are there, and in each history what is written of them is the list, or so far a beginning of it
     abbrev pub AreListed : Bool → List ObjectId → Type 0
-    AreListed ended ids = InEach (page_objects objects) [] (λ ps ts. page.Lists (page_objects objects) [] ps ts (bytes_of ids) ended asked)
+    AreListed ended ids = All IsHere ids × InEach (page_objects objects) [] (λ ps ts. page.Lists (page_objects objects) [] ps ts (bytes_of ids) ended asked)
 
     -- the first of a list, which were read
     first_each : (ended : Bool) → MayBe ended → (walk : Walk) → StartsFrom objects rows m by tips hidden walk → (ids more : List ObjectId) → IsList (ids ++ more) → AreRead ids → Allows shown.limit (length (kept ids))
         → ((ended ≡ true) × Allows shown.limit (suc (length (kept ids))) → (more ≡ []) × AreJudged ids) → AreListed ended ids
     first_each ended may walk starts ids more l r allows all =
         let those = lists_so (ids ++ more) l in
-        simple_each (page_objects objects) [] texts (time_of objects) (fed_history objects) None None name option words (page_choice shown) place tips hidden ids (is_order name (Simple m by) named) chooses some r.there allows ended may (bytes_of ids) refl tt
+        (r.there, simple_each (page_objects objects) [] texts (time_of objects) (fed_history objects) None None name option words (page_choice shown) place tips hidden ids (is_order name (Simple m by) named) chooses some r.there allows ended may (bytes_of ids) refl tt
         (simple_name name m by named) (is_followed objects texts name option tips m by named chosen_by)
         (begins_so texts through (time_of objects) left hidden name (ids ++ more) those ids more refl)
         (λ one_more. let same : ids ++ more ≡ ids = ap (λ xs. ids ++ xs) (all one_more).0 ∙ append-nil ids in whole_so texts through (time_of objects) left hidden name ids (subst ListsSo same those))
-        r.below (λ late. tips_there walk starts (by_time late)) (λ late taken rest j is c i n p. r.judged (by_time late) c i (in_front ids taken rest j c is n) p) (λ one_more late. (all one_more).1 (by_time late))
+        r.below (λ late. tips_there walk starts (by_time late)) (λ late taken rest j is c i n p. r.judged (by_time late) c i (in_front ids taken rest j c is n) p) (λ one_more late. (all one_more).1 (by_time late)))
 
     -- nothing was listed
     none_each_so : (ended : Bool) → MayBe ended → (walk : Walk) → StartsFrom objects rows m by tips hidden walk → (ids : List ObjectId) → ids ≡ [] → Allows shown.limit (length (kept ids)) → ((ended ≡ true) × Allows shown.limit (suc (length (kept ids))) → left ≡ [])
         → AreListed ended ids
     none_each_so ended may walk starts ids none allows unstarted =
-        none_each (page_objects objects) [] texts (time_of objects) (fed_history objects) None None name option words (page_choice shown) place tips hidden ids (is_order name (Simple m by) named) chooses some (λ k d few. absurd (omega (arith, few, ap length none))) allows ended may (bytes_of ids) refl tt
-        (simple_name name m by named) (is_followed objects texts name option tips m by named chosen_by) none unstarted (λ late. tips_there walk starts (by_time late))
+        let there : All IsHere ids = (λ k d few. absurd (omega (arith, few, ap length none))) in
+        (there, none_each (page_objects objects) [] texts (time_of objects) (fed_history objects) None None name option words (page_choice shown) place tips hidden ids (is_order name (Simple m by) named) chooses some there allows ended may (bytes_of ids) refl tt
+        (simple_name name m by named) (is_followed objects texts name option tips m by named chosen_by) none unstarted (λ late. tips_there walk starts (by_time late)))
 
     -- a walk that ended
     ended_each : (walk : Walk) (starts : StartsFrom objects rows m by tips hidden walk) (infos : List Info) → Ends Answers IsWalkFault walk infos (Ok tt) → (by ≢ sorting.BreadthFirst → HaveParents objects rows infos) → Allows shown.limit (length (kept (ids_in infos)))
@@ -255,8 +247,8 @@ module _ (objects : Objects) (rows : List GraphRow) (agrees : IsAgreeing objects
       IsWritten false = InEach (page_objects objects) [] (λ ps ts. page.HasBegun (page_objects objects) [] ps ts old new asked)
 
       pub written_so : (ended : Bool) (infos : List Info) → AreListed ended (ids_in infos) → Appends old new (bytes_of (ids_in infos)) → IsWritten ended
-      written_so true infos each appends = λ ps ts h. page.commits (bytes_of (ids_in infos)) (each ps ts h) appends
-      written_so false infos each appends = λ ps ts h. (bytes_of (ids_in infos), each ps ts h, appends)
+      written_so true infos each appends = λ ps ts h. page.commits (bytes_of (ids_in infos)) (each.1 ps ts h) appends
+      written_so false infos each appends = λ ps ts h. (bytes_of (ids_in infos), each.1 ps ts h, appends)
 
       -- one that fails
       pub begun_each : page_form shown.form ≡ page.Lines → (walk : Walk) → StartsFrom objects rows m by tips hidden walk → (infos : List Info) (last : Walk) → Yields Answers walk (given infos) last → AsksForMore shown.limit (length (kept_in objects shown infos))

@@ -1,5 +1,5 @@
 -- What a run of `topo` or `date` over records has written is right in each history that has what was read, where what was read are commits.
-use Rattle.std.proofs.Common.{◌⊎◌, ⊎_elim, ◌≡◌, ◌≢◌, ℕ, suc, List, [], ◌∷◌, ◌++◌, length, drop, flat_map, Option, Some, None, Ok, codes, refl, sym, ap, subst, inl, inr, ◌∙◌, Bool, true, false, Result, Err, arith, append-nil, take-append-drop}
+use Rattle.std.proofs.Common.{◌⊎◌, ⊎_elim, ◌≡◌, ◌≢◌, ℕ, suc, List, [], ◌∷◌, ◌++◌, length, drop, flat_map, Option, Some, None, Ok, All, codes, refl, sym, ap, subst, inl, inr, ◌∙◌, Bool, true, false, Result, Err, arith, append-nil, take-append-drop}
 use Rattle.gix_commands.proofs.Common.{Appends, Contains-get_or, Contains-append_left, ObjectId, Info, Topo, Commits, IsBuiltFrom, text_next, time_of, IsAgreeing, GraphRow, Objects, objects_of, IsCommitRead, IsReached, plan_from, walked_down, not_built, unserved, Shown, kept_in, page_choice, false≢true, Fault, Yields, EndsBy, Ends, before, enough, cut_short, finished}
 use Rattle.std.proofs.Math.ListN.{get_or}
 use Rattle.gix_topo.specs.declared.Sorting.{Sorting}
@@ -49,20 +49,21 @@ module _ (objects : Objects) (rows : List GraphRow) (agrees : IsAgreeing objects
       abbrev pub bytes_of : List ObjectId → List ℕ
       bytes_of ids = page.written (page_form shown.form) (kept ids)
 
-      -- in each history what is written of these is the list, or so far a beginning of it
+      -- these are there, and in each history what is written of them is the list, or so far a beginning of it
       abbrev pub AreListed : Bool → List ObjectId → Type 0
-      AreListed ended ids = InEach (page_objects objects) [] (λ ps ts. page.Lists (page_objects objects) [] ps ts (bytes_of ids) ended asked)
+      AreListed ended ids = All (IsThere (page_objects objects) []) ids × InEach (page_objects objects) [] (λ ps ts. page.Lists (page_objects objects) [] ps ts (bytes_of ids) ended asked)
 
       -- the first of a list
       down_so : (ended : Bool) → (ended ≡ true) ⊎ (page_form shown.form ≡ page.Lines) → (ids more : List ObjectId) → IsList (ids ++ more) → Allows shown.limit (length (kept ids)) → ((ended ≡ true) × Allows shown.limit (suc (length (kept ids))) → more ≡ [])
           → AreListed ended ids
       down_so ended may ids more l allows all =
           let those : ListsSo (ids ++ more) = listed_down objects (text_next objects) name by named tips ends (ids ++ more) l in
-          down_each (page_objects objects) [] (text_next objects) (time_of objects) (fed_history objects) None None name option words (page_choice shown) place tips ends ids (is_order name (Topo by) named) chooses some
-          (λ k d few. let i = get_or ids k d in read_there i (inl (l.shown i (Contains-append_left ids more i (Contains-get_or ids k d few))).0)) allows ended may (bytes_of ids) refl tt (down_name name by named) unchosen
+          let there : All (IsThere (page_objects objects) []) ids =
+          (λ k d few. let i = get_or ids k d in read_there i (inl (l.shown i (Contains-append_left ids more i (Contains-get_or ids k d few))).0)) in
+          (there, down_each (page_objects objects) [] (text_next objects) (time_of objects) (fed_history objects) None None name option words (page_choice shown) place tips ends ids (is_order name (Topo by) named) chooses some there allows ended may (bytes_of ids) refl tt (down_name name by named) unchosen
           (begins_so (text_next objects) (text_next objects) (time_of objects) tips ends name (ids ++ more) those ids more refl)
           (λ one_more. let same : ids ++ more ≡ ids = ap (λ xs. ids ++ xs) (all one_more) ∙ append-nil ids in whole_so (text_next objects) (text_next objects) (time_of objects) tips ends name ids (subst ListsSo same those))
-          (λ i r. read_there i (inl (reaches_back (text_next objects) tips i r))) (λ i r. read_there i (inr (reaches_back (text_next objects) ends i r)))
+          (λ i r. read_there i (inl (reaches_back (text_next objects) tips i r))) (λ i r. read_there i (inr (reaches_back (text_next objects) ends i r))))
 
       -- a walk that ended
       whole_run : (infos : List Info) → Ends Answers IsWalkFault walk infos (Ok tt) → Allows shown.limit (length (kept_in objects shown infos)) → AreListed true (ids_in infos)
@@ -97,8 +98,8 @@ module _ (objects : Objects) (rows : List GraphRow) (agrees : IsAgreeing objects
         IsWritten false = InEach (page_objects objects) [] (λ ps ts. page.HasBegun (page_objects objects) [] ps ts old new asked)
 
         pub written_so : (ended : Bool) (infos : List Info) → AreListed ended (ids_in infos) → Appends old new (bytes_of (ids_in infos)) → IsWritten ended
-        written_so true infos each appends = λ ps ts h. page.commits (bytes_of (ids_in infos)) (each ps ts h) appends
-        written_so false infos each appends = λ ps ts h. (bytes_of (ids_in infos), each ps ts h, appends)
+        written_so true infos each appends = λ ps ts h. page.commits (bytes_of (ids_in infos)) (each.1 ps ts h) appends
+        written_so false infos each appends = λ ps ts h. (bytes_of (ids_in infos), each.1 ps ts h, appends)
 
         -- one that fails
         begun_run : page_form shown.form ≡ page.Lines → (infos : List Info) (last : Walk) → Yields Answers walk (given infos) last → AsksForMore shown.limit (length (kept_in objects shown infos)) → Appends old new (bytes_of (ids_in infos)) → IsWritten false
