@@ -13,7 +13,7 @@ use Rattle.gix_simple.specs.declared.Sorting.TheVariants as sorting
 use Rattle.gix_statement.proofs.InEach.{none_each, simple_each}
 use Rattle.gix_statement.specs.WholeStatement as page
 use Rattle.gix_statement.specs.WholeStatement.{Allows, InEach, AreTips, IsThere, Reaches, id_line, Chooses, chosen}
-use Rattle.gix_commands.specs.Checked.{AsksForMore, GoesOnWhole, HaveParents, gone_on}
+use Rattle.gix_commands.specs.Checked.{GoesOnWhole, HaveParents, gone_on}
 use Rattle.gix_commands.specs.Chosen.{page_form}
 use Rattle.gix_commands.specs.Run.{Serves, cut_off, lost}
 use Rattle.gix_commands.specs.Walked.{Walk, Answers, AsksForMore, IsWalkFault, failed, given}

@@ -27,7 +27,7 @@ use Rattle.gix_words.specs.declared.words.Order.TheVariants.{Simple, Topo}
 use Rattle.gix_words.specs.declared.words.Shown.{Shown}
 use Rattle.gix_commands.specs.Ahead.{Counts, FailsToCount, ahead_line}
 use Rattle.gix_words.specs.Faults.{fault_of_walk, fault_of_topo_walk, fault_of_bases, fault_of_contained, fault_of_tree_walk}
-use Rattle.gix_commands.specs.Checked.{AsksForMore, GoesOnWhole, LacksParent}
+use Rattle.gix_commands.specs.Checked.{GoesOnWhole, LacksParent}
 use Rattle.gix_commands.specs.Chosen.{Writes, kept_in}
 use Rattle.gix_commands.specs.Files.{IsMisnamed, RecordsTree, file_lines}
 use Rattle.gix_graph_check.specs.declared.Disagreement.TheVariants.{Row}
