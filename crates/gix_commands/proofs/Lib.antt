@@ -3,6 +3,7 @@ mod WordFaults
 pub mod WalkFaults
 mod MemoryFaults
 mod OutputFacts
+mod WrittenForms
 mod ChosenFacts
 mod LookedAt
 mod BrokenOff
