@@ -177,20 +177,24 @@ module _ (objects : Objects) (rows : List GraphRow) (agrees : IsAgreeing objects
     first_each : (ended : Bool) → MayBe ended → (walk : Walk) → StartsFrom objects rows m by tips hidden walk → (ids more : List ObjectId) → IsList (ids ++ more) → AreRead ids → Allows shown.limit (length (kept ids))
         → ((ended ≡ true) × Allows shown.limit (suc (length (kept ids))) → (more ≡ []) × AreJudged ids) → AreListed ended ids
     first_each ended may walk starts ids more l r allows all =
-        let those = lists_so (ids ++ more) l in
-        (r.there, simple_each (page_objects objects) [] texts (time_of objects) (fed_history objects) None None name option words (page_choice shown) place tips hidden ids (is_order name (Simple m by) named) chooses some r.there allows ended may (bytes_of ids) refl tt
-        (simple_name name m by named) (is_followed objects texts name option tips m by named chosen_by)
-        (begins_so texts through (time_of objects) left hidden name (ids ++ more) those ids more refl)
-        (λ one_more. let same : ids ++ more ≡ ids = ap (λ xs. ids ++ xs) (all one_more).0 ∙ append-nil ids in whole_so texts through (time_of objects) left hidden name ids (subst ListsSo same those))
-        r.below (λ late. tips_there walk starts (by_time late)) (λ late taken rest j is c i n p. r.judged (by_time late) c i (in_front ids taken rest j c is n) p) (λ one_more late. (all one_more).1 (by_time late)))
+        let those = lists_so (ids ++ more) l in (
+          r.there,
+          simple_each (page_objects objects) [] texts (time_of objects) (fed_history objects) None None name option words (page_choice shown) place tips hidden ids (is_order name (Simple m by) named) chooses some r.there allows ended may (bytes_of ids) refl tt
+              (simple_name name m by named) (is_followed objects texts name option tips m by named chosen_by)
+              (begins_so texts through (time_of objects) left hidden name (ids ++ more) those ids more refl)
+              (λ one_more. let same : ids ++ more ≡ ids = ap (λ xs. ids ++ xs) (all one_more).0 ∙ append-nil ids in whole_so texts through (time_of objects) left hidden name ids (subst ListsSo same those))
+              r.below (λ late. tips_there walk starts (by_time late)) (λ late taken rest j is c i n p. r.judged (by_time late) c i (in_front ids taken rest j c is n) p) (λ one_more late. (all one_more).1 (by_time late)),
+        )
 
     -- nothing was listed
     none_each_so : (ended : Bool) → MayBe ended → (walk : Walk) → StartsFrom objects rows m by tips hidden walk → (ids : List ObjectId) → ids ≡ [] → Allows shown.limit (length (kept ids)) → ((ended ≡ true) × Allows shown.limit (suc (length (kept ids))) → left ≡ [])
         → AreListed ended ids
     none_each_so ended may walk starts ids none allows unstarted =
-        let there : All IsHere ids = (λ k d few. absurd (omega (arith, few, ap length none))) in
-        (there, none_each (page_objects objects) [] texts (time_of objects) (fed_history objects) None None name option words (page_choice shown) place tips hidden ids (is_order name (Simple m by) named) chooses some there allows ended may (bytes_of ids) refl tt
-        (simple_name name m by named) (is_followed objects texts name option tips m by named chosen_by) none unstarted (λ late. tips_there walk starts (by_time late)))
+        let there : All IsHere ids = (λ k d few. absurd (omega (arith, few, ap length none))) in (
+          there,
+          none_each (page_objects objects) [] texts (time_of objects) (fed_history objects) None None name option words (page_choice shown) place tips hidden ids (is_order name (Simple m by) named) chooses some there allows ended may (bytes_of ids) refl tt
+              (simple_name name m by named) (is_followed objects texts name option tips m by named chosen_by) none unstarted (λ late. tips_there walk starts (by_time late)),
+        )
 
     -- a walk that ended
     ended_each : (walk : Walk) (starts : StartsFrom objects rows m by tips hidden walk) (infos : List Info) → Ends Answers IsWalkFault walk infos (Ok tt) → (by ≢ sorting.BreadthFirst → HaveParents objects rows infos) → Allows shown.limit (length (kept (ids_in infos)))

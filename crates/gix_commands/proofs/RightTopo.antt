@@ -59,11 +59,13 @@ module _ (objects : Objects) (rows : List GraphRow) (agrees : IsAgreeing objects
       down_so ended may ids more l allows all =
           let those : ListsSo (ids ++ more) = listed_down objects (text_next objects) name by named tips ends (ids ++ more) l in
           let there : All (IsThere (page_objects objects) []) ids =
-          (λ k d few. let i = get_or ids k d in read_there i (inl (l.shown i (Contains-append_left ids more i (Contains-get_or ids k d few))).0)) in
-          (there, down_each (page_objects objects) [] (text_next objects) (time_of objects) (fed_history objects) None None name option words (page_choice shown) place tips ends ids (is_order name (Topo by) named) chooses some there allows ended may (bytes_of ids) refl tt (down_name name by named) unchosen
-          (begins_so (text_next objects) (text_next objects) (time_of objects) tips ends name (ids ++ more) those ids more refl)
-          (λ one_more. let same : ids ++ more ≡ ids = ap (λ xs. ids ++ xs) (all one_more) ∙ append-nil ids in whole_so (text_next objects) (text_next objects) (time_of objects) tips ends name ids (subst ListsSo same those))
-          (λ i r. read_there i (inl (reaches_back (text_next objects) tips i r))) (λ i r. read_there i (inr (reaches_back (text_next objects) ends i r))))
+          (λ k d few. let i = get_or ids k d in read_there i (inl (l.shown i (Contains-append_left ids more i (Contains-get_or ids k d few))).0)) in (
+            there,
+            down_each (page_objects objects) [] (text_next objects) (time_of objects) (fed_history objects) None None name option words (page_choice shown) place tips ends ids (is_order name (Topo by) named) chooses some there allows ended may (bytes_of ids) refl tt (down_name name by named) unchosen
+                (begins_so (text_next objects) (text_next objects) (time_of objects) tips ends name (ids ++ more) those ids more refl)
+                (λ one_more. let same : ids ++ more ≡ ids = ap (λ xs. ids ++ xs) (all one_more) ∙ append-nil ids in whole_so (text_next objects) (text_next objects) (time_of objects) tips ends name ids (subst ListsSo same those))
+                (λ i r. read_there i (inl (reaches_back (text_next objects) tips i r))) (λ i r. read_there i (inr (reaches_back (text_next objects) ends i r))),
+          )
 
       -- a walk that ended
       whole_run : (infos : List Info) → Ends Answers IsWalkFault walk infos (Ok tt) → Allows shown.limit (length (kept_in objects shown infos)) → AreListed true (ids_in infos)

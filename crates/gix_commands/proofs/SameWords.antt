@@ -2,7 +2,7 @@
 use Rattle.std.proofs.Common.{arith, int_le, ◌<◌, ◌≤◌, ◌≡◌, ◌≢◌, ◌⊎◌, ◌+◌, ◌==◌, ◌||◌, ◌&&◌, nat_lt, nat_le, length, ℕ, ℤ, pos, List, [], ◌∷◌, ◌++◌, Bool, true, false, cond, Option, Some, None, Result, Ok, Err, codes, bytes_eq, refl, sym, ap, subst, ◌∙◌, inl}
 use Rattle.std.proofs.Common.{inr, eqb-true, ltb-true, leb-true}
 use Rattle.std.specs.List.{list_all}
-use Rattle.gix_commands.proofs.Common.{false≢true, ObjectId, HexError, id_from_hex, Fault, Order, Simple, Topo, Request, Commits, Files, Ahead, Contained, Bases, Ranked, Ids, begins_with_caret, without_caret, is_shown, with_id, with_word, ids_from, number_in, order_named, limited_of, listed_of, chosen_of, since_of, by_first_parents, in_order_of, file_of, files_from, files_of, ahead_from, ahead_of, asked, several_among, several_from, several_of, request_named, request_of, recent_of, by_cutoff, IsNumber, Spells, AreTips, digits_in, Asked, Shown, chosen_from, commits_in, formed_of, limit_by, merges_of, plain_of, skip_by, until_by, until_of, with_form, with_limit, with_merges, with_skip, with_until, page_choice}
+use Rattle.gix_commands.proofs.Common.{false≢true, ObjectId, HexError, id_from_hex, Fault, Order, Simple, Topo, Request, Commits, Files, Ahead, Contained, Bases, Ranked, Ids, begins_with_caret, begins_with_sign, without_caret, is_shown, with_id, with_word, ids_from, number_in, order_named, limited_of, listed_of, chosen_of, since_of, by_first_parents, in_order_of, file_of, files_from, files_of, ahead_from, ahead_of, asked, several_among, several_from, several_of, request_named, request_of, recent_of, by_cutoff, IsNumber, Spells, AreTips, digits_in, Asked, Shown, chosen_from, commits_in, formed_of, limit_by, merges_of, plain_of, skip_by, until_by, until_of, with_form, with_limit, with_merges, with_skip, with_until, page_choice}
 use Rattle.std.proofs.lemmas.Slice.Eq.{bytes_eq-Decides}
 use Rattle.gix_records.specs.Decimal.{digits_behind}
 use Rattle.gix_revwalk.specs.declared.CommitTimeOrder.TheVariants as order
@@ -352,7 +352,7 @@ in_order_are name by (option ∷ words) named plain = first (bytes_eq option (co
     first false e = second (bytes_eq option (codes "--since")) refl
 
 file_is : (option : List (List ℕ)) (ending n : ℕ) (text : List ℕ) → IsEndedBy option ending → AreWordsOf (codes "files" ∷ (option ++ text ∷ [])) (file_of ending n text)
-file_is option ending n text ends = go (begins_with_caret text)
+file_is option ending n text ends = go (begins_with_sign text)
   where
     from : (r : Result ObjectId HexError) → id_from_hex text ≡ r → AreWordsOf (codes "files" ∷ (option ++ text ∷ [])) (files_from ending n r)
     from (Ok i) e = (option, text, ends, refl, hex_spelled text i e)
@@ -376,7 +376,7 @@ ahead_are : (rest : List (List ℕ)) → AreWordsOf (codes "ahead" ∷ rest) (ah
 ahead_are [] = tt
 ahead_are (a ∷ []) = tt
 ahead_are (a ∷ b ∷ next ∷ rest) = tt
-ahead_are (a ∷ b ∷ []) = go (begins_with_caret a || begins_with_caret b)
+ahead_are (a ∷ b ∷ []) = go (begins_with_sign a || begins_with_sign b)
   where
     from : (r s : Result ObjectId HexError) → id_from_hex a ≡ r → id_from_hex b ≡ s → AreWordsOf (codes "ahead" ∷ a ∷ b ∷ []) (ahead_from r s)
     from (Ok i) (Ok j) e f = (a, b, refl, hex_spelled a i e, hex_spelled b j f)

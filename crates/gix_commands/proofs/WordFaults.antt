@@ -1,7 +1,7 @@
 -- What is so of each request that words spell, and which faults words may have.
 use Rattle.std.proofs.Common.{ℕ, ◌+◌, pos, List, [], ◌∷◌, Bool, true, false, ◌||◌, Option, Some, None, Result, Ok, Err, codes, bytes_eq, cond}
 use Rattle.std.specs.List.{list_all}
-use Rattle.gix_commands.proofs.Common.{ObjectId, HexError, id_from_hex, Fault, Order, Request, Files, Ahead, Contained, Bases, Ranked, Ids, begins_with_caret, without_caret, is_shown, with_id, with_word, ids_from, number_in, order_named, limited_of, listed_of, chosen_of, recent_of, since_of, by_cutoff, in_order_of, file_of, files_from, files_of, ahead_from, ahead_of, asked, several_among, several_from, several_of, Asked, chosen_from, commits_in, formed_of, limit_by, merges_of, plain_of, skip_by, until_by, until_of, with_form, with_limit, with_merges, with_skip, with_until}
+use Rattle.gix_commands.proofs.Common.{ObjectId, HexError, id_from_hex, Fault, Order, Request, Files, Ahead, Contained, Bases, Ranked, Ids, begins_with_caret, begins_with_sign, without_caret, is_shown, with_id, with_word, ids_from, number_in, order_named, limited_of, listed_of, chosen_of, recent_of, since_of, by_cutoff, in_order_of, file_of, files_from, files_of, ahead_from, ahead_of, asked, several_among, several_from, several_of, Asked, chosen_from, commits_in, formed_of, limit_by, merges_of, plain_of, skip_by, until_by, until_of, with_form, with_limit, with_merges, with_skip, with_until}
 use Rattle.gix_commands.proofs.Common.{request_named, request_of, by_first_parents}
 use Rattle.gix_words.specs.Words.{limit_from, skip_from, skipped_of, until_from}
 use Rattle.gix_words.specs.declared.fault.Fault.TheVariants as fault
@@ -30,7 +30,7 @@ module _ (P : Result Request Fault → Type 0) (usage : P (Err fault.Usage)) (no
   from_id ending n (Err e) = no_id n
 
   from_tree : (ending n : ℕ) (id : List ℕ) → P (file_of ending n id)
-  from_tree ending n id = either (begins_with_caret id) (Err fault.Usage) (files_from ending n (id_from_hex id)) usage (from_id ending n (id_from_hex id))
+  from_tree ending n id = either (begins_with_sign id) (Err fault.Usage) (files_from ending n (id_from_hex id)) usage (from_id ending n (id_from_hex id))
 
   from_trees : (ids : List (List ℕ)) → P (files_of ids)
   from_trees [] = usage
@@ -46,7 +46,7 @@ module _ (P : Result Request Fault → Type 0) (usage : P (Err fault.Usage)) (no
   from_pairs : (ids : List (List ℕ)) → P (ahead_of ids)
   from_pairs [] = usage
   from_pairs (one ∷ []) = usage
-  from_pairs (one ∷ other ∷ []) = either (begins_with_caret one || begins_with_caret other) (Err fault.Usage) (ahead_from (id_from_hex one) (id_from_hex other)) usage (from_pair (id_from_hex one) (id_from_hex other))
+  from_pairs (one ∷ other ∷ []) = either (begins_with_sign one || begins_with_sign other) (Err fault.Usage) (ahead_from (id_from_hex one) (id_from_hex other)) usage (from_pair (id_from_hex one) (id_from_hex other))
   from_pairs (one ∷ other ∷ next ∷ ids) = usage
 
   module _ (asks : ObjectId → List ObjectId → Request) (each : (i : ObjectId) (ids : List ObjectId) → P (Ok (asks i ids))) where

@@ -61,3 +61,9 @@ hidden_base = refl
 
 pub bad_base : request_of (codes "merge-base" ∷ codes "zz" ∷ codes "zz" ∷ []) ≡ Err (fault.Id 2)
 bad_base = refl
+
+pub option_of_bases : request_of (codes "merge-base" ∷ codes "--count" ∷ codes "zz" ∷ codes "zz" ∷ []) ≡ Err fault.Usage
+option_of_bases = refl
+
+pub option_of_two : request_of (codes "ahead" ∷ codes "zz" ∷ codes "--reverse" ∷ []) ≡ Err fault.Usage
+option_of_two = refl

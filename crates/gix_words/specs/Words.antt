@@ -67,6 +67,15 @@ abbrev pub begins_with_caret : List ℕ → Bool
 begins_with_caret [] = false
 begins_with_caret (b ∷ bs) = b == 94
 
+-- whether the word is an option
+abbrev pub begins_with_dash : List ℕ → Bool
+begins_with_dash [] = false
+begins_with_dash (b ∷ bs) = b == 45
+
+-- neither is an id that a command takes which is no list
+abbrev pub begins_with_sign : List ℕ → Bool
+begins_with_sign word = begins_with_caret word || begins_with_dash word
+
 abbrev pub without_caret : List ℕ → List ℕ
 without_caret [] = []
 without_caret (b ∷ bs) = if b == 94 then bs else b ∷ bs
@@ -251,7 +260,7 @@ in_order_of by (option ∷ words) =
 
 -- one id, which is word n
 abbrev pub file_of : (ending n : ℕ) → List ℕ → Result Request Fault
-file_of ending n id = if begins_with_caret id then Err fault.Usage else files_from ending n (id_from_hex id)
+file_of ending n id = if begins_with_sign id then Err fault.Usage else files_from ending n (id_from_hex id)
 
 -- one id, and maybe `-z` before it
 abbrev pub files_of : List (List ℕ) → Result Request Fault
@@ -269,12 +278,12 @@ ahead_from (Err e) other = Err (fault.Id 2)
 abbrev pub ahead_of : List (List ℕ) → Result Request Fault
 ahead_of [] = Err fault.Usage
 ahead_of (one ∷ []) = Err fault.Usage
-ahead_of (one ∷ other ∷ []) = if begins_with_caret one || begins_with_caret other then Err fault.Usage else ahead_from (id_from_hex one) (id_from_hex other)
+ahead_of (one ∷ other ∷ []) = if begins_with_sign one || begins_with_sign other then Err fault.Usage else ahead_from (id_from_hex one) (id_from_hex other)
 ahead_of (one ∷ other ∷ next ∷ ids) = Err fault.Usage
 
--- whether the word asks for no commit to be hidden
+-- whether the word asks for no commit to be hidden, and is no option
 abbrev pub is_shown : List ℕ → Bool
-is_shown word = not (begins_with_caret word)
+is_shown word = not (begins_with_sign word)
 
 -- an id, and ids behind it
 abbrev pub Ranked : Type 0
@@ -291,7 +300,7 @@ abbrev pub several_from : Result Ids Fault → Result Ranked Fault
 several_from (Ok ids) = several_among ids.0
 several_from (Err e) = Err e
 
--- two ids at least, none of them to be hidden: this is judged of all words before any is judged as an id
+-- two ids at least, none of them to be hidden, and no option: this is judged of all words before any is judged as an id
 abbrev pub several_of : List (List ℕ) → Result Ranked Fault
 several_of [] = Err fault.Usage
 several_of (first ∷ []) = Err fault.Usage

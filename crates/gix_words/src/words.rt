@@ -1,7 +1,7 @@
 //! The words of a command.
 ghost use Rattle.std.specs.Prelude.{◌≡◌, ◌≤◌, IfSome, map, string_bytes};
 ghost use Rattle.std.specs.List.{list_all};
-ghost use Rattle.gix_words.specs.Words.{Bases, Contained, Gives, Tells, AddsId, begins_with_caret, number_in, request_of_command, request_of, order_named, by_first_parents, by_cutoff, ids_from, plain_of, asked_by, until_of, until_from, merges_of, no_merges_of, with_merges, skipped_of, skip_from, limited_of, limit_from, formed_of, listed_of, since_of, in_order_of, file_of, files_of, ahead_of, is_shown, several_among, several_of, several_in, asked};
+ghost use Rattle.gix_words.specs.Words.{Bases, Contained, Gives, Tells, AddsId, begins_with_caret, begins_with_dash, begins_with_sign, number_in, request_of_command, request_of, order_named, by_first_parents, by_cutoff, ids_from, plain_of, asked_by, until_of, until_from, merges_of, no_merges_of, with_merges, skipped_of, skip_from, limited_of, limit_from, formed_of, listed_of, since_of, in_order_of, file_of, files_of, ahead_of, is_shown, several_among, several_of, several_in, asked};
 
 use crate::fault::Fault;
 use gix_parts::hash::ObjectId;
@@ -102,7 +102,8 @@ pub enum Command {
 /// digits, a time 1 to 10 decimal digits, another number 1 to 9.
 ///
 /// # Errors
-/// `Usage` where the words are no command, `Id` at the first word that has to be an id and is none, `Memory`.
+/// `Usage` where the words are no command, as where `files`, `ahead`, `contains` or `merge-base` has a word that begins with `^` or `-`. `Id` at
+/// the first word that has to be an id and is none. `Memory`.
 pub fn read_command(alloc: Global, words: &[String]) -> Result<Command, Fault>
     ensures { Gives request_of_command result (request_of (map string_bytes words.now)) }
 {
@@ -457,7 +458,7 @@ fn files(ids: &[String]) -> Result<Command, Fault>
 fn file(ending: u8, tree: &String, number: usize) -> Result<Command, Fault>
     ensures { Tells request_of_command result (file_of ending number (string_bytes tree.now)) }
 {
-    if begins_with_caret(tree) {
+    if begins_with_sign(tree) {
         return Err(Fault::Usage);
     }
     match ObjectId::from_hex(tree.as_bytes()) {
@@ -473,7 +474,7 @@ fn ahead(ids: &[String]) -> Result<Command, Fault>
     let [one, other] = ids else {
         return Err(Fault::Usage);
     };
-    if begins_with_caret(one) || begins_with_caret(other) {
+    if begins_with_sign(one) || begins_with_sign(other) {
         return Err(Fault::Usage);
     }
     let Ok(one) = ObjectId::from_hex(one.as_bytes()) else {
@@ -533,12 +534,12 @@ fn several_among(mut ids: Vec<ObjectId>) -> Result<SomeIds, Fault>
     Ok(SomeIds { first, others: ids })
 }
 
-/// Whether no word names a commit that is to be hidden.
+/// Whether no word names a commit that is to be hidden, or is an option.
 fn are_shown(ids: &[String]) -> bool
     ensures { result ≡ list_all is_shown (map string_bytes ids.now) }
 {
     for id in ids {
-        if begins_with_caret(id) {
+        if begins_with_sign(id) {
             return false;
         }
     }
@@ -562,6 +563,20 @@ fn begins_with_caret(word: &String) -> bool
     ensures { result ≡ begins_with_caret (string_bytes word.now) }
 {
     matches!(word.as_bytes(), [b'^', ..])
+}
+
+/// Whether the word is an option.
+fn begins_with_dash(word: &String) -> bool
+    ensures { result ≡ begins_with_dash (string_bytes word.now) }
+{
+    matches!(word.as_bytes(), [b'-', ..])
+}
+
+/// Whether the word is no id that a command takes which is no list.
+fn begins_with_sign(word: &String) -> bool
+    ensures { result ≡ begins_with_sign (string_bytes word.now) }
+{
+    begins_with_caret(word) || begins_with_dash(word)
 }
 
 /// The ids of tips that the words spell, and the ids of commits to be hidden. The first of these words is the word of this number.

@@ -155,9 +155,9 @@ fn options_have_one_order(rt: HostRuntime) -> Result<(), Fail> {
                 "! bad id in word 13",
             ),
             (&["files", "--count", "#1"], "! usage"),
-            (&["ahead", "--reverse", "#1"], "! bad id in word 2"),
-            (&["contains", "--merges", "#1"], "! bad id in word 2"),
-            (&["merge-base", "--skip", "1", "#1"], "! bad id in word 2"),
+            (&["ahead", "--reverse", "#1"], "! usage"),
+            (&["contains", "--merges", "#1"], "! usage"),
+            (&["merge-base", "--skip", "1", "#1"], "! usage"),
         ],
     )
 }

@@ -23,7 +23,31 @@ returns-in_default-clause-adds g c = adds_all g.I.Iterator.next_gives g.E.Into.c
 pub returns-in-Err-clause-adds : goal.returns-in-Err-clause-adds
 returns-in-Err-clause-adds g c = adds_failed g.I.Iterator.next_gives g.E.Into.converts _ _ _ _ _ _ _ _ c.draws.invariant.infos _ _ _ _ _ _ c.draws.invariant.at.left c.draws-test.ensures c.draws.invariant.drawn c.in-Some.ensures.steps c.in-Err.is c.into.ensures c.draws.invariant.takes
 
+-- memory ran out for the look at a commit
+pub returns-in_err-branch-clause-adds : goal.returns-in_err-branch-clause-adds
+returns-in_err-branch-clause-adds g c =
+    let p = err_from_is_err_and c.from_residual.result c.from_residual.ensures.1 in
+    adds_none g.I.Iterator.next_gives g.E.Into.converts _ _ _ _ _ _ _ _ c.draws.invariant.infos _ _ _ _ _ _ _ c.draws.invariant.at.left c.draws-test.ensures c.draws.invariant.drawn c.in-Some.ensures.steps c.in-Ok.is c.draws.invariant.takes (p.1 ∙ ap (λ f. Err f) p.2) c.in_err-branch.ensures.err
+
 pub returns-in_err-take-clause-adds : goal.returns-in_err-take-clause-adds
 returns-in_err-take-clause-adds g c =
     let p = err_from_is_err_and c.from_residual-in_err-take.result c.from_residual-in_err-take.ensures.1 in
-    adds_cut g.I.Iterator.next_gives g.E.Into.converts _ _ _ _ _ _ _ _ c.draws.invariant.infos _ _ _ _ _ _ _ _ _ c.draws.invariant.at.left c.draws-test.ensures c.draws.invariant.drawn c.in-Some.ensures.steps c.in-Ok.is c.draws.invariant.takes (p.1 ∙ ap (λ f. Err f) p.2) ?
+    adds_cut g.I.Iterator.next_gives g.E.Into.converts _ _ _ _ _ _ _ _ c.draws.invariant.infos _ _ _ _ _ _ _ _ _ c.draws.invariant.at.left c.draws-test.ensures c.draws.invariant.drawn c.in-Some.ensures.steps c.in-Ok.is c.draws.invariant.takes (p.1 ∙ ap (λ f. Err f) p.2)
+    c.in_err-take.ensures.err
+
+pub returns-in_default-clause-within : goal.returns-in_default-clause-within
+returns-in_default-clause-within g c = stops_at_end g.I.Iterator.next_gives g.E.Into.converts _ _ _ _ _ _ _ _ c.draws.invariant.infos _ c.draws.invariant.at.left c.draws-test.ensures c.draws.invariant.drawn c.in_default.ensures.steps
+
+pub returns-clause-adds : goal.returns-clause-adds
+returns-clause-adds g c = adds_enough g.I.Iterator.next_gives g.E.Into.converts _ _ _ _ _ _ _ c.draws.invariant.infos _ _ _ c.draws.invariant.at.left c.draws-test.ensures c.draws.invariant.drawn c.draws.invariant.takes
+
+pub returns-clause-within : goal.returns-clause-within
+returns-clause-within g c = stops_enough g.I.Iterator.next_gives g.E.Into.converts _ _ _ _ _ _ _ c.draws.invariant.infos _ c.draws.invariant.at.left c.draws-test.ensures c.draws.invariant.drawn
+
+-- one more commit was written
+pub draws-preserved-then-branch : goal.draws-preserved-then-branch
+draws-preserved-then-branch g c = ?
+
+-- or not
+pub draws-preserved : goal.draws-preserved
+draws-preserved g c = ?
