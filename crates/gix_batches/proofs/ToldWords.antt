@@ -1,5 +1,5 @@
 -- What is told of a commit by the words of each order.
-use Rattle.std.proofs.Common.{◌≡◌, ◌≢◌, ◌⊎◌, ℕ, suc, List, [], ◌∷◌, ◌++◌, length, take, Some, None, codes, refl, sym, ap, subst, ◌∙◌, inl, inr, ⊎_elim, arith}
+use Rattle.std.proofs.Common.{◌≡◌, ◌≢◌, ◌⊎◌, ℕ, suc, List, [], ◌∷◌, ◌++◌, length, take, Option, Some, None, codes, refl, sym, ap, subst, ◌∙◌, inl, inr, ⊎_elim, arith}
 use Rattle.gix_hash.specs.declared.ObjectId.{ObjectId}
 use Rattle.gix_hash.specs.declared.ObjectId.TheVariants.{Sha1, Sha256}
 use Rattle.gix_revwalk.specs.Commits.{by_mode}
@@ -14,7 +14,7 @@ use Rattle.gix_topo.specs.declared.Sorting.TheVariants as topo
 use Rattle.gix_statement.specs.WholeStatement.{AreTips, Choice, Chooses, Row, at_most, counted, digits_in, everything, merges, no_merges, reversed, skip, until}
 use Rattle.gix_words.specs.declared.words.Order.TheVariants.{Simple, Topo}
 use Rattle.gix_commands.proofs.SameWords.{IsNameOf, IsOptionOf}
-use Rattle.gix_batches.specs.Batches.{Says, breadth, timed}
+use Rattle.gix_batches.specs.Batches.{Says, breadth, first, timed}
 use Rattle.gix_batches.specs.Slices.{Told}
 
 abbrev first_word : List (List ℕ) → List ℕ
