@@ -61,6 +61,8 @@ pub struct Options {
     pub ends_in_zero: bool,
     /// Whether each line says how its revision was called.
     pub gives_names: bool,
+    /// The new file in which it is kept what was written.
+    pub certificate: Option<String>,
 }
 
 /// What is asked of a repository.
@@ -70,7 +72,7 @@ pub struct Question {
     pub place: Place,
     /// The command.
     pub name: Name,
-    /// The revisions, in the order in which they were given.
+    /// The revisions, in the order in which they were given. For `verify-certificate` the file alone.
     pub asked: Vec<Asked>,
     /// What the options say.
     pub options: Options,
@@ -177,6 +179,7 @@ impl Arguments {
                 limit: None,
                 ends_in_zero: false,
                 gives_names: false,
+                certificate: None,
             },
         }
     }
@@ -261,6 +264,12 @@ impl Arguments {
                 }
                 self.options.limit = Some(String::from_str(self.alloc, value)?);
             }
+            "--certificate" => {
+                if value.is_empty() {
+                    return Err(Misuse::NoFile);
+                }
+                self.options.certificate = Some(String::from_str(self.alloc, value)?);
+            }
             "--since" => self.options.since = Some(self.digits_of("--since", value)?),
             _ => self.options.since = Some(self.digits_of("--after", value)?),
         }
@@ -343,6 +352,16 @@ impl Arguments {
         if self.options.gives_names && name != Name::Contains {
             return Err(Misuse::option("--names", name));
         }
+        if self.options.certificate.is_some() && name == Name::CheckGraph {
+            return Err(Misuse::option("--certificate", name));
+        }
+        if name == Name::VerifyCertificate
+            && (self.options.certificate.is_some()
+                || self.options.takes_border
+                || self.options.rows == Rows::Trusted)
+        {
+            return Err(Misuse::Certificate);
+        }
         if name == Name::CheckGraph
             && (!self.asked.is_empty()
                 || self.options.takes_border
@@ -359,6 +378,10 @@ impl Arguments {
         let tips = self.asked.iter().filter(|word| may_be_tip(word)).count();
         match name {
             Name::CheckGraph => Ok(()),
+            Name::VerifyCertificate => match self.asked.as_slice() {
+                [Asked::Word(_)] => Ok(()),
+                _ => Err(Misuse::Certificate),
+            },
             Name::Ahead => {
                 if words == 2 && tips == 2 || words == 1 && self.has_symmetric() {
                     Ok(())
@@ -431,7 +454,7 @@ fn with_value(word: &str) -> (&str, Option<&str>) {
 
 /// Whether an option has a value.
 fn takes_value(option: &str) -> bool {
-    matches!(option, "-n" | "--max-count" | "--since" | "--after")
+    matches!(option, "-n" | "--max-count" | "--since" | "--after" | "--certificate")
 }
 
 /// Whether a word is 1 to so many decimal digits.

@@ -3,6 +3,7 @@
 #![tactic(auto)]
 
 mod answer;
+mod certificate;
 mod chosen;
 mod failure;
 mod graph;
@@ -53,7 +54,9 @@ fn run<W: io::Write + Drop>(rt: &HostRuntime, output: &mut Output<W>) -> Result<
         Asks::Records => records::serve(rt, words.as_slice(), output)?,
         Asks::Help(name) => help::write_help(rt, name).map_err(fault_of_output)?,
         Asks::Version => help::write_version(rt).map_err(fault_of_output)?,
-        Asks::Question(question) => return answer::answer(rt, &question, output),
+        Asks::Question(question) => {
+            return certificate::serve(rt, words.as_slice(), &question, output);
+        }
     }
     Ok(0)
 }
