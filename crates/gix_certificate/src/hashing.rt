@@ -1,5 +1,5 @@
 //! A writer that hashes what passes through it.
-ghost use Rattle.std.specs.Prelude.{◌≡◌, ◌++◌, List, length, ℕ};
+ghost use Rattle.std.specs.Prelude.{◌≡◌, ◌++◌, List, [], length, ℕ};
 ghost use Rattle.sha2.specs.Sha256.{sha256};
 
 use crate::digest::Digest;
@@ -20,7 +20,7 @@ impl<W: Write + Drop> Hashing<W> {
 
     /// A writer in front of this one, which has accepted nothing.
     pub fn new(writer: W) -> Hashing<W>
-        ensures writer { result.writer ≡ writer.entry }
+        ensures writer { result.writer ≡ writer }
         ensures nothing { HasAccepted result [] }
     {
         Hashing {
@@ -32,7 +32,7 @@ impl<W: Write + Drop> Hashing<W> {
 
     /// What was accepted: its digest, and its number of bytes.
     pub fn finish(self) -> Lines
-        ensures { (accepted : List ℕ) → HasAccepted self.entry accepted
+        ensures { (accepted : List ℕ) → HasAccepted self accepted
             → (result.sha256.bytes ≡ sha256 accepted) × (result.bytes ≡ length accepted) }
     {
         Lines {
