@@ -8,6 +8,7 @@ use crate::symmetric::common;
 use gix_certificate::Rows;
 use gix_commands::{Fault, run_named};
 use gix_gather::{Gathering, Order};
+use gix_hash::Keys;
 use gix_hash::hashtable::IdSet;
 use gix_options::{Name, Place, Question};
 use gix_parts::graph::Graph;
@@ -31,6 +32,7 @@ const MOST_READINGS: u32 = 64;
 #[derive(Drop)]
 struct Asking<'a> {
     rt: &'a HostRuntime,
+    keys: Keys,
     question: &'a Question,
     chosen: Chosen,
     progress: Progress,
@@ -49,6 +51,7 @@ pub(crate) struct Answered {
 /// Answers a question, and gives the status.
 pub(crate) fn answer<W: Write>(
     rt: &HostRuntime,
+    keys: Keys,
     question: &Question,
     output: &mut W,
 ) -> Result<u8, Failure> {
@@ -58,7 +61,14 @@ pub(crate) fn answer<W: Write>(
         return Ok(0);
     }
     let resolved = resolve_words(rt, &mut repository, question)?;
-    let answered = answer_from(rt, &mut repository, question, resolved.as_slice(), output)?;
+    let answered = answer_from(
+        rt,
+        keys,
+        &mut repository,
+        question,
+        resolved.as_slice(),
+        output,
+    )?;
     Ok(answered.status)
 }
 
@@ -75,6 +85,7 @@ pub(crate) fn open(rt: &HostRuntime, place: &Place) -> Result<Repository<HostRun
 /// Answers a question from what its revisions stand for.
 pub(crate) fn answer_from<W: Write>(
     rt: &HostRuntime,
+    keys: Keys,
     repository: &mut Repository<HostRuntime>,
     question: &Question,
     resolved: &[Resolved],
@@ -83,6 +94,7 @@ pub(crate) fn answer_from<W: Write>(
     let chosen = choose(rt.alloc(), question, resolved)?;
     let mut asking = Asking {
         rt,
+        keys,
         question,
         chosen,
         progress: Progress::new(rt),
@@ -169,9 +181,9 @@ impl Asking<'_> {
             return Ok(0);
         };
         let root = *root;
-        let mut gathering = Gathering::trees(alloc, &root)?;
+        let mut gathering = Gathering::trees(alloc, self.keys, &root)?;
         self.read_all(repository, &mut gathering, None)?;
-        let words = self.chosen.words(alloc, self.question)?;
+        let words = self.chosen.words(alloc, self.keys, self.question)?;
         run_named(alloc, words.as_slice(), gathering.objects(), None, output)?;
         Ok(0)
     }
@@ -233,13 +245,14 @@ impl Asking<'_> {
                     alloc,
                     ids.as_slice(),
                     Order::Met,
-                    IdSet::new(alloc),
+                    IdSet::new(alloc, self.keys),
                 )?;
                 self.read_all(repository, &mut gathering, graph)?;
                 return self.finish(gathering.objects(), graph, output);
             }
         };
-        let mut gathering = Gathering::commits(alloc, ids.as_slice(), order, IdSet::new(alloc))?;
+        let border = IdSet::new(alloc, self.keys);
+        let mut gathering = Gathering::commits(alloc, ids.as_slice(), order, border)?;
         let lines = self.from_part(repository, &mut gathering, least, graph, output)?;
         Ok(self.status(lines.as_slice()))
     }
@@ -303,7 +316,7 @@ impl Asking<'_> {
         output: &mut W,
     ) -> Result<Vec<u8>, Failure> {
         let alloc = self.rt.alloc();
-        let words = self.chosen.words(alloc, self.question)?;
+        let words = self.chosen.words(alloc, self.keys, self.question)?;
         let mut count = least.saturating_add(FIRST_COMMITS);
         for _ in 0..MOST_READINGS {
             gathering.read_more(&mut repository.odb, graph, count)?;
@@ -354,7 +367,9 @@ impl Asking<'_> {
 
     /// Writes the id of each revision, those that are excluded with `^` and behind the others.
     fn write_ids<W: Write>(&self, output: &mut W) -> Result<u8, Failure> {
-        let words = self.chosen.words(self.rt.alloc(), self.question)?;
+        let words = self
+            .chosen
+            .words(self.rt.alloc(), self.keys, self.question)?;
         for word in words.iter().skip(1) {
             write(output, word.as_bytes())?;
             write(output, b"\n")?;
@@ -383,7 +398,7 @@ impl Asking<'_> {
         if name == Name::Resolve {
             return self.write_ids(output);
         }
-        let words = self.chosen.words(alloc, self.question)?;
+        let words = self.chosen.words(alloc, self.keys, self.question)?;
         run_named(alloc, words.as_slice(), objects, graph, output)?;
         Ok(0)
     }

@@ -7,6 +7,7 @@ use gix_certificate::{
     Certificate, Fault, Hashing, Lines, Meaning, Revision, check_new, load, pages, running_program,
     save,
 };
+use gix_hash::Keys;
 use gix_options::{Asked, Asks, Name, Question, Rows, VERSION, read_arguments};
 use gix_repository::Repository;
 use gix_revision::{Chosen, Resolved};
@@ -19,18 +20,19 @@ const DIFFERS: u8 = 3;
 /// Does what a question about a repository asks, with or without a certificate, and gives the status.
 pub(crate) fn serve<W: Write>(
     rt: &HostRuntime,
+    keys: Keys,
     words: &[String],
     question: &Question,
     output: &mut W,
 ) -> Result<u8, Failure> {
     if question.name == Name::VerifyCertificate {
-        return verify(rt, question, output);
+        return verify(rt, keys, question, output);
     }
     let Some(path) = &question.options.certificate else {
-        return answer(rt, question, output);
+        return answer(rt, keys, question, output);
     };
     check_new(rt, path.as_str())?;
-    let certificate = match certify(rt, words, question, output) {
+    let certificate = match certify(rt, keys, words, question, output) {
         Ok(certificate) => certificate,
         Err(failure) => {
             let _ = eprintln!(rt; "gix_walk: the run fails, so no certificate is written");
@@ -45,6 +47,7 @@ pub(crate) fn serve<W: Write>(
 /// Answers a question, and gives the certificate of that.
 fn certify<W: Write>(
     rt: &HostRuntime,
+    keys: Keys,
     words: &[String],
     question: &Question,
     output: &mut W,
@@ -58,6 +61,7 @@ fn certify<W: Write>(
     let mut hashing = Hashing::new(output);
     let answered = answer_from(
         rt,
+        keys,
         &mut repository,
         question,
         revisions.as_slice(),
@@ -114,6 +118,7 @@ fn verify<W: Write>(rt: &HostRuntime, question: &Question, output: &mut W) -> Re
     let mut hashing = Hashing::new(io::sink());
     let answered = answer_from(
         rt,
+        keys,
         &mut repository,
         &again,
         resolved_of(rt, &kept)?.as_slice(),
