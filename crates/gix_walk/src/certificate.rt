@@ -104,7 +104,12 @@ fn certificate_of(
 }
 
 /// Runs the words of a certificate again, from its ids, and writes what agrees and what differs.
-fn verify<W: Write>(rt: &HostRuntime, question: &Question, output: &mut W) -> Result<u8, Failure> {
+fn verify<W: Write>(
+    rt: &HostRuntime,
+    keys: Keys,
+    question: &Question,
+    output: &mut W,
+) -> Result<u8, Failure> {
     let [Asked::Word(path)] = question.asked.as_slice() else {
         return Err(Failure::Certificate(Fault::Member("words")));
     };
