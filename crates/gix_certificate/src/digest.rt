@@ -4,10 +4,11 @@ ghost use Rattle.std.specs.Result.{result_ok};
 ghost use Rattle.sha2.specs.Sha256.{sha256};
 ghost use Rattle.hex.specs.Hex.{decode_sized};
 
+use gix_hash::ObjectId;
 use sha2::{Digest as Hasher, Sha256};
-use std::{fmt, str};
+use std::fmt;
 
-/// The SHA-256 of some bytes. It prints as 64 hex digits in lower case.
+/// The SHA-256 of some bytes. It prints as 64 hex digits in lower case, as an id of 32 bytes.
 #[derive(Clone, Copy, PartialEq, Eq, Debug)]
 pub struct Digest {
     /// Its bytes, in the order in which they are written.
@@ -42,13 +43,6 @@ impl fmt::Display for Digest {
     ghost output = { λ d. Some (encode_lower d.bytes) };
 
     fn fmt<W: fmt::Write>(&self, f: &mut fmt::Formatter<W>) -> fmt::Result {
-        let mut digits = [0u8; 64];
-        let Ok(()) = hex::encode_to_slice(&self.bytes, &mut digits) else {
-            unreachable!();
-        };
-        let Ok(text) = str::from_utf8(&digits) else {
-            unreachable!();
-        };
-        f.write_str(text)
+        fmt::Display::fmt(&ObjectId::Sha256(self.bytes), f)
     }
 }
