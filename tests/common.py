@@ -17,7 +17,7 @@ import time
 
 HERE = pathlib.Path(__file__).resolve().parent.parent
 PROGRAM = str(pathlib.Path((sys.argv[1:] or [os.environ.get("PROGRAM") or HERE / "crates/gix_walk/out/gix_walk"])[0]).resolve())
-COMMANDS = "breadth newest oldest topo date ahead contains merge-base is-ancestor files resolve check-graph".split()
+COMMANDS = "breadth newest oldest topo date ahead contains merge-base is-ancestor files resolve check-graph verify-certificate".split()
 WALKS = COMMANDS[:5]
 ROOT = pathlib.Path(tempfile.mkdtemp())
 ALONE = {"PATH": "", "HOME": str(ROOT / "home")}

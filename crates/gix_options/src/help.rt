@@ -21,6 +21,7 @@ pub const VERSION: &str = "0.1.0";
 pub const USAGE: &[&str] = &[
     "usage: gix_walk -C FOLDER [OPTION..] COMMAND REVISION..",
     "       gix_walk -C FOLDER check-graph",
+    "       gix_walk -C FOLDER verify-certificate FILE",
     "       gix_walk [--commit-graph FILE..] COMMAND ID.. < RECORDS",
 ];
 
@@ -126,6 +127,15 @@ pub const COMMANDS: &[Command] = &[
         ],
         example: "check-graph",
     },
+    Command {
+        name: Name::VerifyCertificate,
+        arguments: "FILE",
+        what: &[
+            "runs the words of a certificate again, from its ids, and says what agrees with it and what",
+            "differs, a line each",
+        ],
+        example: "verify-certificate FILE",
+    },
 ];
 
 /// What the help says behind the commands.
@@ -164,11 +174,15 @@ with a name that is empty or holds a slash.
   --no-graph   reads all commits themselves. Otherwise git's commit-graph is used where check-graph has found it right
   --trust-graph
                uses git's commit-graph although nobody has checked it, as git does
+  --certificate FILE
+               writes into a new file what was asked, the ids, the SHA-256 of the lines, and which program ran, as JSON;
+               not with check-graph
   --verbose    says on standard error what each revision stands for
   --version    says which program this is, and whether it was proved
 
 The status is 0 where everything was listed, or the commit-graph is right, 1 after a fault, 2 where the words are no such command, and
-3 where contains found that some revisions aren't contained, or is-ancestor that the first isn't reached. A line on standard error says why.
+3 where contains found that some revisions aren't contained, is-ancestor that the first isn't reached, or verify-certificate that other
+lines are written. A line on standard error says why.
 ";
 
 /// What the help says of a command.

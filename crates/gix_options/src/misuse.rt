@@ -69,6 +69,12 @@ pub enum Misuse {
     /// `check-graph` takes no revisions.
     #[error("check-graph takes no revisions, and no option but -C")]
     CheckGraph,
+    /// `verify-certificate` takes one file.
+    #[error("verify-certificate takes one file, and no option but -C and --no-graph")]
+    Certificate,
+    /// Behind `--certificate` its file is missing.
+    #[error("--certificate needs a file")]
+    NoFile,
     /// An argument isn't UTF-8.
     #[error("an argument isn't UTF-8")]
     Arguments,

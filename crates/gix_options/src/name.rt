@@ -27,6 +27,8 @@ pub enum Name {
     Resolve,
     /// Whether git's commit-graph says what the commits say.
     CheckGraph,
+    /// Whether what a certificate says was written is written now.
+    VerifyCertificate,
 }
 
 impl Name {
@@ -45,6 +47,7 @@ impl Name {
             "files" => Some(Name::Files),
             "resolve" => Some(Name::Resolve),
             "check-graph" => Some(Name::CheckGraph),
+            "verify-certificate" => Some(Name::VerifyCertificate),
             _ => None,
         }
     }
@@ -64,6 +67,7 @@ impl Name {
             Name::Files => "files",
             Name::Resolve => "resolve",
             Name::CheckGraph => "check-graph",
+            Name::VerifyCertificate => "verify-certificate",
         }
     }
 

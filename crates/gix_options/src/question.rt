@@ -73,6 +73,8 @@ pub struct Options {
     pub ends_in_zero: bool,
     /// Whether each line says how its revision was called.
     pub gives_names: bool,
+    /// The new file in which it is kept what was written.
+    pub certificate: Option<String>,
 }
 
 impl Options {
@@ -103,7 +105,7 @@ pub struct Question {
     pub place: Place,
     /// The command.
     pub name: Name,
-    /// The revisions, in the order in which they were given.
+    /// The revisions, in the order in which they were given. For `verify-certificate` the file alone.
     pub asked: Vec<Asked>,
     /// What the options say.
     pub options: Options,
@@ -216,6 +218,7 @@ impl Arguments {
                 is_reversed: false,
                 ends_in_zero: false,
                 gives_names: false,
+                certificate: None,
             },
         }
     }
@@ -310,6 +313,12 @@ impl Arguments {
                 }
                 self.options.skip = Some(String::from_str(self.alloc, value)?);
             }
+            "--certificate" => {
+                if value.is_empty() {
+                    return Err(Misuse::NoFile);
+                }
+                self.options.certificate = Some(String::from_str(self.alloc, value)?);
+            }
             "--since" => self.options.since = Some(self.digits_of("--since", value)?),
             "--after" => self.options.since = Some(self.digits_of("--after", value)?),
             "--until" => self.options.until = Some(self.digits_of("--until", value)?),
@@ -402,6 +411,16 @@ impl Arguments {
         if self.options.gives_names && name != Name::Contains {
             return Err(Misuse::option("--names", name));
         }
+        if self.options.certificate.is_some() && name == Name::CheckGraph {
+            return Err(Misuse::option("--certificate", name));
+        }
+        if name == Name::VerifyCertificate
+            && (self.options.certificate.is_some()
+                || self.options.takes_border
+                || self.options.rows == Rows::Trusted)
+        {
+            return Err(Misuse::Certificate);
+        }
         if name == Name::CheckGraph
             && (!self.asked.is_empty()
                 || self.options.takes_border
@@ -418,6 +437,10 @@ impl Arguments {
         let tips = self.asked.iter().filter(|word| may_be_tip(word)).count();
         match name {
             Name::CheckGraph => Ok(()),
+            Name::VerifyCertificate => match self.asked.as_slice() {
+                [Asked::Word(_)] => Ok(()),
+                _ => Err(Misuse::Certificate),
+            },
             Name::Ahead => {
                 if words == 2 && tips == 2 || words == 1 && self.has_symmetric() {
                     Ok(())
@@ -492,7 +515,13 @@ fn with_value(word: &str) -> (&str, Option<&str>) {
 fn takes_value(option: &str) -> bool {
     matches!(
         option,
-        "-n" | "--max-count" | "--skip" | "--since" | "--after" | "--until" | "--before"
+        "-n" | "--max-count"
+            | "--skip"
+            | "--since"
+            | "--after"
+            | "--until"
+            | "--before"
+            | "--certificate"
     )
 }
 

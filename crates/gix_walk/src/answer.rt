@@ -1,10 +1,11 @@
 //! Answers to questions about a repository.
-use crate::chosen::{Chosen, choose};
+use crate::chosen::{Chosen, choose, resolve_words};
 use crate::failure::Failure;
-use crate::graph::{check, rows, warn};
+use crate::graph::{check, rows, rows_of, warn};
 use crate::named::write_named;
 use crate::progress::Progress;
 use crate::symmetric::common;
+use gix_certificate::Rows;
 use gix_commands::{Fault, run_named};
 use gix_gather::{Gathering, Order};
 use gix_hash::Keys;
@@ -13,6 +14,7 @@ use gix_options::{Name, Place, Question};
 use gix_parts::graph::Graph;
 use gix_parts::records::NamedObjects;
 use gix_repository::Repository;
+use gix_revision::Resolved;
 use std::io::Write;
 
 /// The status where `contains` found that some revisions aren't contained, or `is-ancestor` that one isn't reached.
@@ -34,6 +36,16 @@ struct Asking<'a> {
     question: &'a Question,
     chosen: Chosen,
     progress: Progress,
+    rows: Rows,
+}
+
+/// How a question was answered.
+#[derive(Clone, Copy)]
+pub(crate) struct Answered {
+    /// The status.
+    pub status: u8,
+    /// Which rows were used.
+    pub rows: Rows,
 }
 
 /// Answers a question, and gives the status.
@@ -43,40 +55,56 @@ pub(crate) fn answer<W: Write>(
     question: &Question,
     output: &mut W,
 ) -> Result<u8, Failure> {
-    let mut repository = match &question.place {
-        Place::Folder(folder) => Repository::discover(rt, folder.as_str())?,
-        Place::GitDir(folder) => Repository::open(rt, folder.as_str())?,
-    };
-    notice(rt, &mut repository)?;
+    let mut repository = open(rt, &question.place)?;
     if question.name == Name::CheckGraph {
         check(rt, &mut repository, output)?;
         return Ok(0);
     }
-    let chosen = choose(rt, &mut repository, question)?;
-    let asks_of_others = matches!(question.name, Name::Contains | Name::MergeBase);
-    if chosen.tips.is_empty() || asks_of_others && chosen.tips.len() < 2 {
-        return Ok(0);
-    }
+    let resolved = resolve_words(rt, &mut repository, question)?;
+    let answered = answer_from(
+        rt,
+        keys,
+        &mut repository,
+        question,
+        resolved.as_slice(),
+        output,
+    )?;
+    Ok(answered.status)
+}
+
+/// Opens the repository of a place.
+pub(crate) fn open(rt: &HostRuntime, place: &Place) -> Result<Repository<HostRuntime>, Failure> {
+    let mut repository = match place {
+        Place::Folder(folder) => Repository::discover(rt, folder.as_str())?,
+        Place::GitDir(folder) => Repository::open(rt, folder.as_str())?,
+    };
+    notice(rt, &mut repository)?;
+    Ok(repository)
+}
+
+/// Answers a question from what its revisions stand for.
+pub(crate) fn answer_from<W: Write>(
+    rt: &HostRuntime,
+    keys: Keys,
+    repository: &mut Repository<HostRuntime>,
+    question: &Question,
+    resolved: &[Resolved],
+    output: &mut W,
+) -> Result<Answered, Failure> {
+    let chosen = choose(rt.alloc(), question, resolved)?;
     let mut asking = Asking {
         rt,
         keys,
         question,
         chosen,
         progress: Progress::new(rt),
+        rows: Rows::Unused,
     };
-    let answered = match question.name {
-        Name::Files => asking.files(&mut repository, output),
-        _ => asking.commits(&mut repository, output),
-    };
-    match answered {
-        Err(Failure::Command(Fault::Missing(id))) if !repository.shallow().is_empty() => {
-            Err(Failure::Shallow(id))
-        }
-        Err(Failure::Command(Fault::Missing(id))) if repository.is_partial() => {
-            Err(Failure::Partial(id))
-        }
-        answered => answered,
-    }
+    let status = asking.status_of_all(repository, output)?;
+    Ok(Answered {
+        status,
+        rows: asking.rows,
+    })
 }
 
 /// Says what git would follow and the program doesn't.
@@ -99,6 +127,32 @@ fn notice(rt: &HostRuntime, repository: &mut Repository<HostRuntime>) -> Result<
 }
 
 impl Asking<'_> {
+    /// Answers the question, and gives the status. What isn't there of a shallow or partial clone is called so.
+    fn status_of_all<W: Write>(
+        &mut self,
+        repository: &mut Repository<HostRuntime>,
+        output: &mut W,
+    ) -> Result<u8, Failure> {
+        let tips = self.chosen.tips.len();
+        let asks_of_others = matches!(self.question.name, Name::Contains | Name::MergeBase);
+        if tips == 0 || asks_of_others && tips < 2 {
+            return Ok(0);
+        }
+        let answered = match self.question.name {
+            Name::Files => self.files(repository, output),
+            _ => self.commits(repository, output),
+        };
+        match answered {
+            Err(Failure::Command(Fault::Missing(id))) if !repository.shallow().is_empty() => {
+                Err(Failure::Shallow(id))
+            }
+            Err(Failure::Command(Fault::Missing(id))) if repository.is_partial() => {
+                Err(Failure::Partial(id))
+            }
+            answered => answered,
+        }
+    }
+
     /// Reads all that is left.
     fn read_all(
         &mut self,
@@ -174,6 +228,10 @@ impl Asking<'_> {
         if self.question.name == Name::Resolve && self.chosen.pairs.is_empty() {
             return self.write_ids(output);
         }
+        self.rows = match graph {
+            Some(_) => rows_of(&self.question.options),
+            None => Rows::Unused,
+        };
         let ids = self.chosen.all(alloc)?;
         let order = match self.question.name {
             Name::Newest | Name::Contains | Name::IsAncestor => Order::NewestFirst,

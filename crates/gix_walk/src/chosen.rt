@@ -32,16 +32,13 @@ pub(crate) struct Chosen {
 }
 
 /// Reads what the revisions of a question stand for.
-pub(crate) fn choose(
+pub(crate) fn resolve_words(
     rt: &HostRuntime,
     repository: &mut Repository<HostRuntime>,
     question: &Question,
-) -> Result<Chosen, Failure> {
+) -> Result<Vec<Resolved>, Failure> {
     let mut resolved = Vec::new(rt.alloc());
-    let wanted = match question.name {
-        Name::Files => Kind::Tree,
-        _ => Kind::Commit,
-    };
+    let wanted = wanted(question.name);
     for asked in question.asked.iter() {
         match resolve_one(rt, repository, asked, wanted, &mut resolved) {
             Ok(()) => {}
@@ -65,13 +62,30 @@ pub(crate) fn choose(
             say(rt, one);
         }
     }
+    Ok(resolved)
+}
+
+/// The kind of object that a command asks about.
+pub(crate) fn wanted(name: Name) -> Kind {
+    match name {
+        Name::Files => Kind::Tree,
+        _ => Kind::Commit,
+    }
+}
+
+/// The ids that a question is about, from what its revisions stand for.
+pub(crate) fn choose(
+    alloc: Global,
+    question: &Question,
+    resolved: &[Resolved],
+) -> Result<Chosen, Failure> {
     let mut chosen = Chosen {
-        tips: Vec::new(rt.alloc()),
-        hidden: Vec::new(rt.alloc()),
-        pairs: Vec::new(rt.alloc()),
-        names: Vec::new(rt.alloc()),
+        tips: Vec::new(alloc),
+        hidden: Vec::new(alloc),
+        pairs: Vec::new(alloc),
+        names: Vec::new(alloc),
     };
-    for one in resolved.iter() {
+    for one in resolved {
         chosen.add(one)?;
         if question.options.gives_names {
             chosen.names.push(one.word.clone()?)?;
@@ -101,7 +115,7 @@ fn has_refs(repository: &mut Repository<HostRuntime>) -> Result<bool, Failure> {
 }
 
 /// Reads what a word of a question stands for.
-fn resolve_one(
+pub(crate) fn resolve_one(
     rt: &HostRuntime,
     repository: &mut Repository<HostRuntime>,
     asked: &Asked,
