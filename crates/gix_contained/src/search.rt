@@ -126,7 +126,7 @@ pub(super) fn reached<'a, F: Find>(
             text: Vec::new(alloc),
             alloc,
         },
-        met: IdSet::new(alloc),
+        met: IdSet::new(alloc, objects.keys()),
         queue: PriorityQueue::new(alloc),
     };
     search.meet_all(tips, Near::nowhere())?;

@@ -6,8 +6,8 @@ ghost use Rattle.std.specs.FinMap as map;
 ghost use Rattle.gix_frontier.specs.Inside.Frontier.{known_of, Meets, Uncounts, MarksReady, MeetsParent, Finishes};
 
 use bitflags::{Flag, Flags, bitflag_items};
-use gix_hash::ObjectId;
 use gix_hash::hashtable::IdMap;
+use gix_hash::{Keys, ObjectId};
 use gix_revwalk::queue::PriorityQueue;
 use std::alloc::{AllocError, Global};
 use std::marker::Model;
@@ -224,14 +224,14 @@ impl Frontier {
     ghost use Rattle.gix_frontier.specs.Inside.Frontier.{is_seen, progress_of, with_progress};
     ghost use Rattle.gix_frontier.specs.Inside.Waiting.{waiting_by};
 
-    /// Neither search has met anything. It takes no memory yet.
-    pub fn new(alloc: Global) -> Frontier
+    /// Neither search has met anything. The table of ids has these keys. It takes no memory yet.
+    pub fn new(alloc: Global, keys: Keys) -> Frontier
         ensures queue { result.queue ≡ [] }
         ensures known { result.known ≡ map.empty }
     {
         Frontier {
             queue: PriorityQueue::new(alloc),
-            known: IdMap::new(alloc),
+            known: IdMap::new(alloc, keys),
         }
     }
 

@@ -9,8 +9,8 @@ ghost use Rattle.gix_records.specs.NamedPart.{IsWithin};
 use crate::Fault;
 use crate::waiting::{Order, Waiting};
 use gix_commitgraph::Graph;
-use gix_hash::ObjectId;
 use gix_hash::hashtable::IdSet;
+use gix_hash::{Keys, ObjectId};
 use gix_names::is_named;
 use gix_object::Kind;
 use gix_object::commit::{CommitRefIter, Token};
@@ -59,7 +59,8 @@ impl Model for Gathering {
 
 impl Gathering {
     /// The commits that these ids reach by the parents that commits name, none of which is read yet. They are read in this order. The
-    /// parents of a commit of the border aren't read by way of it: a clone that ends there has none of them.
+    /// parents of a commit of the border aren't read by way of it: a clone that ends there has none of them. All tables have the keys of
+    /// the border's.
     ///
     /// # Errors
     ///
@@ -84,21 +85,22 @@ impl Gathering {
     /// # Errors
     ///
     /// `AllocError` when out of memory.
-    pub fn trees(alloc: Global, root: &ObjectId) -> Result<Gathering, AllocError>
+    pub fn trees(alloc: Global, keys: Keys, root: &ObjectId) -> Result<Gathering, AllocError>
         ensures empty { IfOk result (λ gathering. gathering ≡ map.empty) }
     {
         let mut waiting = Waiting::new(alloc, Order::Met);
         waiting.push_first(*root)?;
-        Ok(Gathering::of(alloc, waiting, Kind::Tree, IdSet::new(alloc)))
+        Ok(Gathering::of(alloc, waiting, Kind::Tree, IdSet::new(alloc, keys)))
     }
 
     /// Objects of which none is read yet.
     fn of(alloc: Global, waiting: Waiting, through: Kind, border: IdSet) -> Gathering
         ensures { result ≡ map.empty }
     {
+        let keys = border.keys();
         Gathering {
-            objects: NamedObjects::new(alloc),
-            absent: IdSet::new(alloc),
+            objects: NamedObjects::new(alloc, keys),
+            absent: IdSet::new(alloc, keys),
             reading: None,
             waiting,
             through,

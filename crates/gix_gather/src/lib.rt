@@ -12,8 +12,8 @@ mod waiting;
 
 pub use gathering::{Gathering, read_named};
 use gix_commitgraph::Graph;
-use gix_hash::ObjectId;
 use gix_hash::hashtable::IdSet;
+use gix_hash::{Keys, ObjectId};
 use gix_odb::Odb;
 use gix_records::NamedObjects;
 use std::alloc::{AllocError, Global};
@@ -60,6 +60,7 @@ impl From<gix_odb::Fault> for Fault {
 /// The first [`Fault`] that is met. There are no objects then.
 pub fn commits<R>(
     alloc: Global,
+    keys: Keys,
     odb: &mut Odb<R>,
     ids: &[ObjectId],
     graph: Option<&Graph>,
@@ -69,7 +70,7 @@ where
     R::File: FileExt,
     ensures named { IfOk result (λ objects. AreNamed objects) }
 {
-    let border = IdSet::new(alloc);
+    let border = IdSet::new(alloc, keys);
     let mut gathering = Gathering::commits(alloc, ids, Order::Met, border)?;
     gathering.read_more(odb, graph, usize::MAX)?;
     Ok(gathering.into_objects())
@@ -81,13 +82,18 @@ where
 /// # Errors
 ///
 /// The first [`Fault`] that is met. There are no objects then.
-pub fn trees<R>(alloc: Global, odb: &mut Odb<R>, root: &ObjectId) -> Result<NamedObjects, Fault>
+pub fn trees<R>(
+    alloc: Global,
+    keys: Keys,
+    odb: &mut Odb<R>,
+    root: &ObjectId,
+) -> Result<NamedObjects, Fault>
 where
     R: Files + AllocGlobal + Clone + Drop,
     R::File: FileExt,
     ensures named { IfOk result (λ objects. AreNamed objects) }
 {
-    let mut gathering = Gathering::trees(alloc, root)?;
+    let mut gathering = Gathering::trees(alloc, keys, root)?;
     gathering.read_more(odb, None, usize::MAX)?;
     Ok(gathering.into_objects())
 }

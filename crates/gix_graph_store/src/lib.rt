@@ -10,7 +10,7 @@ mod stored;
 mod text;
 
 use gix_commitgraph::Graph;
-use gix_hash::ObjectId;
+use gix_hash::{Keys, ObjectId};
 use gix_object::Kind;
 use gix_object::find::{Error, Find};
 pub use stored::check_stored;
@@ -46,5 +46,9 @@ impl<F: Find> Find for WithRows<'_, F> {
             Ok(false) => Ok(None),
             Err(_) => Err(Error::Memory),
         }
+    }
+
+    fn keys(&self) -> Keys {
+        self.store.keys()
     }
 }

@@ -1,5 +1,5 @@
 -- Ids of objects: 20 bytes (SHA-1) or 32 (SHA-256), written as hex digits.
-use Rattle.std.specs.Prelude.{ℕ, ◌+◌, ◌*◌, ◌%◌, ◌^◌, List, [], ◌∷◌, Bool, true, false, if◌then◌else◌, ◌==◌, length, slice_index, Option, Some, None, Result, Ok, Err, refl}
+use Rattle.std.specs.Prelude.{ℕ, ◌+◌, ◌*◌, List, [], ◌∷◌, Bool, true, false, if◌then◌else◌, ◌==◌, length, slice_index, Option, Some, None, Result, Ok, Err, refl}
 use Rattle.std.specs.Int.{w64, from_le_bytes}
 use Rattle.std.specs.Ordering.{nat_cmp}
 use Rattle.std.specs.declared.cmp.Ordering.{Ordering}
@@ -79,11 +79,6 @@ abbrev pub word_at : List ℕ → ℕ → ℕ
 word_at bytes i =
     from_le_bytes w64 (slice_index bytes i ∷ slice_index bytes (i + 1) ∷ slice_index bytes (i + 2) ∷ slice_index bytes (i + 3)
     ∷ slice_index bytes (i + 4) ∷ slice_index bytes (i + 5) ∷ slice_index bytes (i + 6) ∷ slice_index bytes (i + 7) ∷ [])
-
--- the number that an id is hashed by
-abbrev pub spread : ObjectId → ℕ
-spread (id.Sha1 bytes) = (word_at bytes 0 + word_at bytes 12) % 2 ^ 64
-spread (id.Sha256 bytes) = (word_at bytes 0 + word_at bytes 24) % 2 ^ 64
 
 -- an id is stored as whether it is long, and its bytes
 abbrev pub is_long : ObjectId → Bool

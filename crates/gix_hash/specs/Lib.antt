@@ -2,3 +2,5 @@ pub mod Id
 pub mod HexDigits
 -- What ids reach by a step to the next ids.
 pub mod Reach
+-- What a keyed hasher computes.
+pub mod Keyed

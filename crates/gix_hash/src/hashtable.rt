@@ -4,7 +4,7 @@ ghost use Rattle.std.specs.Option.{option_copied};
 ghost use Rattle.std.specs.FinSet as set;
 ghost use Rattle.std.specs.FinMap as map;
 
-use crate::ObjectId;
+use crate::{Keys, ObjectId};
 use std::alloc::{AllocError, Global};
 use std::collections::{HashMap, HashSet};
 use std::marker::Model;
@@ -13,7 +13,7 @@ use std::mem;
 /// A set of ids.
 #[derive(Drop)]
 pub struct IdSet {
-    ids: HashSet<ObjectId>,
+    ids: HashSet<ObjectId, Keys>,
 }
 
 impl Model for IdSet {
@@ -28,13 +28,18 @@ impl Model for IdSet {
 }
 
 impl IdSet {
-    /// The empty set. It takes no memory until an id is put in.
-    pub fn new(alloc: Global) -> IdSet
+    /// The empty set with these keys. It takes no memory until an id is put in.
+    pub fn new(alloc: Global, keys: Keys) -> IdSet
         ensures { result ≡ set.empty }
     {
         IdSet {
-            ids: HashSet::new(alloc),
+            ids: HashSet::with_hasher(alloc, keys),
         }
+    }
+
+    /// The keys of the set, for further tables of a run.
+    pub fn keys(&self) -> Keys {
+        *self.ids.hasher()
     }
 
     /// Whether the set has the id.
@@ -91,7 +96,7 @@ impl IdSet {
 /// A map from ids to values.
 #[derive(Drop)]
 pub struct IdMap<T> {
-    values: HashMap<ObjectId, T>,
+    values: HashMap<ObjectId, T, Keys>,
 }
 
 impl<T> Model for IdMap<T> {
@@ -106,13 +111,18 @@ impl<T> Model for IdMap<T> {
 }
 
 impl<T> IdMap<T> {
-    /// The empty map. It takes no memory until a value is put in.
-    pub fn new(alloc: Global) -> IdMap<T>
+    /// The empty map with these keys. It takes no memory until a value is put in.
+    pub fn new(alloc: Global, keys: Keys) -> IdMap<T>
         ensures { result ≡ map.empty }
     {
         IdMap {
-            values: HashMap::new(alloc),
+            values: HashMap::with_hasher(alloc, keys),
         }
+    }
+
+    /// The keys of the map, for further tables of a run.
+    pub fn keys(&self) -> Keys {
+        *self.values.hasher()
     }
 
     /// The value of an id, and None where it has none.

@@ -12,6 +12,9 @@ use thiserror::Error;
 
 mod digits;
 pub mod hashtable;
+mod keys;
+
+pub use keys::{Keys, Mixed};
 
 /// The kind of an id, which decides its length.
 #[derive(Clone, Copy, PartialEq, Eq, PartialOrd, Ord, Hash, Debug)]
@@ -138,22 +141,23 @@ impl ObjectId {
     }
 }
 
-/// An id is hashed by one number: its first eight bytes and its last eight, added. Ids are spread already.
+/// An id is hashed by all its bytes.
 impl Hash for ObjectId {
-    ghost use Rattle.std.specs.Hash as fed;
+    ghost use Rattle.std.specs.Prelude.{◌∷◌, []};
     ghost use Rattle.std.specs.Cmp.Rules.{hashing};
     ghost use Rattle.std.proofs.Common.{rules};
-    ghost use Rattle.gix_hash.specs.Id.{spread};
+    ghost use Rattle.gix_hash.specs.Id.{bytes_of};
 
-    ghost hash_input = { λ i. fed.u64 (spread i) };
+    ghost hash_input = { λ i. bytes_of i ∷ [] };
 
     ghost respects_eq = { Prim.search (hashing, rules) };
 
+    #[inline(always)]
     fn hash<H: Hasher>(&self, state: &mut H) {
-        state.write_u64(match self {
-            ObjectId::Sha1(bytes) => word_at(bytes, 0).wrapping_add(word_at(bytes, 12)),
-            ObjectId::Sha256(bytes) => word_at(bytes, 0).wrapping_add(word_at(bytes, 24)),
-        });
+        match self {
+            ObjectId::Sha1(bytes) => state.write(bytes),
+            ObjectId::Sha256(bytes) => state.write(bytes),
+        }
     }
 }
 

@@ -7,7 +7,7 @@ ghost use Rattle.gix_object.specs.Find.{FindsInto, FoundIs, FindsKindInto, Finds
 use crate::commit::CommitRefIter;
 use crate::tree::TreeRefIter;
 use crate::{Data, Kind};
-use gix_hash::ObjectId;
+use gix_hash::{Keys, ObjectId};
 use thiserror::Error;
 
 /// Why a store gave no answer.
@@ -95,6 +95,12 @@ pub trait Find {
     fn find_into(&self, id: &ObjectId, buf: &mut Vec<u8>) -> Result<Option<Kind>, Error>
         ensures { FindsInto (map.get (objects self.now) id.now) (faulty self.now id.now) result buf.new.items };
 
+    /// The keys for tables of ids of this store's objects: those of the store's own tables. They change no answer. A store that has no
+    /// secret keys has those that anybody knows.
+    fn keys(&self) -> Keys {
+        Keys::KNOWN
+    }
+
     /// Looks an object up, and lends its bytes from `buf`. None says that the store has no such object. After None, or the last
     /// use of what was lent, `buf` may hold anything.
     ///
@@ -181,5 +187,9 @@ impl<F: Find> Find for &F {
 
     fn find_into(&self, id: &ObjectId, buf: &mut Vec<u8>) -> Result<Option<Kind>, Error> {
         F::find_into(self, id, buf)
+    }
+
+    fn keys(&self) -> Keys {
+        F::keys(self)
     }
 }

@@ -13,8 +13,8 @@ ghost use Rattle.gix_paint.specs.Inside.Painter.{rows_in, graph_in_use, FailsAmo
 mod source;
 
 use gix_commitgraph::Graph;
-use gix_hash::ObjectId;
 use gix_hash::hashtable::{IdMap, IdSet};
+use gix_hash::{Keys, ObjectId};
 use gix_object::decode;
 use gix_object::find::{Find, existing_iter};
 use gix_revwalk::queue::PriorityQueue;
@@ -94,11 +94,11 @@ impl Model for HiddenIds {
 
 impl HiddenIds {
     /// An empty set of ids. It takes no memory.
-    pub fn new(alloc: Global) -> HiddenIds
+    pub fn new(alloc: Global, keys: Keys) -> HiddenIds
         ensures { result ≡ set.empty }
     {
         HiddenIds {
-            marks: IdMap::new(alloc),
+            marks: IdMap::new(alloc, keys),
         }
     }
 
@@ -282,6 +282,7 @@ pub fn paint<'a, F: Find>(
     ensures fault { IfErr result (λ why. why ≢ Hidden.Find existing.Memory → IsHiddenFault (F.objects objects.now) (F.faulty objects.now) (rows_in graph.entry)
         (ids_of tips.now.items) hidden_tips.now why) }
 {
+    let keys = objects.keys();
     let mut painter = Painter {
         source: Source {
             objects,
@@ -290,8 +291,8 @@ pub fn paint<'a, F: Find>(
             text: Vec::new(alloc),
             alloc,
         },
-        marks: IdMap::new(alloc),
-        frontier: IdSet::new(alloc),
+        marks: IdMap::new(alloc, keys),
+        frontier: IdSet::new(alloc, keys),
         queue: PriorityQueue::new(alloc),
     };
     painter.meet_all(hidden_tips, Side::Hidden)?;

@@ -5,8 +5,8 @@ ghost use Rattle.std.specs.Option.{option_copied};
 ghost use Rattle.gix_object.specs.MemoryStore.{objects_at, AreWithin};
 ghost use Rattle.gix_records.specs.Places.{places_of};
 
-use gix_hash::ObjectId;
 use gix_hash::hashtable::IdMap;
+use gix_hash::{Keys, ObjectId};
 use gix_object::Kind;
 use gix_object::find::{Error, Find};
 use gix_object::memory::Stored;
@@ -92,6 +92,13 @@ impl Find for LentStore<'_> {
         match buf.extend_from_slice(&self.bytes[stored.start..stored.end]) {
             Ok(()) => Ok(Some(stored.kind)),
             Err(_) => Err(Error::Memory),
+        }
+    }
+
+    fn keys(&self) -> Keys {
+        match &self.objects {
+            Places::Kept(objects) => objects.keys(),
+            Places::Lent(objects) => objects.keys(),
         }
     }
 }

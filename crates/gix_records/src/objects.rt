@@ -5,8 +5,8 @@ ghost use Rattle.gix_names.specs.Named.{IsNamed};
 ghost use Rattle.gix_records.specs.NamedRecords.{AreNamed};
 
 use crate::LentStore;
-use gix_hash::ObjectId;
 use gix_hash::hashtable::IdMap;
+use gix_hash::{Keys, ObjectId};
 use gix_object::Kind;
 use gix_object::memory::Stored;
 use std::alloc::{AllocError, Global};
@@ -38,13 +38,13 @@ impl Model for NamedObjects {
 }
 
 impl NamedObjects {
-    /// No objects. It takes no memory until one is put in.
-    pub fn new(alloc: Global) -> NamedObjects
+    /// No objects, in a table with these keys. It takes no memory until one is put in.
+    pub fn new(alloc: Global, keys: Keys) -> NamedObjects
         ensures empty { result ≡ map.empty }
         ensures named { AreNamed result }
     {
         NamedObjects {
-            places: IdMap::new(alloc),
+            places: IdMap::new(alloc, keys),
             bytes: Vec::new(alloc),
         }
     }

@@ -32,7 +32,7 @@ fn check_store<F: Find>(alloc: Global, store: &F, len: usize) -> Result<(), Fail
 #[test]
 fn the_later_of_one_id_counts(rt: HostRuntime) -> Result<(), Fail> {
     let alloc = rt.alloc();
-    let store = read(alloc, &mut { RECORDS })?;
+    let store = read(alloc, Keys::KNOWN, &mut { RECORDS })?;
     check_store(alloc, &store, store.len())
 }
 
@@ -41,14 +41,14 @@ fn bytes_are_read_as_a_reader_is(rt: HostRuntime) -> Result<(), Fail> {
     let alloc = rt.alloc();
     let mut input = Vec::new(alloc);
     input.extend_from_slice(RECORDS)?;
-    let store = records_of(alloc, input)?;
+    let store = records_of(alloc, Keys::KNOWN, input)?;
     check_store(alloc, &store, store.len())
 }
 
 #[test]
 fn bytes_that_are_lent_are_read_as_a_reader_is(rt: HostRuntime) -> Result<(), Fail> {
     let alloc = rt.alloc();
-    let store = records_in(alloc, RECORDS)?;
+    let store = records_in(alloc, Keys::KNOWN, RECORDS)?;
     check_store(alloc, &store, store.len())?;
     assert!(rt; !store.is_empty());
     Ok(())
@@ -56,14 +56,14 @@ fn bytes_that_are_lent_are_read_as_a_reader_is(rt: HostRuntime) -> Result<(), Fa
 
 #[test]
 fn objects_under_their_own_ids_are_read(rt: HostRuntime) -> Result<(), Fail> {
-    let store = named_records_in(rt.alloc(), NAMED)?;
+    let store = named_records_in(rt.alloc(), Keys::KNOWN, NAMED)?;
     assert_eq!(rt; store.len(), 2);
     Ok(())
 }
 
 #[test]
 fn the_first_object_under_another_id_is_named(rt: HostRuntime) -> Result<(), Fail> {
-    let Err(error) = named_records_in(rt.alloc(), MISNAMED) else {
+    let Err(error) = named_records_in(rt.alloc(), Keys::KNOWN, MISNAMED) else {
         return Err(Fail::new(format_args!("records were taken")));
     };
     let text = "record 2: 4b825dc642cb6eb9a060e54bf8d69288fbee4904 isn't the hash of its bytes";
@@ -79,7 +79,7 @@ fn objects_that_were_compared_are_found(rt: HostRuntime) -> Result<(), Fail> {
         return Err(Fail::new(format_args!("no id")));
     };
     let bytes = b"Hello World!".as_slice();
-    let mut objects = NamedObjects::new(alloc);
+    let mut objects = NamedObjects::new(alloc, Keys::KNOWN);
     assert!(rt; objects.is_empty());
     if is_named(&id, Kind::Blob, bytes) {
         objects.insert(id, Kind::Blob, bytes)?;
@@ -96,7 +96,11 @@ fn objects_that_were_compared_are_found(rt: HostRuntime) -> Result<(), Fail> {
 #[test]
 fn the_first_bad_record_is_named(rt: HostRuntime) -> Result<(), Fail> {
     for (cut, number) in [(48, 1), (51, 1), (53, 2), (123, 2), (125, 3), (176, 3)] {
-        let read = read(rt.alloc(), &mut RECORDS.get(..cut).unwrap_or_default());
+        let read = read(
+            rt.alloc(),
+            Keys::KNOWN,
+            &mut RECORDS.get(..cut).unwrap_or_default(),
+        );
         let Err(error) = read else {
             return Err(Fail::new(format_args!("{cut} bytes were read")));
         };

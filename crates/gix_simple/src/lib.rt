@@ -289,6 +289,7 @@ impl<F: Find + Drop, P: Predicate + Drop> Simple<F, P> {
         ensures made { IfOk result (λ walk. Draws T.into_iter_gives T.IntoIter.next_gives tips (λ ids. IsMade F.objects F.faulty P.answers find predicate ids walk)) }
         ensures asks { IfOk result (λ walk. P.can_accept walk.predicate) }
     {
+        let keys = find.keys();
         let mut walk = Simple {
             find,
             predicate,
@@ -297,11 +298,11 @@ impl<F: Find + Drop, P: Predicate + Drop> Simple<F, P> {
             parents: Parents::All,
             sorting: Sorting::BreadthFirst,
             pending: PendingQueue::new(alloc),
-            seen: IdSet::new(alloc),
-            remembered: IdSet::new(alloc),
+            seen: IdSet::new(alloc, keys),
+            remembered: IdSet::new(alloc, keys),
             begun: false,
             hidden_tips: Vec::new(alloc),
-            hidden: HiddenIds::new(alloc),
+            hidden: HiddenIds::new(alloc, keys),
             text: Vec::new(alloc),
             current: None,
             buf: Vec::new(alloc),

@@ -12,8 +12,8 @@ use super::Error;
 use super::reader::Reader;
 use gix_commitgraph::GENERATION_NUMBER_INFINITY;
 use gix_frontier::{Frontier, Side, Waiting};
-use gix_hash::ObjectId;
 use gix_hash::hashtable::IdSet;
+use gix_hash::{Keys, ObjectId};
 use gix_object::find::Find;
 use gix_revwalk::row::{NOWHERE, Near};
 use gix_revwalk::{Info, ParentIds, Parents};
@@ -63,13 +63,14 @@ fn last_places_of_few(alloc: Global, mut ids: &[ObjectId]) -> Result<ParentIds, 
 /// Each id of a list at its last place, from the back.
 fn last_places_of_many(
     alloc: Global,
+    keys: Keys,
     mut ids: &[ObjectId],
 ) -> Result<VecDeque<ObjectId>, AllocError>
 where
     ensures { IfOk result (λ places. places.items ≡ last_places ids.entry.now) }
 {
     let mut places = VecDeque::new(alloc);
-    let mut later = IdSet::new(alloc);
+    let mut later = IdSet::new(alloc, keys);
     while let Some((id, rest)) = ids.split_last() {
         ids = rest;
         if later.contains(id) {
@@ -84,13 +85,17 @@ where
 }
 
 /// Each id of a list at its last place. A list of at most one id takes no memory.
-pub(super) fn last_places(alloc: Global, ids: &[ObjectId]) -> Result<ParentIds, AllocError>
+pub(super) fn last_places(
+    alloc: Global,
+    keys: Keys,
+    ids: &[ObjectId],
+) -> Result<ParentIds, AllocError>
     ensures { IfOk result (λ places. places.items ≡ last_places ids.now) }
 {
     if ids.len() <= FEW {
         return last_places_of_few(alloc, ids);
     }
-    let mut places = last_places_of_many(alloc, ids)?;
+    let mut places = last_places_of_many(alloc, keys, ids)?;
     Ok(ParentIds::from_slice(alloc, places.make_contiguous())?)
 }
 
@@ -127,7 +132,7 @@ impl<F: Find + Drop> Counting<F> {
         ensures fault { (sorting : Sorting) → IfErr result (IsBuildFault F.objects F.faulty (plan_over reader parents sorting tips.now ends.now)) }
     {
         let mut counting = Counting {
-            frontier: Frontier::new(reader.alloc),
+            frontier: Frontier::new(reader.alloc, reader.find.keys()),
             reader,
             parents,
             depth: GENERATION_NUMBER_INFINITY,
@@ -170,7 +175,9 @@ impl<F: Find + Drop> Counting<F> {
             Side::Tips => self.parents,
             Side::Ends => Parents::All,
         };
-        Ok(last_places(self.reader.alloc, walked(mode, info.parent_ids.as_slice()))?)
+        let keys = self.reader.find.keys();
+        let parents = walked(mode, info.parent_ids.as_slice());
+        Ok(last_places(self.reader.alloc, keys, parents)?)
     }
 
     /// Looks a parent up, unless the rows are in use and it has a row or a search has read it.

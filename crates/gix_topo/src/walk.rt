@@ -164,7 +164,8 @@ impl<F: Find + Drop> Walk<F> {
         if named.len() <= 1 {
             return self.release_all(named, commit.near);
         }
-        let ids = last_places(self.counting.reader.alloc, named)?;
+        let keys = self.counting.reader.find.keys();
+        let ids = last_places(self.counting.reader.alloc, keys, named)?;
         self.release_all(ids.as_slice(), commit.near)
     }
 

@@ -46,7 +46,7 @@ fn add(objects: &mut NamedObjects, named: &Named) -> Result<(), AllocError> {
 }
 
 fn check_named(alloc: Global, rows: &[Row]) -> Result<(), Fail> {
-    let mut objects = NamedObjects::new(alloc);
+    let mut objects = NamedObjects::new(alloc, Keys::KNOWN);
     for named in OBJECTS {
         add(&mut objects, named)?;
     }
