@@ -7,8 +7,8 @@ ghost use Rattle.gix_containing.specs.Inside.Steps.{GathersChildren, AddsChild, 
 ghost use Rattle.gix_merge_base.specs.declared.Error.TheVariants as error;
 ghost use Rattle.gix_merge_base.specs.Inside.Steps.{GatherFails};
 
-use gix_hash::ObjectId;
 use gix_hash::hashtable::{IdMap, IdSet};
+use gix_hash::{Keys, ObjectId};
 use gix_merge_base::Error;
 use gix_revwalk::Info;
 use std::alloc::{AllocError, Global};
@@ -17,7 +17,7 @@ use std::alloc::{AllocError, Global};
 pub(super) type Children = IdMap<Vec<ObjectId>>;
 
 /// The commits of a walk that is drawn to its end, as children of their parents.
-pub(super) fn children_of<I>(alloc: Global, walk: I) -> Result<Children, Error>
+pub(super) fn children_of<I>(alloc: Global, keys: Keys, walk: I) -> Result<Children, Error>
 where
     I: Iterator<Item = Result<Info, gix_simple::Error>> + Drop,
     requires can { I.can_next walk }
@@ -25,7 +25,7 @@ where
     ensures ok { IfOk result (GathersChildren I.next_gives walk) }
     ensures err { IfErr result (λ e. e ≢ error.Memory → GatherFails I.next_gives walk e) }
 {
-    let mut children = Children::new(alloc);
+    let mut children = Children::new(alloc, keys);
     for answer in walk {
         let info = answer?;
         add_to_each(alloc, info.id, info.parent_ids.as_slice(), &mut children)?;
@@ -74,7 +74,7 @@ pub(super) fn descendants(
 ) -> Result<IdSet, AllocError>
     ensures { IfOk result (λ marks. Tells (set.contains marks) (Reaches (children_in children.now) (id ∷ []))) }
 {
-    let mut marks = IdSet::new(alloc);
+    let mut marks = IdSet::new(alloc, children.keys());
     let mut waiting = Vec::new(alloc);
     mark_all(&[id], &mut marks, &mut waiting)?;
     while let Some(next) = waiting.pop() {

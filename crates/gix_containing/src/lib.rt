@@ -80,7 +80,7 @@ fn marked<F: Find>(
     ensures err { IfErr result (λ e. e ≢ error.Memory → FailsBy (F.objects objects.now) (F.faulty objects.now) (rows_in graph.entry) target tips.now e) }
 {
     let walk = walk_from(alloc, target, tips, objects, graph)?;
-    let children = children_of(alloc, walk)?;
+    let children = children_of(alloc, objects.keys(), walk)?;
     let marks = descendants(alloc, target, &children)?;
     Ok(marks)
 }
