@@ -1,5 +1,5 @@
 -- What the slices hold is what the page promises of the records.
-use Rattle.std.proofs.Common.{◌≡◌, ◌≢◌, ◌<◌, ℕ, Bool, false, List, [], ◌∷◌, ◌++◌, map, Option, Some, None, Result, Ok, Err, IfErr, IfOk, refl, sym, ap, subst, ◌∙◌, inl, inr}
+use Rattle.std.proofs.Common.{◌≡◌, ◌≢◌, ◌<◌, ℕ, Bool, false, List, [], ◌∷◌, ◌++◌, flat_map, Option, Some, None, Result, Ok, Err, IfErr, IfOk, refl, sym, ap, subst, ◌∙◌, inl, inr}
 use Rattle.std.specs.List.{AllByRecursion}
 use Rattle.std.proofs.lemmas.List.{length-map, map-append}
 use Rattle.gix_hash.specs.declared.ObjectId.{ObjectId}
@@ -10,13 +10,17 @@ use Rattle.gix_records.specs.Input.{Tells}
 use Rattle.gix_records.specs.Reading.{IsReadFrom}
 use Rattle.gix_records.specs.Records.{AreRecords, Record, stored}
 use Rattle.gix_revwalk.proofs.Rows.{none_agree}
+use Rattle.gix_revwalk.specs.Commits.{time_of}
+use Rattle.gix_revwalk.specs.Texts.{text_next}
 use Rattle.gix_revwalk.specs.declared.Info.{Info}
-use Rattle.gix_statement.specs.WholeStatement.{Entry, IsCommit, IsTree, Lists, Row}
+use Rattle.gix_statement.specs.WholeStatement.{Entry, IsCommit, IsTree, Lists, Row, id_line}
 use Rattle.gix_words.specs.Words.{Commits, Request, request_of}
 use Rattle.gix_words.specs.declared.fault.Fault.{Fault}
 use Rattle.gix_words.specs.declared.fault.Fault.TheVariants as fault
 use Rattle.gix_words.specs.declared.words.Order.{Order}
 use Rattle.gix_words.specs.declared.words.Order.TheVariants.{Simple, Topo}
+use Rattle.gix_words.specs.declared.words.Form.TheVariants as form
+use Rattle.gix_words.specs.declared.words.Shown.{Shown}
 use Rattle.gix_records.specs.Records.{IsRecordFault}
 use Rattle.gix_records.specs.declared.Error.{Error as RecordsError}
 use Rattle.gix_records.proofs.ReadingFacts.{fails_from}
@@ -26,12 +30,13 @@ use Rattle.gix_words.specs.Words.{request_of_command}
 use Rattle.gix_words.specs.declared.words.Command.{Command}
 use Rattle.gix_words.specs.declared.words.Command.TheVariants as command_of
 use Rattle.gix_commands.specs.Checked.{CheckedWalk, Checks}
-use Rattle.gix_commands.specs.Output.{written}
+use Rattle.gix_commands.specs.Chosen.{fresh_choosing, kept_in}
+use Rattle.gix_commands.specs.Output.{WritesBegun, written}
 use Rattle.gix_commands.specs.TopoWalked as topo
 use Rattle.gix_commands.specs.Pages.{page_objects}
 use Rattle.gix_commands.specs.Readable.{readable, reads_all_lines}
 use Rattle.gix_commands.specs.Run.{Runs, Serves, served}
-use Rattle.gix_commands.specs.Walked.{Answers, EndsBy, IsWalkFault, lines_of}
+use Rattle.gix_commands.specs.Walked.{Answers, EndsBy, IsWalkFault, line_of}
 use Rattle.gix_commands.proofs.GivenRuns.{records_unread, serves_unread, words_unread}
 use Rattle.gix_commands.proofs.ReadableTexts.{have_texts, text_kept, tree_kept}
 use Rattle.gix_commands.proofs.RightRuns.{unrowed_read}
@@ -44,11 +49,11 @@ use Rattle.gix_batches.specs.declared.commit.Commit.{Commit}
 use Rattle.gix_batches.specs.declared.commit.CommitId.{CommitId}
 use Rattle.gix_batches.specs.declared.commit.Ending.{Ending}
 use Rattle.gix_batches.specs.declared.commit.Ending.TheVariants.{Ended, More, Small, Failed}
-use Rattle.gix_batches.specs.Batches.{Fails, IfFailed, IsNext, IsTold, Promises, Shows, gives, has_ended, runs}
-use Rattle.gix_batches.specs.Draws.{Draws, Fills, IsSkipped, failed}
+use Rattle.gix_batches.specs.Batches.{Fails, IfFailed, IsNext, IsTold, Promises, Shows, all_lines_to, gives, has_ended, runs}
+use Rattle.gix_batches.specs.Draws.{Draws, Fills, IsSkipped, failed, ids_given}
 use Rattle.gix_batches.specs.Slices.{Told, told_by, told_of}
 use Rattle.gix_batches.specs.Walks.{FillsBy, IsItself, breadth, down, timed}
-use Rattle.gix_batches.proofs.ShownWalks.{IsNextGood, shown_breadth, shown_down, shown_timed}
+use Rattle.gix_batches.proofs.ShownWalks.{IsNextGood, all_kept, shown_breadth, shown_down, shown_timed}
 
 -- FROM WHAT IS READ OF OBJECTS TO THE OBJECTS
 module _ (all_lines : Bool) (objects : Objects) (words : List (List ℕ)) where
@@ -69,8 +74,8 @@ module _ (all_lines : Bool) (objects : Objects) (words : List (List ℕ)) where
   pub shows_on : (told : List Told) (ended : Bool) → Shows (page_objects seen) words told ended → Shows (page_objects objects) words told ended
   shows_on told ended s = record {
     lists = each_on (page_objects seen) (page_objects objects) [] [] commit_on tree_on
-        (λ ps ts. Lists (page_objects seen) [] ps ts (map (λ (t : Told). t.id) told) ended words) (λ ps ts. Lists (page_objects objects) [] ps ts (map (λ (t : Told). t.id) told) ended words)
-        (λ ps ts. lists_on (page_objects seen) (page_objects objects) [] [] commit_on tree_on ps ts (map (λ (t : Told). t.id) told) ended words) s.lists;
+        (λ ps ts. Lists (page_objects seen) [] ps ts (flat_map (λ (t : Told). id_line t.id) told) ended words) (λ ps ts. Lists (page_objects objects) [] ps ts (flat_map (λ (t : Told). id_line t.id) told) ended words)
+        (λ ps ts. lists_on (page_objects seen) (page_objects objects) [] [] commit_on tree_on ps ts (flat_map (λ (t : Told). id_line t.id) told) ended words) s.lists;
     texts = texts_on told s.texts;
   }
 
@@ -113,15 +118,15 @@ module _ (request : Request) (rs : List Record) (words : List (List ℕ)) (recor
           full = f.full;
         })
 
-    module _ (asked : request_of words ≡ Ok request) (serves : (infos : List Info) (e : Fault) → EndsBy Steps Tells limit walk infos (Err e) → Serves read [] (Some []) request (Err e) (Some (lines_of infos))) where
+    module _ (asked : request_of words ≡ Ok request) (lines : List Info → List ℕ) (serves : (infos : List Info) (e : Fault) → EndsBy Steps Tells ids_given limit walk infos (Err e) → Serves read [] (Some []) request (Err e) (Some (lines infos))) where
       fails_so : (infos : List Info) (ending : Ending) → Draws Steps Tells limit walk infos ending → IfFailed (Fails words records) ending
       fails_so infos Ended d = tt
       fails_so infos More d = tt
       fails_so infos (Small n) d = tt
       fails_so infos (Failed e) (failed e2 ends) =
           let s = serves infos e2 ends in
-          let r : Runs words (Some records) (Some []) (Err e2) (Some (lines_of infos)) = served request input rs asked told are s in
-          runs (lines_of infos) r (λ same. serves_unread s (ap (λ x. Err x) same)) (λ same. runs_sound r (ap (λ x. Err x) same))
+          let r : Runs words (Some records) (Some []) (Err e2) (Some (lines infos)) = served request input rs asked told are s in
+          runs (lines infos) r (λ same. serves_unread s (ap (λ x. Err x) same)) (λ same. runs_sound r (ap (λ x. Err x) same))
 
       pub both_so : Promises words records skip old new rooms filled batch × IfFailed (Fails words records) batch.ending
       both_so = (gives_so, fails_so (f.skipped ++ f.infos) batch.ending f.draws)
@@ -136,36 +141,51 @@ module _ (words : List (List ℕ)) (records : List ℕ) (skip : ℕ) (old new : 
   IsPromised = Promises words records skip old new rooms filled batch × IfFailed (Fails words records) batch.ending
 
   module _ (limit : Option ℕ) (tips hidden : List ObjectId) (rs : List Record) (input : List ℕ) (told : Tells (Some records) input) (are : AreRecords rs input) where
-    abbrev seen_by : Order → Objects
-    seen_by order = readable (reads_all_lines (Commits order limit tips hidden)) (stored rs)
+    abbrev shown_all : Shown
+    shown_all = all_lines_to limit
 
-    by_order : (order : Order) → request_of words ≡ Ok (Commits order limit tips hidden) → AreWordsOf words (Ok (Commits order limit tips hidden)) → FillsBy (seen_by order) limit tips hidden skip old new rooms filled batch order → IsPromised
-    by_order order asked (name, option, rest, those, is, named, chosen, limits, ids, some) (breadth {m = m} walk starts f) =
-        let request = Commits (Simple m sorting.BreadthFirst) limit tips hidden in
+    abbrev seen_by : Order → Objects
+    seen_by order = readable (reads_all_lines (Commits order shown_all tips hidden)) (stored rs)
+
+    -- the lines of the commits that a walk gave before its fault
+    abbrev lines_by : Objects → List Info → List ℕ
+    lines_by objects infos = flat_map line_of (kept_in objects shown_all infos)
+
+    module _ {W E : Type 0} (Steps : W → Option (Result Info E) → W → Type 0) (Tells : E → Fault → Type 0) (objects : Objects) (walk : W) where
+      writes_lines : (infos : List Info) (e : Fault) → EndsBy Steps Tells ids_given limit walk infos (Err e) → WritesBegun Steps Tells (kept_in objects shown_all) limit form.Lines walk (Some []) (Err e) (Some (lines_by objects infos))
+      writes_lines infos e ends = written (record {
+        infos = infos;
+        ends = subst (λ (those : List Info → List ObjectId). EndsBy Steps Tells those limit walk infos (Err e)) (λ k xs. sym (all_kept limit (text_next objects) (time_of objects) (ids_given xs)) k) ends;
+        writes = refl;
+      })
+
+    by_order : (order : Order) → request_of words ≡ Ok (Commits order shown_all tips hidden) → AreWordsOf words (Ok (Commits order shown_all tips hidden)) → FillsBy (seen_by order) limit tips hidden skip old new rooms filled batch order → IsPromised
+    by_order order asked (name, option, rest, is, named, chosen, place, chooses, some) (breadth {m = m} walk starts f) =
+        let request = Commits (Simple m sorting.BreadthFirst) shown_all tips hidden in
         let o = seen_by (Simple m sorting.BreadthFirst) in
         both_so request rs words records input told are skip old new rooms filled Answers IsWalkFault limit walk batch f
-        (subst (ShowsDrawn o Answers IsWalkFault limit walk) (sym is) (shown_breadth o (none_agree o [] refl) (unrowed_read o) name option rest those limit tips hidden some ids limits m sorting.BreadthFirst named chosen (have_texts request (stored rs)) walk starts refl))
-        asked (λ infos e ends. serves_walk o [] (Some []) m sorting.BreadthFirst limit tips hidden (Some (lines_of infos)) walk refl starts (Err e) (written (record { infos = infos; ends = ends; appends = refl })))
-    by_order order asked (name, option, rest, those, is, named, chosen, limits, ids, some) (timed {m = m} {by = by} walk other starts f) =
-        let request = Commits (Simple m by) limit tips hidden in
+        (subst (ShowsDrawn o Answers IsWalkFault limit walk) (sym is) (shown_breadth o (none_agree o [] refl) (unrowed_read o) name option rest limit tips hidden some place chooses m sorting.BreadthFirst named chosen (have_texts request (stored rs)) walk starts refl))
+        asked (lines_by o) (λ infos e ends. serves_walk o [] (Some []) m sorting.BreadthFirst shown_all tips hidden (Some (lines_by o infos)) walk (fresh_choosing o shown_all) refl refl starts (Err e) (writes_lines Answers IsWalkFault o walk infos e ends))
+    by_order order asked (name, option, rest, is, named, chosen, place, chooses, some) (timed {m = m} {by = by} walk other starts f) =
+        let request = Commits (Simple m by) shown_all tips hidden in
         let o = seen_by (Simple m by) in
         let checked : CheckedWalk = record { walk = walk; objects = o; rows = []; lost = None } in
         both_so request rs words records input told are skip old new rooms filled Checks IsItself limit checked batch f
-        (subst (ShowsDrawn o Checks IsItself limit checked) (sym is) (shown_timed o (none_agree o [] refl) (unrowed_read o) name option rest those limit tips hidden some ids limits m by named chosen (have_texts request (stored rs)) walk starts))
-        asked (λ infos e ends. serves_checked o [] (Some []) m by limit tips hidden (Some (lines_of infos)) walk checked refl other starts (Err e) (written (record { infos = infos; ends = ends; appends = refl })))
-    by_order order asked (name, option, rest, those, is, named, plain, limits, ids, some) (down {by = by} walk built f) =
-        let request = Commits (Topo by) limit tips hidden in
+        (subst (ShowsDrawn o Checks IsItself limit checked) (sym is) (shown_timed o (none_agree o [] refl) (unrowed_read o) name option rest limit tips hidden some place chooses m by named chosen (have_texts request (stored rs)) walk starts))
+        asked (lines_by o) (λ infos e ends. serves_checked o [] (Some []) m by shown_all tips hidden (Some (lines_by o infos)) walk checked (fresh_choosing o shown_all) refl refl other starts (Err e) (writes_lines Checks IsItself o checked infos e ends))
+    by_order order asked (name, option, rest, is, named, plain, place, chooses, some) (down {by = by} walk built f) =
+        let request = Commits (Topo by) shown_all tips hidden in
         let o = seen_by (Topo by) in
         both_so request rs words records input told are skip old new rooms filled topo.Answers topo.IsWalkFault limit walk batch f
-        (subst (ShowsDrawn o topo.Answers topo.IsWalkFault limit walk) (sym is) (shown_down o (none_agree o [] refl) (unrowed_read o) name option rest those limit tips hidden some ids limits by named plain (have_texts request (stored rs)) walk built))
-        asked (λ infos e ends. serves_topo o [] (Some []) by limit tips hidden (Some (lines_of infos)) walk built (Err e) (written (record { infos = infos; ends = ends; appends = refl })))
+        (subst (ShowsDrawn o topo.Answers topo.IsWalkFault limit walk) (sym is) (shown_down o (none_agree o [] refl) (unrowed_read o) name option rest limit tips hidden some place chooses by named plain (have_texts request (stored rs)) walk built))
+        asked (lines_by o) (λ infos e ends. serves_topo o [] (Some []) by shown_all tips hidden (Some (lines_by o infos)) walk (fresh_choosing o shown_all) refl built (Err e) (writes_lines topo.Answers topo.IsWalkFault o walk infos e ends))
 
   -- THE LAW: what a walk filled is promised
-  pub promised : (order : Order) (limit : Option ℕ) (tips hidden : List ObjectId) → request_of words ≡ Ok (Commits order limit tips hidden) → (objects : Objects) → IsReadFrom (Some records) objects
-      → FillsBy (readable (reads_all_lines (Commits order limit tips hidden)) (with_rows [] objects)) limit tips hidden skip old new rooms filled batch order → IsPromised
+  pub promised : (order : Order) (limit : Option ℕ) (tips hidden : List ObjectId) → request_of words ≡ Ok (Commits order (all_lines_to limit) tips hidden) → (objects : Objects) → IsReadFrom (Some records) objects
+      → FillsBy (readable (reads_all_lines (Commits order (all_lines_to limit) tips hidden)) (with_rows [] objects)) limit tips hidden skip old new rooms filled batch order → IsPromised
   promised order limit tips hidden asked objects read f =
       by_order limit tips hidden read.1 read.0 read.2 read.3 order asked (subst (AreWordsOf words) asked (are_words words))
-      (subst (λ (o : Objects). FillsBy (readable (reads_all_lines (Commits order limit tips hidden)) o) limit tips hidden skip old new rooms filled batch order) (without_rows objects ∙ read.4) f)
+      (subst (λ (o : Objects). FillsBy (readable (reads_all_lines (Commits order (all_lines_to limit) tips hidden)) o) limit tips hidden skip old new rooms filled batch order) (without_rows objects ∙ read.4) f)
 
 -- FAULTS BEFORE A WALK
 module _ (words : List (List ℕ)) (records : List ℕ) where
@@ -184,28 +204,35 @@ module _ (words : List (List ℕ)) (records : List ℕ) where
       as_run e [] (runs_served words (Some records) (Some []) request asked objects read (Some []) (Err e) s) (λ same. serves_unread s (ap (λ x. Err x) same))
 
   -- another command
-  pub is_other : (command : Command) → ((order : Order) (limit : Option ℕ) (tips hidden : _) → command ≡ command_of.Commits order limit tips hidden → ⊥) → (by : Order) (limit : Option ℕ) (tips hidden : List ObjectId) → request_of_command command ≢ Commits by limit tips hidden
+  pub is_other : (command : Command) → ((order : Order) (shown : Shown) (tips hidden : _) → command ≡ command_of.Commits order shown tips hidden → ⊥) → (by : Order) (limit : Option ℕ) (tips hidden : List ObjectId) → request_of_command command ≢ Commits by (all_lines_to limit) tips hidden
   is_other (command_of.Commits order some shown below) other by limit tips hidden = λ e. other order some shown below refl
   is_other (command_of.Files ending tree) other by limit tips hidden = λ e. cc
   is_other (command_of.Ahead one two) other by limit tips hidden = λ e. cc
   is_other (command_of.Contained tip ids) other by limit tips hidden = λ e. cc
   is_other (command_of.Bases one others) other by limit tips hidden = λ e. cc
 
-module _ (words : List (List ℕ)) (records : List ℕ) (order : Order) (limit : Option ℕ) (tips hidden : List ObjectId) (asked : request_of words ≡ Ok (Commits order limit tips hidden)) (objects : Objects) (read : IsReadFrom (Some records) objects) where
+  -- or other lines than all
+  pub is_chosen : (order : Order) (shown : Shown) (tips hidden : List ObjectId) → shown ≢ all_lines_to shown.limit → (by : Order) (limit : Option ℕ) (others below : List ObjectId) → Commits order shown tips hidden ≢ Commits by (all_lines_to limit) others below
+  is_chosen order shown tips hidden other by limit others below = λ e.
+      let same : shown ≡ all_lines_to limit = cc in
+      let limits : shown.limit ≡ limit = ap (λ (s : Shown). s.limit) same in
+      other (same ∙ ap all_lines_to (sym limits))
+
+module _ (words : List (List ℕ)) (records : List ℕ) (order : Order) (limit : Option ℕ) (tips hidden : List ObjectId) (asked : request_of words ≡ Ok (Commits order (all_lines_to limit) tips hidden)) (objects : Objects) (read : IsReadFrom (Some records) objects) where
   -- what a walk filled that could start
   pub filled_promised : (skip : ℕ) (old new : List Commit) (rooms filled : List CommitId) (result : Result Batch Fault)
-      → IfOk result (λ batch. FillsBy (readable (reads_all_lines (Commits order limit tips hidden)) (with_rows [] objects)) limit tips hidden skip old new rooms filled batch order)
+      → IfOk result (λ batch. FillsBy (readable (reads_all_lines (Commits order (all_lines_to limit) tips hidden)) (with_rows [] objects)) limit tips hidden skip old new rooms filled batch order)
       → IfOk result (Promises words records skip old new rooms filled)
   filled_promised skip old new rooms filled (Ok batch) f = (promised words records skip old new rooms filled batch order limit tips hidden asked objects read f).0
   filled_promised skip old new rooms filled (Err e) f = tt
 
   pub filled_fails : (skip : ℕ) (old new : List Commit) (rooms filled : List CommitId) (result : Result Batch Fault)
-      → IfOk result (λ batch. FillsBy (readable (reads_all_lines (Commits order limit tips hidden)) (with_rows [] objects)) limit tips hidden skip old new rooms filled batch order)
+      → IfOk result (λ batch. FillsBy (readable (reads_all_lines (Commits order (all_lines_to limit) tips hidden)) (with_rows [] objects)) limit tips hidden skip old new rooms filled batch order)
       → IfOk result (λ batch. IfFailed (Fails words records) batch.ending)
   filled_fails skip old new rooms filled (Ok batch) f = (promised words records skip old new rooms filled batch order limit tips hidden asked objects read f).1
   filled_fails skip old new rooms filled (Err e) f = tt
 
   -- and what one answers that couldn't
-  pub unstarted_fails : (result : Result Batch Fault) → IfErr result (λ e. Serves (readable (reads_all_lines (Commits order limit tips hidden)) (with_rows [] objects)) [] (Some []) (Commits order limit tips hidden) (Err e) (Some [])) → IfErr result (Fails words records)
+  pub unstarted_fails : (result : Result Batch Fault) → IfErr result (λ e. Serves (readable (reads_all_lines (Commits order (all_lines_to limit) tips hidden)) (with_rows [] objects)) [] (Some []) (Commits order (all_lines_to limit) tips hidden) (Err e) (Some [])) → IfErr result (Fails words records)
   unstarted_fails (Ok batch) s = tt
-  unstarted_fails (Err e) s = fails_served words records (Commits order limit tips hidden) e objects asked read s
+  unstarted_fails (Err e) s = fails_served words records (Commits order (all_lines_to limit) tips hidden) e objects asked read s

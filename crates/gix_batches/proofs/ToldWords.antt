@@ -11,9 +11,9 @@ use Rattle.gix_simple.specs.declared.Sorting.{Sorting}
 use Rattle.gix_simple.specs.declared.Sorting.TheVariants as sorting
 use Rattle.gix_topo.specs.declared.Sorting.{Sorting as TopoSorting}
 use Rattle.gix_topo.specs.declared.Sorting.TheVariants as topo
-use Rattle.gix_statement.specs.WholeStatement.{AreTips, Row, digits_in}
+use Rattle.gix_statement.specs.WholeStatement.{AreTips, Choice, Chooses, Row, at_most, counted, digits_in, everything, merges, no_merges, reversed, skip, until}
 use Rattle.gix_words.specs.declared.words.Order.TheVariants.{Simple, Topo}
-use Rattle.gix_commands.proofs.SameWords.{AreBehind, IsNameOf, IsOptionOf}
+use Rattle.gix_commands.proofs.SameWords.{IsNameOf, IsOptionOf}
 use Rattle.gix_batches.specs.Batches.{Says, breadth, first, timed}
 use Rattle.gix_batches.specs.Slices.{Told}
 
@@ -37,10 +37,19 @@ tips_free [] tips hidden are = λ e. let none : ◌≡◌ {A = List (List ℕ)} 
 tips_free (word ∷ words) tips hidden (inl (i, more, is, s, a)) = λ e. let l : length word ≡ 14 = ap (λ ws. length (first_word ws)) e in long i (length word) (inl s.0) l
 tips_free (word ∷ words) tips hidden (inr (i, more, is, id, w, s, a)) = λ e. let l : length word ≡ 14 = ap (λ ws. length (first_word ws)) e in long i (length word) (inr (ap length w ∙ ap suc s.0)) l
 
--- behind the options no word is one
-pub behind_free : (limit : Option ℕ) (rest words : List (List ℕ)) (tips hidden : List ObjectId) → AreBehind limit rest words → AreTips words tips hidden → take 1 rest ≢ codes "--first-parent" ∷ []
-behind_free None rest words tips hidden same are = subst (λ ws. take 1 ws ≢ codes "--first-parent" ∷ []) (sym same) (tips_free words tips hidden are)
-behind_free (Some n) rest words tips hidden (number, is, same) are = λ e. let l : 2 ≡ 14 = ap (λ ws. length (first_word ws)) (ap (take 1) (sym same) ∙ e) in absurd (omega (arith, l))
+word_free : (word : List ℕ) (words : List (List ℕ)) → length word ≢ 14 → take 1 (word ∷ words) ≢ codes "--first-parent" ∷ []
+word_free word words other = λ e. other (ap (λ ws. length (first_word ws)) e)
+
+-- behind it no word is this option
+pub behind_free : {place : ℕ} {words : List (List ℕ)} {c : Choice} (tips hidden : List ObjectId) → Chooses tips hidden place words c → take 1 words ≢ codes "--first-parent" ∷ []
+behind_free tips hidden (everything {words = words} are) = tips_free words tips hidden are
+behind_free tips hidden (until n is late more) = word_free (codes "--until") _ (λ e. omega (arith, e))
+behind_free tips hidden (merges late more) = word_free (codes "--merges") _ (λ e. omega (arith, e))
+behind_free tips hidden (no_merges late more) = word_free (codes "--no-merges") _ (λ e. omega (arith, e))
+behind_free tips hidden (skip n is late more) = word_free (codes "--skip") _ (λ e. omega (arith, e))
+behind_free tips hidden (at_most n is late more) = word_free (codes "-n") _ (λ e. omega (arith, e))
+behind_free tips hidden (counted late more) = word_free (codes "--count") _ (λ e. omega (arith, e))
+behind_free tips hidden (reversed late more) = word_free (codes "--reverse") _ (λ e. omega (arith, e))
 
 first_alone : (ids : List ObjectId) → by_mode mode.First ids ≡ take 1 ids
 first_alone [] = refl

@@ -1,12 +1,13 @@
 -- What a batch is, from lists of bytes up, in the words of the page: the beginning of the right list, and what the text of each commit says.
-use Rattle.std.specs.Prelude.{◌≡◌, ◌≢◌, ℕ, List, [], ◌∷◌, ◌++◌, map, take, length, Bool, true, false, Option, Some, None, Ok, Err, Contains, codes}
+use Rattle.std.specs.Prelude.{◌≡◌, ◌≢◌, ℕ, List, [], ◌∷◌, ◌++◌, flat_map, take, length, Bool, true, false, Option, Some, None, Ok, Err, Contains, codes}
 use Rattle.std.specs.List.{AllByRecursion}
 use Rattle.gix_hash.specs.declared.ObjectId.{ObjectId}
-use Rattle.gix_statement.specs.WholeStatement.{AreFed, InEach, IsText, Lists, Objects, Row}
+use Rattle.gix_statement.specs.WholeStatement.{AreFed, InEach, IsText, Lists, Objects, Row, id_line}
 use Rattle.gix_words.specs.declared.fault.Fault.{Fault}
 use Rattle.gix_words.specs.declared.fault.Fault.TheVariants as fault
-use Rattle.gix_words.specs.Words.{Request, Commits, request_of}
+use Rattle.gix_words.specs.Words.{Request, Commits, all_lines, request_of}
 use Rattle.gix_words.specs.declared.words.Order.{Order}
+use Rattle.gix_words.specs.declared.words.Shown.{Shown}
 use Rattle.gix_commands.specs.Run.{Runs}
 use Rattle.gix_batches.specs.declared.commit.Batch.{Batch}
 use Rattle.gix_batches.specs.declared.commit.Commit.{Commit}
@@ -28,9 +29,9 @@ pub data Says (r : Row) : List (List ℕ) → Told → Type 0 where
 abbrev pub IsTold : Objects → List (List ℕ) → Told → Type 0
 IsTold objects words t = (r : Row) × IsText objects r × Says r words t
 
--- in each history these commits are the beginning of the list that the words ask for, or all of it, and each is told as its text says
+-- in each history the lines of these commits are the beginning of what the words ask for, or all of it, and each is told as its text says
 pub record Shows (objects : Objects) (words : List (List ℕ)) (told : List Told) (has_ended : Bool) : Type 0 where
-  pub lists : InEach objects [] (λ parents time. Lists objects [] parents time (map (λ t. t.id) told) has_ended words)
+  pub lists : InEach objects [] (λ parents time. Lists objects [] parents time (flat_map (λ t. id_line t.id) told) has_ended words)
   pub texts : AllByRecursion (IsTold objects words) told
 
 abbrev pub has_ended : Ending → Bool
@@ -66,10 +67,14 @@ pub data Promises (words : List (List ℕ)) (records : List ℕ) (skip : ℕ) (o
   gives_none : (e : Fault) → batch ≡ record { commits = 0; parents = 0; ending = Failed e } → new ≡ old → after ≡ before
       → Promises words records skip old new before after batch
 
--- These words ask for something else than a list of commits.
+-- all lines up to a limit
+abbrev pub all_lines_to : Option ℕ → Shown
+all_lines_to limit = record all_lines { limit = limit }
+
+-- These words ask for something else than all lines of a list of commits.
 abbrev pub AskForOther : List (List ℕ) → Type 0
 AskForOther words = (request : Request) × (request_of words ≡ Ok request)
-    × ((by : Order) (limit : Option ℕ) (tips hidden : List ObjectId) → request ≢ Commits by limit tips hidden)
+    × ((by : Order) (limit : Option ℕ) (tips hidden : List ObjectId) → request ≢ Commits by (all_lines_to limit) tips hidden)
 
 -- Why a batch fails: as a run over these words and records does that writes into memory, whose lines are of the commits before; or its words ask
 -- for something else.

@@ -4,13 +4,13 @@
 //! the words of the page of `gix_statement`. Nothing is kept between two calls.
 #![tactic(auto)]
 
-ghost use Rattle.std.specs.Prelude.{◌≡◌, ◌≢◌, ℕ, List, [], map, Some, Err, IfOk, IfErr, string_bytes};
+ghost use Rattle.std.specs.Prelude.{◌≡◌, ◌≢◌, ℕ, List, [], map, Some, Err, IfOk, IfErr, MatchBool, string_bytes};
 ghost use Rattle.gix_commands.specs.Readable.{readable, reads_all_lines};
 ghost use Rattle.gix_commands.specs.Run.{Serves};
 ghost use Rattle.gix_graph_store.specs.WithRows.{with_rows};
 ghost use Rattle.gix_records.specs.Records.{Record, AreRecords};
 ghost use Rattle.gix_words.specs.Words.{Commits};
-ghost use Rattle.gix_batches.specs.Batches.{Fails, IfFailed, Promises};
+ghost use Rattle.gix_batches.specs.Batches.{Fails, IfFailed, Promises, all_lines_to};
 ghost use Rattle.gix_batches.specs.Walks.{FillsBy};
 
 mod commit;
@@ -23,20 +23,21 @@ use gix_commands::commits::{topo_walk_from, walk_from};
 use gix_parts::hash::{Keys, ObjectId};
 use gix_parts::records::{LentStore, records_in};
 use gix_traverse::commit::simple::Sorting;
-use gix_words::{Command, Fault, Order, read_command};
+use gix_words::{Command, Fault, Form, Merges, Order, Shown, read_command};
 use std::alloc::Global;
 
 /// Runs a list command over records that are in memory, and puts the commits behind those that are skipped at the front of the slices, as
 /// many as both have room for: each commit with its id and its time, and the ids of its parents in their order. The words are those of
-/// [`run_in`](gix_commands::run_in) for `breadth`, `newest`, `oldest`, `topo` and `date`; a limit in them counts those that are skipped.
+/// [`run_in`](gix_commands::run_in) for `breadth`, `newest`, `oldest`, `topo` and `date`, without `--until`, `--merges`, `--no-merges`, `--skip`,
+/// `--count` and `--reverse`; a limit in them counts those that are skipped.
 ///
 /// Nothing is drawn behind a slice that is full, and behind the limit. By time a commit's parents are looked at as `run_in` does.
 ///
 /// Tables of ids have the keys [`Keys::KNOWN`], so whoever chooses the records' ids can make the call slow.
 ///
 /// # Errors
-/// In the batch's ending: the faults of `run_in` but `Read` and `Write`, and `Usage` where the words are another command. The commits
-/// before a fault of the walk are given. The rest of both slices is as it was.
+/// In the batch's ending: the faults of `run_in` but `Read` and `Write`, and `Usage` where the words are another command or have another
+/// option. The commits before a fault of the walk are given. The rest of both slices is as it was.
 pub fn batch_in(
     alloc: Global,
     words: &[String],
@@ -77,17 +78,38 @@ fn try_batch(
     let command = read_command(alloc, words)?;
     let Command::Commits {
         order,
-        limit,
+        shown,
         tips,
         hidden,
     } = command
     else {
         return Err(Fault::Usage);
     };
+    if !are_all_lines(shown) {
+        return Err(Fault::Usage);
+    }
     let store = records_in(alloc, Keys::KNOWN, records)?;
     batch_of(
-        alloc, order, limit, tips, hidden, &store, skip, commits, parents,
+        alloc,
+        order,
+        shown.limit,
+        tips,
+        hidden,
+        &store,
+        skip,
+        commits,
+        parents,
     )
+}
+
+/// Whether all lines of a list are asked for, up to a limit.
+fn are_all_lines(shown: Shown) -> bool
+    ensures { MatchBool result (shown ≡ all_lines_to shown.limit) (shown ≢ all_lines_to shown.limit) }
+{
+    shown.until.is_none()
+        && matches!(shown.merges, Merges::Any)
+        && shown.skip == 0
+        && matches!(shown.form, Form::Lines)
 }
 
 /// Fills the slices from the walk in this order over what is stored.
@@ -105,8 +127,8 @@ fn batch_of(
     commits: &mut [Commit],
     parents: &mut [CommitId],
 ) -> Result<Batch, Fault>
-    ensures ok { IfOk result (λ batch. FillsBy (readable (reads_all_lines (Commits order limit tips.items hidden.items)) (with_rows [] store.now)) limit tips.items hidden.items skip commits.old commits.new parents.old parents.new batch order) }
-    ensures err { IfErr result (λ e. Serves (readable (reads_all_lines (Commits order limit tips.items hidden.items)) (with_rows [] store.now)) [] (Some []) (Commits order limit tips.items hidden.items) (Err e) (Some [])) }
+    ensures ok { IfOk result (λ batch. FillsBy (readable (reads_all_lines (Commits order (all_lines_to limit) tips.items hidden.items)) (with_rows [] store.now)) limit tips.items hidden.items skip commits.old commits.new parents.old parents.new batch order) }
+    ensures err { IfErr result (λ e. Serves (readable (reads_all_lines (Commits order (all_lines_to limit) tips.items hidden.items)) (with_rows [] store.now)) [] (Some []) (Commits order (all_lines_to limit) tips.items hidden.items) (Err e) (Some [])) }
     ensures commits_stay { IfErr result (λ e. commits.new ≡ commits.old) }
     ensures parents_stay { IfErr result (λ e. parents.new ≡ parents.old) }
 {

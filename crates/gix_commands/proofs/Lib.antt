@@ -3,6 +3,9 @@ mod WordFaults
 pub mod WalkFaults
 mod MemoryFaults
 mod OutputFacts
+mod WrittenForms
+mod ChosenFacts
+mod LookedAt
 mod BrokenOff
 mod InternalFacts
 mod TreeFacts
@@ -29,7 +32,6 @@ pub mod TopoRuns
 mod GoesOn
 pub mod SimpleBegins
 mod TopoBegins
-mod FirstCommits
 mod NamedTrees
 mod FileRuns
 mod SimpleFaults
@@ -64,6 +66,7 @@ pub mod PageCommits
 mod PageTexts
 mod PageLists
 mod OrderNames
+mod WrittenBytes
 pub mod RightSimple
 pub mod RightTopo
 pub mod RightRuns

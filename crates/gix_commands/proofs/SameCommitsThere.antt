@@ -20,8 +20,8 @@ module _ (objects others : Objects) (rows those : List Row) (commit_on : (r : Ro
   history_on parents time h r c = h r (commit_on r c)
 
   module _ (parents : ObjectId → List ObjectId) (time : ObjectId → ℤ) where
-    pub lists_on : (ids : List ObjectId) (ended : Bool) (words : List (List ℕ)) → Lists objects rows parents time ids ended words → Lists others those parents time ids ended words
-    lists_on ids ended words (lists option limit tips named are some follows there begins allows all) = lists option limit tips named are some follows (all_on ids there) begins allows all
+    pub lists_on : (bytes : List ℕ) (ended : Bool) (words : List (List ℕ)) → Lists objects rows parents time bytes ended words → Lists others those parents time bytes ended words
+    lists_on bytes ended words (lists option more c ids named chooses some follows there begins allows all may is_written) = lists option more c ids named chooses some follows (all_on ids there) begins allows all may is_written
 
     serves_on : (old new : Option (List ℕ)) (words : List (List ℕ)) → Serves objects rows parents time old new words → Serves others those parents time old new words
     serves_on old new words (commits {words = those_words} ids l appends) = commits ids (lists_on ids _ those_words l) appends

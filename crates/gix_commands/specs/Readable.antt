@@ -50,8 +50,8 @@ is_first mode.First = true
 
 -- Whether a command asks for all lines. By first parents alone a walk reads no line behind that of the first parent, so this is tested.
 abbrev pub reads_all_lines : Request → Bool
-reads_all_lines (Commits (Simple parents by) limit tips hidden) = is_first parents
-reads_all_lines (Commits (Topo by) limit tips hidden) = false
+reads_all_lines (Commits (Simple parents by) shown tips hidden) = is_first parents
+reads_all_lines (Commits (Topo by) shown tips hidden) = false
 reads_all_lines (Files ending tree) = false
 reads_all_lines (Ahead one other) = false
 reads_all_lines (Contained tip ids) = false

@@ -3,13 +3,13 @@
 ghost use Rattle.gix_commands.specs.Histories.{AheadSucceeds, BasesSucceeds, ContainsSucceeds, SimpleSucceeds, TopoSucceeds};
 ghost use Rattle.gix_commands.specs.Listings.{FilesReportNames, FilesSucceeds};
 
-/// Where all that is reached are whole commits, `breadth`, `newest` and `oldest` fail for memory, reading or writing alone, with a limit or
-/// without.
+/// Where all that is reached are whole commits, `breadth`, `newest` and `oldest` fail for memory, reading or writing alone, whatever is
+/// written of it.
 pub fn simple_succeeds()
     ensures { SimpleSucceeds }
 {}
 
-/// Where all that is reached are whole commits, `topo` and `date` fail for memory, reading or writing alone, with a limit or without.
+/// Where all that is reached are whole commits, `topo` and `date` fail for memory, reading or writing alone, whatever is written of it.
 pub fn topo_succeeds()
     ensures { TopoSucceeds }
 {}

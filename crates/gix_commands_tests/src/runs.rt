@@ -126,6 +126,7 @@ mod contains;
 mod files;
 mod hidden;
 mod named;
+mod options;
 mod over;
 mod records;
 mod streams;

@@ -135,15 +135,21 @@ A revision is an id, the first 4 digits of one or more, a ref by git's rules, HE
 A...B for A and B without what both reach. For ahead A...B stands for A B.
 
 All objects are compared with their ids. An object that is damaged is a fault, and nothing is listed. Where one is missing, or no commit,
-the first five commands have listed the commits before it, and the others nothing. newest and oldest look whether each parent of a commit
-that they have listed is there, except behind the last line that -n allows. files refuses a tree with a name that is empty or holds a
-slash.
+the first five commands have listed the commits before it, and nothing with --reverse and --count, and the others nothing. newest and
+oldest look whether each parent of a commit that they have met is there, except behind the last line that -n allows. files refuses a tree
+with a name that is empty or holds a slash.
 
   -C FOLDER    takes the repository of this folder, or of the nearest one above it that has one; no variable names another
   --git-dir FOLDER
                takes the folder that is called .git elsewhere
   -n NUMBER    ends after so many lines, in the first five commands; a number has 1 to 9 digits. -n2, --max-count 2 and
                --max-count=2 are the same as -n 2
+  --skip NUMBER
+               leaves out so many lines first, in the first five commands, and -n counts those behind them
+  --merges     leaves out the commits of fewer than two parents, in the first five commands; --no-merges those of more than one
+  --until TIME leaves out the commits of a later time, in the first five commands, and goes on from them. --before TIME is the same
+  --reverse    writes the lines of the first five commands with the last first, as --skip and -n have chosen them
+  --count      writes the number of these lines and not the lines
   --names      writes behind each id of contains a space and the revision as it was given, or the name of the ref
   --first-parent
                goes from each commit to its first parent alone, in breadth; what ^A excludes is reached by all parents

@@ -21,9 +21,18 @@ pub enum Misuse {
     /// Behind `-n` there is no number.
     #[error("-n needs a number of 1 to 9 digits")]
     Limit,
+    /// Behind `--skip` there is no number.
+    #[error("--skip needs a number of 1 to 9 digits")]
+    Skip,
     /// Behind this option there is no time that can be used.
     #[error("{0} needs seconds of 1 to 10 digits, or a date from 1970 on, as 2024-05-01 or 2024-05-01T12:00:00Z")]
     Time(&'static str),
+    /// No commit has one parent at most and two at least.
+    #[error("--merges and --no-merges don't go together")]
+    Merges,
+    /// A number of lines has no last line.
+    #[error("--count and --reverse don't go together")]
+    Count,
     /// `--` would separate revisions from paths.
     #[error("paths aren't known: what follows the command are revisions")]
     Paths,

@@ -55,12 +55,45 @@ pub struct Options {
     pub by_first_parents: bool,
     /// The digits of the least time, in seconds since 1970.
     pub since: Option<String>,
+    /// The digits of the greatest time of a commit that is listed.
+    pub until: Option<String>,
+    /// Whether only commits of two parents at least are listed.
+    pub merges: bool,
+    /// Whether only commits of one parent at most are listed.
+    pub no_merges: bool,
+    /// The digits of the number of lines that are left out first.
+    pub skip: Option<String>,
     /// The digits of the most lines.
     pub limit: Option<String>,
+    /// Whether only the number of lines is written.
+    pub counts: bool,
+    /// Whether the last line comes first.
+    pub is_reversed: bool,
     /// Whether a byte 0 ends each line.
     pub ends_in_zero: bool,
     /// Whether each line says how its revision was called.
     pub gives_names: bool,
+}
+
+impl Options {
+    /// An option that goes with lists of commits alone, if there is one.
+    fn of_list(&self) -> Option<&'static str> {
+        let given = [
+            (self.limit.is_some(), "-n"),
+            (self.skip.is_some(), "--skip"),
+            (self.until.is_some(), "--until"),
+            (self.merges, "--merges"),
+            (self.no_merges, "--no-merges"),
+            (self.counts, "--count"),
+            (self.is_reversed, "--reverse"),
+        ];
+        for (is_given, option) in given {
+            if is_given {
+                return Some(option);
+            }
+        }
+        None
+    }
 }
 
 /// What is asked of a repository.
@@ -174,7 +207,13 @@ impl Arguments {
                 is_verbose: false,
                 by_first_parents: false,
                 since: None,
+                until: None,
+                merges: false,
+                no_merges: false,
+                skip: None,
                 limit: None,
+                counts: false,
+                is_reversed: false,
                 ends_in_zero: false,
                 gives_names: false,
             },
@@ -189,6 +228,10 @@ impl Arguments {
         }
         match word {
             "-C" | "--git-dir" => return self.read_place(word, behind),
+            "--merges" => self.options.merges = true,
+            "--no-merges" => self.options.no_merges = true,
+            "--count" => self.options.counts = true,
+            "--reverse" => self.options.is_reversed = true,
             "--help" | "-h" => self.needs_help = true,
             "--no-graph" => self.options.rows = Rows::Unused,
             "--trust-graph" => self.options.rows = Rows::Trusted,
@@ -261,8 +304,16 @@ impl Arguments {
                 }
                 self.options.limit = Some(String::from_str(self.alloc, value)?);
             }
+            "--skip" => {
+                if !is_number(value, 9) {
+                    return Err(Misuse::Skip);
+                }
+                self.options.skip = Some(String::from_str(self.alloc, value)?);
+            }
             "--since" => self.options.since = Some(self.digits_of("--since", value)?),
-            _ => self.options.since = Some(self.digits_of("--after", value)?),
+            "--after" => self.options.since = Some(self.digits_of("--after", value)?),
+            "--until" => self.options.until = Some(self.digits_of("--until", value)?),
+            _ => self.options.until = Some(self.digits_of("--before", value)?),
         }
         Ok(())
     }
@@ -328,8 +379,16 @@ impl Arguments {
 
     /// Whether each option goes with the command.
     fn check_options(&self, name: Name) -> Result<(), Misuse> {
-        if self.options.limit.is_some() && !name.is_list() {
-            return Err(Misuse::option("-n", name));
+        if !name.is_list() {
+            if let Some(option) = self.options.of_list() {
+                return Err(Misuse::option(option, name));
+            }
+        }
+        if self.options.merges && self.options.no_merges {
+            return Err(Misuse::Merges);
+        }
+        if self.options.counts && self.options.is_reversed {
+            return Err(Misuse::Count);
         }
         if self.options.by_first_parents && name != Name::Breadth {
             return Err(Misuse::option("--first-parent", name));
@@ -431,7 +490,10 @@ fn with_value(word: &str) -> (&str, Option<&str>) {
 
 /// Whether an option has a value.
 fn takes_value(option: &str) -> bool {
-    matches!(option, "-n" | "--max-count" | "--since" | "--after")
+    matches!(
+        option,
+        "-n" | "--max-count" | "--skip" | "--since" | "--after" | "--until" | "--before"
+    )
 }
 
 /// Whether a word is 1 to so many decimal digits.

@@ -29,8 +29,8 @@ module _ (read objects : Objects) (rows others : List Row) (all : (i : ObjectId)
   history_too parents time h r c = h r (commit_too r c)
 
   module _ (parents : ObjectId → List ObjectId) (time : ObjectId → ℤ) where
-    lists_too : (ids : List ObjectId) (words : List (List ℕ)) → Lists read rows parents time ids true words → Lists objects others parents time ids true words
-    lists_too ids words (lists option limit tips named are some follows there begins allows ended) = lists option limit tips named are some follows (all_there ids there) begins allows ended
+    lists_too : (bytes : List ℕ) (words : List (List ℕ)) → Lists read rows parents time bytes true words → Lists objects others parents time bytes true words
+    lists_too bytes words (lists option more c ids named chooses some follows there begins allows ended may is_written) = lists option more c ids named chooses some follows (all_there ids there) begins allows ended may is_written
 
     serves_too : (old new : Option (List ℕ)) (words : List (List ℕ)) → Serves read rows parents time old new words → Serves objects others parents time old new words
     serves_too old new words (commits ids l appends) = commits ids (lists_too ids words l) appends

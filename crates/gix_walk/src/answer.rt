@@ -210,6 +210,7 @@ impl Asking<'_> {
             Some(least)
                 if least <= FEW_LINES
                     && !self.asks_what_is_reached()
+                    && !self.leaves_some_out()
                     && !self.question.options.takes_border => {}
             _ => return Ok(None),
         }
@@ -228,8 +229,8 @@ impl Asking<'_> {
         matches!(self.question.name, Name::Contains | Name::IsAncestor)
     }
 
-    /// How many commits are read at the least, where a part of them may be enough: one for each line that is asked for, or for each
-    /// revision of `contains` and `is-ancestor`.
+    /// How many commits are read at the least, where a part of them may be enough: one for each line that is asked for, and for each that is
+    /// skipped, or for each revision of `contains` and `is-ancestor`.
     fn least(&self) -> Option<usize> {
         if self.asks_what_is_reached() {
             return Some(self.chosen.tips.len());
@@ -241,10 +242,15 @@ impl Asking<'_> {
         if !is_by_one_step || !self.chosen.hidden.is_empty() || !self.chosen.pairs.is_empty() {
             return None;
         }
-        match &self.question.options.limit {
-            Some(digits) => digits.as_str().parse::<usize>().ok(),
-            None => None,
-        }
+        let limit = number(self.question.options.limit.as_ref())?;
+        let skip = number(self.question.options.skip.as_ref()).unwrap_or(0);
+        Some(limit.saturating_add(skip))
+    }
+
+    /// Whether a list leaves out commits by what they say, so that nobody knows how many are met until enough are left.
+    fn leaves_some_out(&self) -> bool {
+        let options = &self.question.options;
+        options.until.is_some() || options.merges || options.no_merges
     }
 
     /// Writes the answer from a part of the history, and from a larger one where the command meets a commit that wasn't read yet. The
@@ -344,6 +350,11 @@ impl Asking<'_> {
         run_named(alloc, words.as_slice(), objects, graph, output)?;
         Ok(0)
     }
+}
+
+/// The number that an option's digits write, if it is given.
+fn number(digits: Option<&String>) -> Option<usize> {
+    digits?.as_str().parse::<usize>().ok()
 }
 
 /// How a run into memory ended: it can't be written where memory ran out.

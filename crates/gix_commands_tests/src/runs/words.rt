@@ -33,7 +33,7 @@ fn judges_the_words_first(rt: HostRuntime) -> Result<(), Fail> {
             (&["topo", "-n", "1"], "! usage"),
             (&["topo", "-n", "1", "^#1"], "! usage"),
             (&["topo", "-n", "1", "#1", "zz"], "! bad id in word 5"),
-            (&["topo", "-n"], "! bad id in word 2"),
+            (&["topo", "-n"], "! usage"),
             (&["topo", "#1", "-n", "1"], "! bad id in word 3"),
             (&["files", "-n", "1", "#1"], "! usage"),
             (&["breadth", "--first-parent"], "! usage"),
