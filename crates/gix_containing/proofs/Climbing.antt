@@ -1,8 +1,7 @@
 -- The search from a commit to all that is above it.
-use Rattle.std.proofs.Common.{◌≡◌, ◌⊎◌, ◌+◌, ◌≤◌, ◌||◌, ℕ, suc, List, [], ◌∷◌, ◌++◌, flat_map, length, Bool, true, false, not, cond, Option, Some, None, Contains, refl, sym, ap, subst, inl, inr, ⊎_elim, ◌∙◌, arith, append-nil, append_assoc, length-append}
+use Rattle.std.proofs.Common.{Vec, Global, ◌≡◌, ◌⊎◌, ◌+◌, ◌≤◌, ◌||◌, ℕ, suc, List, [], ◌∷◌, ◌++◌, flat_map, length, Bool, true, false, not, cond, Option, Some, None, Contains, refl, sym, ap, subst, inl, inr, ⊎_elim, ◌∙◌, arith, append-nil, append_assoc, length-append}
 use Rattle.std.specs.FinMap as map_of
 use Rattle.std.specs.FinSet as set
-use Rattle.std.specs.declared.vec.Vec.{Vec}
 use Rattle.std.proofs.lemmas.Bool.{or_left, or_right, or_cases, false≢true}
 use Rattle.std.proofs.lemmas.List.Elements.{Contains-append_left, Contains-append_right, Contains-append_cases}
 use Rattle.gix_hash.specs.declared.ObjectId.{ObjectId}
@@ -46,23 +45,25 @@ or_known false b c h = refl
 pub spends : (ids all : List ObjectId) (s t : ObjectId → Bool) → ((i : ObjectId) → Contains ids i → is_among i all ≡ true) → ((j : ObjectId) → t j ≡ (is_among j ids || s j))
     → length (new_ids t all) + length (new_ids s ids) ≡ length (new_ids s all)
 spends [] all s t within marked = let same : length (new_ids t all) ≡ length (new_ids s all) = ap length (fresh_agree t s all (λ j h. marked j)) in omega (arith, same)
-spends (i ∷ ids) all s t within marked = go (s i) refl
+spends (i ∷ ids) all s t within marked = go (λ m. spends ids all s t later m) (λ m. spends ids all (λ j. is_same j i || s j) t later m) (s i) refl
   where
     later : (j : ObjectId) → Contains ids j → is_among j all ≡ true
     later j m = within j (Contains-there j i ids m)
 
-    go : (b : Bool) → s i ≡ b → length (new_ids t all) + length (cond b (new_ids s ids) (i ∷ new_ids (λ j. is_same j i || s j) ids)) ≡ length (new_ids s all)
-    go true e = spends ids all s t later (λ j. marked j ∙ or_known (is_same j i) (is_among j ids) (s j) (λ same. ap s (same_is j i same) ∙ e))
-    go false e =
-        let rest = spends ids all (λ j. is_same j i || s j) t later (λ j. marked j ∙ or_shift (is_same j i) (is_among j ids) (s j)) in
+    go : (((j : ObjectId) → t j ≡ (is_among j ids || s j)) → length (new_ids t all) + length (new_ids s ids) ≡ length (new_ids s all))
+        → (((j : ObjectId) → t j ≡ (is_among j ids || (is_same j i || s j))) → length (new_ids t all) + length (new_ids (λ j. is_same j i || s j) ids) ≡ length (new_ids (λ j. is_same j i || s j) all))
+        → (b : Bool) → s i ≡ b → length (new_ids t all) + length (cond b (new_ids s ids) (i ∷ new_ids (λ j. is_same j i || s j) ids)) ≡ length (new_ids s all)
+    go known new true e = known (λ j. marked j ∙ or_known (is_same j i) (is_among j ids) (s j) (λ same. ap s (same_is j i same) ∙ e))
+    go known new false e =
+        let rest = new (λ j. marked j ∙ or_shift (is_same j i) (is_among j ids) (s j)) in
         let less = new_less s all i (within i (Contains-here i ids)) e in
         omega (arith, rest, less)
 
 -- all children
-abbrev pub all_in : Children → List ObjectId
+abbrev pub all_in : Children Global → List ObjectId
 all_in children = flat_map (λ e. e.1.items) (map_of.entries children)
 
-found : (es : List (ObjectId × Vec ObjectId)) (i : ObjectId) (ids : Vec ObjectId) → map_of.find id_cmp i es ≡ Some ids → Contains es (i, ids)
+found : (es : List (ObjectId × Vec ObjectId Global)) (i : ObjectId) (ids : Vec ObjectId Global) → map_of.find id_cmp i es ≡ Some ids → Contains es (i, ids)
 found [] i ids e = cc
 found (x ∷ es) i ids e = go (found es i ids) (is_same i x.0) refl e
   where
@@ -70,18 +71,18 @@ found (x ∷ es) i ids e = go (found es i ids) (is_same i x.0) refl e
     go r true t e = let same : i ≡ x.0 = same_is i x.0 t in let value : x.1 ≡ ids = cc in subst (λ y. Contains (x ∷ es) y) (λ k. (sym same k, value k)) (Contains-here x es)
     go r false t e = Contains-there (i, ids) x es (r e)
 
-pub all_have : (children : Children) (c i : ObjectId) → Contains (children_in children c) i → is_among i (all_in children) ≡ true
+pub all_have : (children : Children Global) (c i : ObjectId) → Contains (children_in children c) i → is_among i (all_in children) ≡ true
 all_have children c i m = go (map_of.get children c) refl m
   where
-    go : (o : Option (Vec ObjectId)) → map_of.get children c ≡ o → Contains (ids_in o) i → is_among i (all_in children) ≡ true
+    go : (o : Option (Vec ObjectId Global)) → map_of.get children c ≡ o → Contains (ids_in o) i → is_among i (all_in children) ≡ true
     go None e k = absurd (no_member i k)
     go (Some ids) e k = among_flat (λ e. e.1.items) (map_of.entries children) (c, ids) i (found (map_of.entries children) c ids (sym (map_of.get-entries children c) ∙ e)) (among_from i ids.items k)
 
 -- how many turns there are at most
-abbrev pub room : Children → set.FinSet id_cmp → List ObjectId → ℕ
+abbrev pub room : Children Global → set.FinSet id_cmp → List ObjectId → ℕ
 room children marks waiting = length (new_ids (set.contains marks) (all_in children)) + length waiting
 
-module _ (children : Children) (id : ObjectId) where
+module _ (children : Children Global) (id : ObjectId) where
   abbrev next : ObjectId → List ObjectId
   next = children_in children
 

@@ -15,16 +15,16 @@ use Rattle.gix_revwalk.specs.Agreeing.{IsAgreeing}
 use Rattle.gix_revwalk.specs.Commits.{ReadsWhole, commit_at, parents_of}
 
 -- whoever reaches the target by some parents does so by the others
-moved : (parents others : ObjectId → List ObjectId) (target : ObjectId) (tips those : List ObjectId) → ((i : ObjectId) → Contains tips i → Reaches parents (i ∷ []) target ↔ Reaches others (i ∷ []) target)
+moved : (parents others : ObjectId → List ObjectId) (target : ObjectId) {tips those : List ObjectId} → ((i : ObjectId) → Contains tips i → Reaches parents (i ∷ []) target ↔ Reaches others (i ∷ []) target)
     → AreContaining parents target tips those → AreContaining others target tips those
-moved parents others target [] [] same empty = empty
-moved parents others target (i ∷ tips) (j ∷ those) same (contains r a) = contains ((same i (Contains-here i tips)).0 r) (moved parents others target tips those (λ k m. same k (Contains-there k i tips m)) a)
-moved parents others target (i ∷ tips) those same (passed n a) = passed (λ r. n ((same i (Contains-here i tips)).1 r)) (moved parents others target tips those (λ k m. same k (Contains-there k i tips m)) a)
+moved parents others target same empty = empty
+moved parents others target same (contains {i = i} {tips = tips} r a) = contains ((same i (Contains-here i tips)).0 r) (moved parents others target (λ k m. same k (Contains-there k i tips m)) a)
+moved parents others target same (passed {i = i} {tips = tips} n a) = passed (λ r. n ((same i (Contains-here i tips)).1 r)) (moved parents others target (λ k m. same k (Contains-there k i tips m)) a)
 
 pub containing_of_history : (objects history : Objects) (rows : List GraphRow) (target : ObjectId) (tips those : List ObjectId) → IsAgreeing objects rows → IsHistory objects rows history → FindsContaining objects rows target tips those
     → AreContaining (parents_of history) target tips those
-containing_of_history objects history rows target [] those agreeing h found = moved (parents_of objects) (parents_of history) target [] those (λ i m. absurd (no_member i m)) (found.exact agreeing)
-containing_of_history objects history rows target (x ∷ tips) those agreeing h found = moved (parents_of objects) (parents_of history) target (x ∷ tips) those same (found.exact agreeing)
+containing_of_history objects history rows target [] those agreeing h found = moved (parents_of objects) (parents_of history) target (λ i m. absurd (no_member i m)) (found.exact agreeing)
+containing_of_history objects history rows target (x ∷ tips) those agreeing h found = moved (parents_of objects) (parents_of history) target same (found.exact agreeing)
   where
     whole : (i : ObjectId) → Reaches (parents_of objects) (target ∷ x ∷ tips) i → ReadsWhole objects i
     whole = found.read agreeing (λ e. cc)

@@ -1,5 +1,5 @@
 -- What is marked reaches the target, and how reaching is told.
-use Rattle.std.proofs.Common.{◌≡◌, ◌≢◌, ◌↔◌, ◌==◌, List, [], ◌∷◌, length, Bool, true, false, not, Result, Err, IfErr, Contains, refl, sym, ap, subst, ⊎_elim, ◌∙◌}
+use Rattle.std.proofs.Common.{Global, ◌≡◌, ◌≢◌, ◌↔◌, ◌==◌, List, [], ◌∷◌, length, Bool, true, false, not, Result, Err, IfErr, Contains, refl, sym, ap, subst, ⊎_elim, ◌∙◌}
 use Rattle.std.specs.FinSet as set
 use Rattle.gix_hash.specs.declared.ObjectId.{ObjectId}
 use Rattle.gix_hash.specs.Id.{id_cmp}
@@ -29,7 +29,7 @@ use Rattle.gix_revwalk.proofs.Reached.{reach_more}
 use Rattle.gix_simple.specs.Walk.{SimpleWalk, Next}
 
 -- what is above the target, by commits that have their parents, reaches it
-above : (parents : ObjectId → List ObjectId) (target : ObjectId) (infos : List Info) (children : Children) → AreChildren infos children
+above : (parents : ObjectId → List ObjectId) (target : ObjectId) (infos : List Info) (children : Children Global) → AreChildren infos children
     → ((info : Info) → Contains infos info → info.parent_ids.items ≡ parents info.id) → (i : ObjectId) → Reaches (children_in children) (target ∷ []) i → Reaches parents (i ∷ []) target
 above parents target infos children are whole i (start m) = subst (λ x. Reaches parents (x ∷ []) target) (only_member target i m) (itself parents target)
 above parents target infos children are whole i (step {c = c} r n) =
@@ -39,7 +39,7 @@ above parents target infos children are whole i (step {c = c} r n) =
 
 module _ {F P : Type 0} (objects : F → Objects) (faulty : F → ObjectId → Type 0) (answers : P → ObjectId → Bool → P → Type 0) (store : F) (predicate : P) (accepting : AnswersBy answers predicate (λ i. true))
     (rows : List GraphRow) (target : ObjectId) (tips : List ObjectId) (walk : SimpleWalk F P) (starts : StartsFrom objects faulty answers store predicate rows target tips walk) where
-  pub marks_only : (children : Children) (marks : set.FinSet id_cmp) → GathersChildren (Next objects faulty answers) walk children → Tells (set.contains marks) (Reaches (children_in children) (target ∷ [])) → MarksOnly (objects store) rows target tips marks
+  pub marks_only : (children : Children Global) (marks : set.FinSet id_cmp) → GathersChildren (Next objects faulty answers) walk children → Tells (set.contains marks) (Reaches (children_in children) (target ∷ [])) → MarksOnly (objects store) rows target tips marks
   marks_only children marks g tells = record {
     sound = λ agreeing i m.
         above (parents_of (objects store)) target g.infos children g.are_children (have objects faulty answers store predicate accepting rows target tips walk starts g.infos g.drawn agreeing) i ((tells i).0 m);

@@ -15,8 +15,9 @@ use gix_parts::records::NamedObjects;
 use gix_repository::Repository;
 use std::io::Write;
 
-/// The status where `contains` found that some revisions aren't contained, or `is-ancestor` that one isn't reached.
-const NOT_ALL_CONTAINED: u8 = 3;
+/// The status where `contains` found that some revisions aren't contained, `containing` that some don't reach the first, or `is-ancestor` that
+/// one isn't reached.
+const NOT_ALL: u8 = 3;
 /// How many objects are read until it is said how many there are.
 const STEP: usize = 8192;
 /// How many commits are read at first, where a part of them may be enough, beside those that are asked for.
@@ -53,7 +54,10 @@ pub(crate) fn answer<W: Write>(
         return Ok(0);
     }
     let chosen = choose(rt, &mut repository, question)?;
-    let asks_of_others = matches!(question.name, Name::Contains | Name::MergeBase);
+    let asks_of_others = matches!(
+        question.name,
+        Name::Contains | Name::Containing | Name::MergeBase
+    );
     if chosen.tips.is_empty() || asks_of_others && chosen.tips.len() < 2 {
         return Ok(0);
     }
@@ -291,7 +295,7 @@ impl Asking<'_> {
         Err(Failure::Command(Fault::Internal))
     }
 
-    /// Writes the lines of the command, as the question asks for them: `contains --names` with words, and `is-ancestor` none.
+    /// Writes the lines of the command, as the question asks for them: with `--names` each with its word, and those of `is-ancestor` not at all.
     fn write_lines<W: Write>(&self, lines: &[u8], output: &mut W) -> Result<(), Failure> {
         if self.question.name == Name::IsAncestor {
             return Ok(());
@@ -306,8 +310,9 @@ impl Asking<'_> {
     /// The status of an answer of these lines.
     fn status(&self, lines: &[u8]) -> u8 {
         let count = lines.iter().filter(|byte| **byte == b'\n').count();
-        if self.asks_what_is_reached() && count.saturating_add(1) < self.chosen.tips.len() {
-            NOT_ALL_CONTAINED
+        let gives_revisions = self.asks_what_is_reached() || self.question.name == Name::Containing;
+        if gives_revisions && count.saturating_add(1) < self.chosen.tips.len() {
+            NOT_ALL
         } else {
             0
         }
@@ -347,8 +352,20 @@ impl Asking<'_> {
             return self.write_ids(output);
         }
         let words = self.chosen.words(alloc, self.keys, self.question)?;
-        run_named(alloc, words.as_slice(), objects, graph, output)?;
-        Ok(0)
+        if name != Name::Containing {
+            run_named(alloc, words.as_slice(), objects, graph, output)?;
+            return Ok(0);
+        }
+        let mut lines = Vec::new(alloc);
+        in_memory(run_named(
+            alloc,
+            words.as_slice(),
+            objects,
+            graph,
+            &mut lines,
+        ))?;
+        self.write_lines(lines.as_slice(), output)?;
+        Ok(self.status(lines.as_slice()))
     }
 }
 

@@ -1,9 +1,8 @@
 -- What the parts of a call do.
-use Rattle.std.specs.Prelude.{◌≡◌, ◌≢◌, ◌↔◌, ◌⊎◌, ◌||◌, List, [], ◌∷◌, ◌++◌, Bool, true, Option, Some, None, Result, Contains}
+use Rattle.std.specs.Prelude.{◌≡◌, ◌≢◌, ◌↔◌, ◌⊎◌, ◌||◌, List, [], ◌∷◌, ◌++◌, Bool, true, Option, Some, None, Result, Contains, Vec}
 use Rattle.std.specs.Iterator.{Drains}
 use Rattle.std.specs.FinMap as map_of
 use Rattle.std.specs.FinSet as set
-use Rattle.std.specs.declared.vec.Vec.{Vec}
 use Rattle.gix_hash.specs.declared.ObjectId.{ObjectId}
 use Rattle.gix_hash.specs.Id.{id_cmp, is_among}
 use Rattle.gix_hash.specs.Reach.{Reaches}
@@ -31,30 +30,30 @@ pub record MarksOnly (objects : Objects) (rows : List GraphRow) (target : Object
   pub read : IsAgreeing objects rows → tips ≢ [] → (i : ObjectId) → Reaches (parents_of objects) (target ∷ tips) i → ReadsWhole objects i
 
 -- the children of commits
-abbrev pub Children : Type 0
-Children = map_of.FinMap id_cmp (Vec ObjectId)
+abbrev pub Children : Type 0 → Type 0
+Children Z = map_of.FinMap id_cmp (Vec ObjectId Z)
 
-abbrev pub ids_in : Option (Vec ObjectId) → List ObjectId
+abbrev pub ids_in : {Z : Type 0} → Option (Vec ObjectId Z) → List ObjectId
 ids_in None = []
 ids_in (Some ids) = ids.items
 
-abbrev pub children_in : Children → ObjectId → List ObjectId
+abbrev pub children_in : {Z : Type 0} → Children Z → ObjectId → List ObjectId
 children_in children i = ids_in (map_of.get children i)
 
 -- a child is added to those of one commit, or of some
-abbrev pub AddsTo : ObjectId → ObjectId → Children → Children → Type 0
+abbrev pub AddsTo : {Z : Type 0} → ObjectId → ObjectId → Children Z → Children Z → Type 0
 AddsTo child parent old new = (i c : ObjectId) → Contains (children_in new i) c ↔ (Contains (children_in old i) c ⊎ ((c ≡ child) × (i ≡ parent)))
 
-abbrev pub AddsChild : ObjectId → List ObjectId → Children → Children → Type 0
+abbrev pub AddsChild : {Z : Type 0} → ObjectId → List ObjectId → Children Z → Children Z → Type 0
 AddsChild child parents old new = (i c : ObjectId) → Contains (children_in new i) c ↔ (Contains (children_in old i) c ⊎ ((c ≡ child) × Contains parents i))
 
 -- the children are those of these commits
-abbrev pub AreChildren : List Info → Children → Type 0
+abbrev pub AreChildren : {Z : Type 0} → List Info → Children Z → Type 0
 AreChildren infos children =
     (i c : ObjectId) → Contains (children_in children i) c ↔ ((info : Info) × Contains infos info × (info.id ≡ c) × Contains info.parent_ids.items i)
 
 -- a walk was drawn to its end, and its commits are children of their parents
-pub record GathersChildren {W : Type 0} (Steps : W → Option (Result Info WalkError) → W → Type 0) (walk : W) (children : Children) : Type 0 where
+pub record GathersChildren {W Z : Type 0} (Steps : W → Option (Result Info WalkError) → W → Type 0) (walk : W) (children : Children Z) : Type 0 where
   pub infos : List Info
   pub drawn : Drains Steps walk (given infos)
   pub are_children : AreChildren infos children
