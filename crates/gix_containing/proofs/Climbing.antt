@@ -93,19 +93,22 @@ module _ (children : Children Global) (id : ObjectId) where
     pub waits : (i : ObjectId) → Contains waiting i → set.contains marks i ≡ true
     pub goes : (c i : ObjectId) → set.contains marks c ≡ true → Contains (next c) i → Contains waiting c ⊎ (set.contains marks i ≡ true)
 
-  pub climbs_first : (none marks : set.FinSet id_cmp) (waiting : List ObjectId) → none ≡ set.empty → MarksNew (id ∷ []) none [] marks waiting → IsClimbing marks waiting
-  climbs_first none marks waiting e m = record {
+  pub climbs_first : (none marks : set.FinSet id_cmp) (nothing waiting : List ObjectId) → none ≡ set.empty → nothing ≡ [] → MarksNew (id ∷ []) none nothing marks waiting → IsClimbing marks waiting
+  climbs_first none marks nothing waiting e n m = record {
     begun = m.marked id ∙ or_left _ _ (among_from id (id ∷ []) (Contains-here id []));
     sound = λ i h. start (only i h);
-    waits = λ i w. m.marked i ∙ or_left _ _ (among_from i (id ∷ []) (new_within (set.contains none) (id ∷ []) i (subst (λ xs. Contains xs i) m.waits w)));
-    goes = λ c i h k. inl (subst (λ xs. Contains xs c) (sym m.waits) (new_from (set.contains none) (id ∷ []) c (only c h) (nothing c)));
+    waits = λ i w. m.marked i ∙ or_left _ _ (among_from i (id ∷ []) (new_within (set.contains none) (id ∷ []) i (subst (λ xs. Contains xs i) waits w)));
+    goes = λ c i h k. inl (subst (λ xs. Contains xs c) (sym waits) (new_from (set.contains none) (id ∷ []) c (only c h) (unmarked c)));
   }
     where
-      nothing : (i : ObjectId) → set.contains none i ≡ false
-      nothing i = ap (λ s. set.contains s i) e ∙ set.contains-empty id_cmp i
+      waits : waiting ≡ new_ids (set.contains none) (id ∷ [])
+      waits = m.waits ∙ ap (λ xs. xs ++ new_ids (set.contains none) (id ∷ [])) n
+
+      unmarked : (i : ObjectId) → set.contains none i ≡ false
+      unmarked i = ap (λ s. set.contains s i) e ∙ set.contains-empty id_cmp i
 
       only : (i : ObjectId) → set.contains marks i ≡ true → Contains (id ∷ []) i
-      only i h = among_is i (id ∷ []) (⊎_elim (λ a. a) (λ b. absurd (false≢true (sym (nothing i) ∙ b))) (or_cases (is_among i (id ∷ [])) (set.contains none i) (sym (m.marked i) ∙ h)))
+      only i h = among_is i (id ∷ []) (⊎_elim (λ a. a) (λ b. absurd (false≢true (sym (unmarked i) ∙ b))) (or_cases (is_among i (id ∷ [])) (set.contains none i) (sym (m.marked i) ∙ h)))
 
   module _ (marks now : set.FinSet id_cmp) (waiting rest later : List ObjectId) (taken : ObjectId) (popped : waiting ≡ rest ++ taken ∷ []) (m : MarksNew (next taken) marks rest now later) where
     -- a turn of the search

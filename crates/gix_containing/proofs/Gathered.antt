@@ -29,10 +29,10 @@ adds_to child parent old new ids more put i c = subst (λ xs. Contains xs c ↔ 
     go true e =
         let same : i ≡ parent = same_is i parent e in (
           λ m. ⊎_elim (λ h. inl (subst (λ p. Contains (children_in old p) c) (sym same) h)) (λ h. inr (sym (only_member child c h), same))
-          (Contains-append_cases (children_in old parent) (child ∷ []) c (subst (λ xs. Contains xs c) more m)),
+              (Contains-append_cases (children_in old parent) (child ∷ []) c (subst (λ xs. Contains xs c) more m)),
           λ h. subst (λ xs. Contains xs c) (sym more) (⊎_elim
-          (λ m. Contains-append_left (children_in old parent) (child ∷ []) c (subst (λ p. Contains (children_in old p) c) same m))
-          (λ s. Contains-append_right (children_in old parent) (child ∷ []) c (subst (Contains (child ∷ [])) (sym s.0) (Contains-here child []))) h),
+              (λ m. Contains-append_left (children_in old parent) (child ∷ []) c (subst (λ p. Contains (children_in old p) c) same m))
+              (λ s. Contains-append_right (children_in old parent) (child ∷ []) c (subst (Contains (child ∷ [])) (sym s.0) (Contains-here child []))) h),
         )
     go false e = (
       λ m. inl m,
@@ -46,10 +46,10 @@ adds_none child old i c = (λ m. inl m, λ h. ⊎_elim (λ m. m) (λ s. absurd (
 pub adds_more : (child parent : ObjectId) (ids later : List ObjectId) (old mid new : Children Global) → later ≡ ids ++ parent ∷ [] → AddsChild child ids old mid → AddsTo child parent mid new → AddsChild child later old new
 adds_more child parent ids later old mid new l h a i c = subst (λ xs. Contains (children_in new i) c ↔ (Contains (children_in old i) c ⊎ ((c ≡ child) × Contains xs i))) (sym l) (
   λ m. ⊎_elim (λ k. ⊎_elim (λ o. inl o) (λ s. inr (s.0, Contains-append_left ids (parent ∷ []) i s.1)) ((h i c).0 k))
-  (λ s. inr (s.0, Contains-append_right ids (parent ∷ []) i (subst (Contains (parent ∷ [])) (sym s.1) (Contains-here parent []))))
-  ((a i c).0 m),
+      (λ s. inr (s.0, Contains-append_right ids (parent ∷ []) i (subst (Contains (parent ∷ [])) (sym s.1) (Contains-here parent []))))
+      ((a i c).0 m),
   λ k. ⊎_elim (λ o. (a i c).1 (inl ((h i c).1 (inl o))))
-  (λ s. ⊎_elim (λ m. (a i c).1 (inl ((h i c).1 (inr (s.0, m))))) (λ m. (a i c).1 (inr (s.0, sym (only_member parent i m)))) (Contains-append_cases ids (parent ∷ []) i s.1)) k,
+      (λ s. ⊎_elim (λ m. (a i c).1 (inl ((h i c).1 (inr (s.0, m))))) (λ m. (a i c).1 (inr (s.0, sym (only_member parent i m)))) (Contains-append_cases ids (parent ∷ []) i s.1)) k,
 )
 
 pub no_children : (children : Children Global) → children ≡ map_of.empty → AreChildren [] children
@@ -62,8 +62,8 @@ no_children children e i c = (
 pub children_more : (infos : List Info) (info : Info) (ids : List ObjectId) (old new : Children Global) → ids ≡ info.parent_ids.items → AreChildren infos old → AddsChild info.id ids old new → AreChildren (infos ++ info ∷ []) new
 children_more infos info ids old new e h a i c = (
   λ m. ⊎_elim (λ o. let k = (h i c).0 o in (k.0, Contains-append_left infos (info ∷ []) k.0 k.1, k.2, k.3))
-  (λ s. (info, Contains-append_right infos (info ∷ []) info (Contains-here info []), sym s.0, subst (λ xs. Contains xs i) e s.1)) ((a i c).0 m),
+      (λ s. (info, Contains-append_right infos (info ∷ []) info (Contains-here info []), sym s.0, subst (λ xs. Contains xs i) e s.1)) ((a i c).0 m),
   λ k. ⊎_elim (λ m. (a i c).1 (inl ((h i c).1 (k.0, m, k.2, k.3))))
-  (λ m. let same : info ≡ k.0 = only_member info k.0 m in (a i c).1 (inr (sym k.2 ∙ ap (λ x. x.id) (sym same), subst (λ xs. Contains xs i) (ap (λ x. x.parent_ids.items) (sym same) ∙ sym e) k.3)))
-  (Contains-append_cases infos (info ∷ []) k.0 k.1),
+      (λ m. let same : info ≡ k.0 = only_member info k.0 m in (a i c).1 (inr (sym k.2 ∙ ap (λ x. x.id) (sym same), subst (λ xs. Contains xs i) (ap (λ x. x.parent_ids.items) (sym same) ∙ sym e) k.3)))
+      (Contains-append_cases infos (info ∷ []) k.0 k.1),
 )

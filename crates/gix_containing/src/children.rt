@@ -78,11 +78,19 @@ pub(super) fn descendants(
     let mut waiting = Vec::new(alloc);
     mark_all(&[id], &mut marks, &mut waiting)?;
     while let Some(next) = waiting.pop() {
-        if let Some(ids) = children.get(&next) {
-            mark_all(ids.as_slice(), &mut marks, &mut waiting)?;
-        }
+        mark_all(children_at(children, &next), &mut marks, &mut waiting)?;
     }
     Ok(marks)
+}
+
+/// The children that were found of a commit.
+fn children_at<'a>(children: &'a Children, id: &ObjectId) -> &'a [ObjectId]
+    ensures { result.now ≡ children_in children.now id.now }
+{
+    match children.get(id) {
+        Some(ids) => ids.as_slice(),
+        None => &[],
+    }
 }
 
 /// Marks the ids. Those that weren't marked before wait.

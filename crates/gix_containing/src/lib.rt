@@ -11,13 +11,12 @@ ghost use Rattle.gix_revwalk.specs.Agreeing.{rows_in};
 mod children;
 pub mod laws;
 
-pub use gix_merge_base::Error;
-
 use children::{children_of, descendants};
 use gix_commitgraph::Graph;
 use gix_contained::contained;
 use gix_hash::ObjectId;
 use gix_hash::hashtable::IdSet;
+pub use gix_merge_base::Error;
 use gix_merge_base::walk_from;
 use gix_object::find::Find;
 use std::alloc::{AllocError, Global};

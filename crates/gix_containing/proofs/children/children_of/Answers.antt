@@ -27,7 +27,7 @@ loop-answer-preserved-in_ok-add_to_each g c = record {
 
 pub returns-in_err-info-clause-err : goal.returns-in_err-info-clause-err
 returns-in_err-info-clause-err g c =
-    let p = err_from_is_err_and c.from_residual-in_err-info.result c.from_residual-in_err-info.ensures.1 in
+    let p = err_from_is_err_and c.from_residual.result c.from_residual.ensures.1 in
     gather_failed g.I.Iterator.next_gives _ _ _ _ _ _ _ _ p.1 p.2 c.loop-answer.invariant.drawn c.in-Some.ensures.steps c.in_err-info.was
 
 pub returns-clause-ok : goal.returns-clause-ok
