@@ -1,5 +1,5 @@
 -- The answer, and why there is none.
-use Rattle.std.proofs.Common.{◌≡◌, ◌≢◌, ◌↔◌, List, [], ◌∷◌, ◌++◌, Bool, true, false, not, cond, filter, Result, Err, IfErr, Contains, refl, sym, ap, subst, ⊎_elim, ◌∙◌, append-nil}
+use Rattle.std.proofs.Common.{◌≡◌, ◌≢◌, ◌↔◌, List, [], ◌∷◌, ◌++◌, Bool, true, false, not, cond, filter, Result, Err, IfErr, Contains, refl, sym, subst, ⊎_elim, ◌∙◌, append-nil}
 use Rattle.std.specs.FinSet as set
 use Rattle.std.proofs.lemmas.Bool.{false≢true, not_from_false}
 use Rattle.gix_hash.specs.declared.ObjectId.{ObjectId}
@@ -14,7 +14,6 @@ use Rattle.gix_containing.specs.Inside.Steps.{MarksOnly, Selects, TellsReach}
 use Rattle.gix_merge_base.specs.declared.Error.{Error}
 use Rattle.gix_merge_base.specs.declared.Error.TheVariants as error
 use Rattle.gix_merge_base.specs.Bases.{IsFaultOf}
-use Rattle.gix_revwalk.specs.Agreeing.{IsAgreeing}
 use Rattle.gix_revwalk.specs.Commits.{parents_of}
 use Rattle.gix_revwalk.proofs.NewIds.{among-filter}
 use Rattle.gix_revwalk.proofs.Reached.{reach_more}

@@ -7,7 +7,7 @@ use Rattle.std.proofs.lemmas.List.Elements.{Contains-append_left, Contains-appen
 use Rattle.gix_hash.specs.declared.ObjectId.{ObjectId}
 use Rattle.gix_hash.specs.Id.{id_cmp, is_same, is_among}
 use Rattle.gix_hash.specs.Reach.{Reaches, start, step, Tells}
-use Rattle.gix_hash.proofs.Ids.Membership.{Contains-here, Contains-there, no_member, among_from, among_is, among-append, among-one, id_total, same_is}
+use Rattle.gix_hash.proofs.Ids.Membership.{Contains-here, Contains-there, no_member, among_from, among_is, same_is}
 use Rattle.gix_hash.proofs.Lists.{only_member}
 use Rattle.gix_containing.specs.Inside.Steps.{Children, ids_in, children_in, MarksNew}
 use Rattle.gix_merge_base.proofs.Members.{new_from, new_within}

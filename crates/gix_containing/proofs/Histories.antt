@@ -1,10 +1,9 @@
 -- A store that is a part of a history, and has whole all that the target and the tips reach, has the answer of the history.
-use Rattle.std.proofs.Common.{◌≡◌, ◌↔◌, List, [], ◌∷◌, Some, Contains, refl, sym, ap, subst, ⊎_elim, ◌∙◌}
+use Rattle.std.proofs.Common.{◌≡◌, ◌↔◌, List, [], ◌∷◌, Contains, refl, sym, ap, subst, ⊎_elim}
 use Rattle.gix_hash.specs.declared.ObjectId.{ObjectId}
 use Rattle.gix_hash.specs.Reach.{Reaches, start}
 use Rattle.gix_hash.proofs.Ids.Membership.{Contains-here, Contains-there, Contains-cons_cases, no_member}
 use Rattle.gix_hash.proofs.Lists.{only_member}
-use Rattle.gix_object.specs.CommitText.{Commit}
 use Rattle.gix_object.specs.Object.{Objects}
 use Rattle.gix_commitgraph.specs.Rows.{GraphRow}
 use Rattle.gix_contained.specs.Contained.{AreContained, empty as none, reached, passed as unmet}
@@ -12,7 +11,7 @@ use Rattle.gix_containing.specs.Containing.{AreContaining, empty, contains, pass
 use Rattle.gix_merge_base.proofs.Histories.{there, back}
 use Rattle.gix_paint.specs.Painting.{IsHistory}
 use Rattle.gix_revwalk.specs.Agreeing.{IsAgreeing}
-use Rattle.gix_revwalk.specs.Commits.{ReadsWhole, commit_at, parents_of}
+use Rattle.gix_revwalk.specs.Commits.{ReadsWhole, parents_of}
 
 -- whoever reaches the target by some parents does so by the others
 moved : (parents others : ObjectId → List ObjectId) (target : ObjectId) {tips those : List ObjectId} → ((i : ObjectId) → Contains tips i → Reaches parents (i ∷ []) target ↔ Reaches others (i ∷ []) target)

@@ -1,10 +1,10 @@
 -- What is marked reaches the target, and how reaching is told.
-use Rattle.std.proofs.Common.{Global, ◌≡◌, ◌≢◌, ◌↔◌, ◌==◌, List, [], ◌∷◌, length, Bool, true, false, not, Result, Err, IfErr, Contains, refl, sym, ap, subst, ⊎_elim, ◌∙◌}
+use Rattle.std.proofs.Common.{Global, ◌≡◌, ◌≢◌, ◌↔◌, ◌==◌, List, [], ◌∷◌, length, Bool, true, not, Result, Err, IfErr, Contains, refl, sym, ap, subst, ⊎_elim, ◌∙◌}
 use Rattle.std.specs.FinSet as set
 use Rattle.gix_hash.specs.declared.ObjectId.{ObjectId}
 use Rattle.gix_hash.specs.Id.{id_cmp}
 use Rattle.gix_hash.specs.Reach.{Reaches, start, step, Tells}
-use Rattle.gix_hash.proofs.Ids.Membership.{Contains-here, Contains-there, Contains-cons_cases, no_member}
+use Rattle.gix_hash.proofs.Ids.Membership.{Contains-here, Contains-there}
 use Rattle.gix_hash.proofs.Lists.{only_member}
 use Rattle.gix_object.specs.Object.{Objects}
 use Rattle.gix_commitgraph.specs.Rows.{GraphRow}
@@ -22,7 +22,6 @@ use Rattle.gix_merge_base.proofs.Starting.{have, read_whole}
 use Rattle.gix_merge_base.proofs.Whole.{by_contained}
 use Rattle.gix_paint.proofs.Invariant.{own_history}
 use Rattle.gix_revwalk.specs.declared.Info.{Info}
-use Rattle.gix_revwalk.specs.Agreeing.{IsAgreeing}
 use Rattle.gix_revwalk.specs.Asking.{AnswersBy}
 use Rattle.gix_revwalk.specs.Commits.{parents_of}
 use Rattle.gix_revwalk.proofs.Reached.{reach_more}

@@ -1,4 +1,4 @@
-use Rattle.std.proofs.Common.{sym, [], ◌++◌, ◌∷◌, ◌∙◌}
+use Rattle.std.proofs.Common.{sym, [], ◌++◌, ◌∷◌}
 use Rattle.std.proofs.lemmas.Result.{err_from_is_err_and}
 use Rattle.gix_merge_base.proofs.Gathering.{drawn_one, drawn_all, gather_failed}
 use Rattle.gix_containing.proofs.Gathered.{no_children, children_more}
