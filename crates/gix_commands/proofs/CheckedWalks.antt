@@ -1,5 +1,5 @@
 -- What a checked walk gives, its walk gives, and the parents of each commit behind which it goes on are there.
-use Rattle.std.proofs.Common.{◌<◌, nat_lt, ltb-true, ◌≡◌, ◌+◌, ◌-◌, ◌⊎◌, ℕ, zero, suc, List, [], ◌∷◌, ◌++◌, length, take, Contains, Option, None, Some, Result, Ok, Err, refl, sym, ap, subst, ◌∙◌, ⊎_elim, arith, inl, inr, take_all, take_at}
+use Rattle.std.proofs.Common.{◌<◌, nat_lt, ltb-true, ◌≡◌, ◌+◌, ◌-◌, ◌⊎◌, ℕ, zero, suc, List, [], ◌∷◌, ◌++◌, length, take, Contains, Option, None, Some, Result, Ok, Err, refl, sym, ap, subst, ◌∙◌, ⊎_elim, arith, inl, inr, take_at}
 use Rattle.std.specs.Iterator.{Yields}
 use Rattle.gix_commands.proofs.Common.{ObjectId, cond-true, cond-false, false_from_ne_true, Contains-cons_cases, Contains-append_cases, no_member, only_member, Objects, GraphRow, Info, Fault, Ends, EndsBy, finished, cut_short, enough, before}
 use Rattle.std.proofs.lemmas.Bool.{lt-ltb}

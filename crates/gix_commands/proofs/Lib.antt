@@ -69,7 +69,7 @@ pub mod PageCommits
 mod PageTexts
 mod PageLists
 mod OrderNames
-mod WrittenBytes
+pub mod WrittenBytes
 pub mod RightSimple
 pub mod RightTopo
 pub mod RightRuns

@@ -1,6 +1,6 @@
 -- What is read of a commit again is what its text says.
 use Rattle.std.proofs.Common.{◌≡◌, ◌≢◌, ℕ, ℤ, pos, List, [], length, Option, Some, None, Result, Ok, Err, IfOk, refl, sym, ap, subst, ◌∙◌}
-use Rattle.gix_commands.proofs.Common.{Fault, get, ObjectId, Objects, Object, Commit, IsExistingFault, commit_at, commit_of_kind, commit_of_object, kind_of, never_faulty, next_in, read_commit, text_next, text_parents_of_kind, time_in, time_of}
+use Rattle.gix_commands.proofs.Common.{Fault, get, ObjectId, Objects, Commit, IsExistingFault, commit_of_object, kind_of, never_faulty, next_in, read_commit, text_next, time_in, time_of}
 use Rattle.gix_object.specs.CommitItems.{commit_items}
 use Rattle.gix_object.specs.CommitRefIter.{first_committer}
 use Rattle.gix_object.specs.declared.Kind.{Kind}

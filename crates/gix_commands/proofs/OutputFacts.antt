@@ -50,6 +50,10 @@ takes_nothing form.Lines old held ids none = grows_waiting old held.lines held.l
 takes_nothing form.Count old held ids none = (refl, omega (arith, ap length none))
 takes_nothing form.Reverse old held ids none = (refl, sym (ap (λ xs. held.ids ++ xs) none ∙ append-nil held.ids))
 
+-- no id was added, by a form that stayed
+pub same_form : (f by : Form) → f ≡ by → (old : Option (List ℕ)) (held : Held) (new : Option (List ℕ)) (holds : Held) (e : Fault) → TakesNone f old held new holds e → TakesNone by old held new holds e
+same_form f by is old held new holds e h = subst (λ (x : Form). TakesNone x old held new holds e) is h
+
 -- of a limit so many are left
 abbrev pub IsLimitLeft : (limit : Option ℕ) → ℕ → (left : Option ℕ) → Type 0
 IsLimitLeft None n left = left ≡ None

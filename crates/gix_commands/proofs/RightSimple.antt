@@ -1,9 +1,8 @@
 -- What a run of `breadth`, `newest` or `oldest` over records has written is right in each history that has what was read, where what
 -- was read are commits.
-use Rattle.std.proofs.Common.{◌⊎◌, ⊎_elim, ◌≡◌, ◌≢◌, ◌-◌, ◌≤◌, ℕ, suc, List, [], ◌∷◌, ◌++◌, length, take, drop, flat_map, Option, Some, None, Ok, All, Contains, codes, refl, sym, ap, subst, ◌∙◌, inl, inr, Bool, true, false, Result, Err, arith, take_at, take-append-drop, append-nil, length-append, take_all}
+use Rattle.std.proofs.Common.{◌⊎◌, ⊎_elim, ◌≡◌, ◌≢◌, ◌-◌, ◌≤◌, ℕ, suc, List, [], ◌∷◌, ◌++◌, length, take, drop, Option, Some, None, Ok, All, Contains, codes, refl, sym, ap, subst, ◌∙◌, inl, inr, Bool, true, false, Result, Err, arith, take_at, take-append-drop, append-nil, length-append}
 use Rattle.gix_commands.proofs.Common.{Appends, Yields, Contains-get_or, Contains-append_left, Contains-append_right, ObjectId, Parents, by_mode, Info, Simple, Commits, AreWhole, ReadsParents, text_next, time_of, time_order, IsAgreeing, GraphRow, Objects, no_start, reach_more, whole_from, step}
-use Rattle.gix_commands.proofs.Common.{false≢true, Fault, walked, not_walked, unserved, StartsFrom, enough, before, cut_short, Ends, EndsBy, finished, IsNumber, lines_of, Shown, kept_in, page_choice}
-use Rattle.std.specs.Str.Parse.{digits_value}
+use Rattle.gix_commands.proofs.Common.{false≢true, Fault, walked, not_walked, unserved, StartsFrom, enough, before, cut_short, Ends, EndsBy, finished, Shown, kept_in, page_choice}
 use Rattle.std.proofs.Math.ListN.{get_or}
 use Rattle.std.proofs.Math.Seq.{take-append_seam}
 use Rattle.gix_hash.specs.Reach as reach
@@ -12,8 +11,8 @@ use Rattle.gix_simple.specs.declared.Sorting.{Sorting}
 use Rattle.gix_simple.specs.declared.Sorting.TheVariants as sorting
 use Rattle.gix_statement.proofs.InEach.{none_each, simple_each}
 use Rattle.gix_statement.specs.WholeStatement as page
-use Rattle.gix_statement.specs.WholeStatement.{Allows, InEach, AreTips, IsThere, Reaches, id_line, Chooses, chosen}
-use Rattle.gix_commands.specs.Checked.{GoesOnWhole, HaveParents, gone_on}
+use Rattle.gix_statement.specs.WholeStatement.{Allows, InEach, IsThere, Reaches, Chooses, chosen}
+use Rattle.gix_commands.specs.Checked.{GoesOnWhole, HaveParents}
 use Rattle.gix_commands.specs.Chosen.{page_form}
 use Rattle.gix_commands.specs.Run.{Serves, cut_off, lost}
 use Rattle.gix_commands.specs.Walked.{Walk, Answers, AsksForMore, IsWalkFault, failed, given}

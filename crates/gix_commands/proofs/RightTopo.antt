@@ -1,5 +1,5 @@
 -- What a run of `topo` or `date` over records has written is right in each history that has what was read, where what was read are commits.
-use Rattle.std.proofs.Common.{◌⊎◌, ⊎_elim, ◌≡◌, ◌≢◌, ℕ, suc, List, [], ◌∷◌, ◌++◌, length, drop, flat_map, Option, Some, None, Ok, All, codes, refl, sym, ap, subst, inl, inr, ◌∙◌, Bool, true, false, Result, Err, arith, append-nil, take-append-drop}
+use Rattle.std.proofs.Common.{◌⊎◌, ⊎_elim, ◌≡◌, ◌≢◌, ℕ, suc, List, [], ◌∷◌, ◌++◌, length, drop, Option, Some, None, Ok, All, refl, sym, ap, subst, inl, inr, ◌∙◌, Bool, true, false, Result, Err, arith, append-nil, take-append-drop}
 use Rattle.gix_commands.proofs.Common.{Appends, Contains-get_or, Contains-append_left, ObjectId, Info, Topo, Commits, IsBuiltFrom, text_next, time_of, IsAgreeing, GraphRow, Objects, objects_of, IsCommitRead, IsReached, plan_from, walked_down, not_built, unserved, Shown, kept_in, page_choice, false≢true, Fault, Yields, EndsBy, Ends, before, enough, cut_short, finished}
 use Rattle.std.proofs.Math.ListN.{get_or}
 use Rattle.gix_topo.specs.declared.Sorting.{Sorting}
@@ -11,7 +11,7 @@ use Rattle.gix_commands.specs.Run.{Serves, cut_off}
 use Rattle.gix_commands.specs.TopoWalked.{Walk, Answers, IsWalkFault}
 use Rattle.gix_commands.specs.Walked.{AsksForMore, failed, given}
 use Rattle.gix_commands.specs.Pages.{page_objects}
-use Rattle.gix_commands.proofs.CommitRuns.{ids_in, lines_by_ids}
+use Rattle.gix_commands.proofs.CommitRuns.{ids_in}
 use Rattle.gix_commands.proofs.PageCommits.{fed_history}
 use Rattle.gix_commands.proofs.PageLists.{begins_so, whole_so}
 use Rattle.gix_commands.proofs.OrderNames.{down_name, is_order}

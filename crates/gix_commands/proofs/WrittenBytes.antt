@@ -1,8 +1,8 @@
 -- What is written of commits, in the words of the page.
-use Rattle.std.proofs.Common.{◌≡◌, ◌⊎◌, ◌<◌, ◌≤◌, ℕ, suc, List, Option, Some, None, Result, Ok, Err, Bool, true, false, flat_map, reverse, refl, sym, ap, subst, inl, inr, arith}
+use Rattle.std.proofs.Common.{◌≡◌, ◌⊎◌, ◌<◌, ◌≤◌, ℕ, suc, List, Option, Some, None, Ok, Err, reverse, refl, sym, subst, inl, inr, arith}
 use Rattle.gix_commands.proofs.Common.{Appends, Fault, ObjectId, Writes}
 use Rattle.gix_statement.specs.WholeStatement as page
-use Rattle.gix_statement.specs.WholeStatement.{Allows, InEach, Objects, id_line}
+use Rattle.gix_statement.specs.WholeStatement.{Allows}
 use Rattle.gix_words.specs.declared.words.Form.{Form}
 use Rattle.gix_words.specs.declared.words.Form.TheVariants as form
 use Rattle.gix_commands.specs.Chosen.{page_form}

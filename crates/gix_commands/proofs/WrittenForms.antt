@@ -1,5 +1,5 @@
 -- What is written of a walk that was drawn: lines, their number, or the last line first.
-use Rattle.std.proofs.Common.{◌≡◌, ◌≢◌, ◌+◌, ℕ, List, [], ◌∷◌, ◌++◌, length, reverse, false, flat_map, Option, Result, Ok, Err, refl, sym, ap, subst, ◌∙◌, arith}
+use Rattle.std.proofs.Common.{◌≡◌, ◌≢◌, ◌+◌, ℕ, List, [], ◌∷◌, ◌++◌, length, reverse, false, flat_map, Option, Result, Ok, Err, refl, sym, subst, ◌∙◌, arith}
 use Rattle.std.specs.Fmt.{digits}
 use Rattle.gix_commands.proofs.Common.{Appends, Fault, Info, ObjectId, line_of}
 use Rattle.gix_words.specs.declared.words.Form.{Form}
@@ -61,3 +61,12 @@ module _ {W E : Type 0} (Steps : W → Option (Result Info E) → W → Type 0) 
       writes ids takes full a =
           let t : Takes form.Reverse old nothing_held ids mid holds = subst (λ (f : Form). Takes f old nothing_held ids mid holds) is takes in
           subst (λ (f : Form). Writes f (Ok tt) ids old full) (sym is) (subst (λ xs. Appends old full (flat_map line_of (reverse xs))) (same ∙ t.1) a)
+
+pub none_held : (lines : List ℕ) (ids : List ObjectId) → lines ≡ [] → ids ≡ [] → ◌≡◌ {A = Held} (record { lines = lines; ids = ids; number = 0 }) nothing_held
+none_held lines ids a b = λ k. record { lines = a k; ids = b k; number = 0 }
+
+-- what was drawn, by a form that is this one, and beginning with nothing
+pub from_drawn : {W E : Type 0} (Steps : W → Option (Result Info E) → W → Type 0) (Tells : E → Fault → Type 0) (those : List Info → List ObjectId) (limit : Option ℕ) (f by : Form) (walk : W) (old : Option (List ℕ)) (held : Held) (answer : Result (Unit {0}) Fault) (mid : Option (List ℕ)) (holds : Held)
+    → AddsBegun Steps Tells those limit f walk old held answer mid holds → f ≡ by → held ≡ nothing_held → AddsBegun Steps Tells those limit by walk old nothing_held answer mid holds
+from_drawn Steps Tells those limit f by walk old held answer mid holds h named none =
+    subst (λ (x : Form). AddsBegun Steps Tells those limit x walk old nothing_held answer mid holds) named (subst (λ (x : Held). AddsBegun Steps Tells those limit f walk old x answer mid holds) none h)

@@ -1,5 +1,5 @@
 -- The objects of a store and the rows of a commit-graph, as the page of what a run promises has them.
-use Rattle.std.specs.Prelude.{◌≡◌, ◌≢◌, ℕ, List, [], map, Contains, Option, Some, None, codes}
+use Rattle.std.specs.Prelude.{◌≡◌, ◌≢◌, ℕ, List, [], map, Contains, Some, None, codes}
 use Rattle.std.specs.FinMap.{get}
 use Rattle.std.specs.Option.{option_map}
 use Rattle.gix_commitgraph.specs.declared.ParentPlace.TheVariants.{Fault}

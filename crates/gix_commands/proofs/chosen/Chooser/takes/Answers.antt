@@ -1,4 +1,4 @@
-use Rattle.std.proofs.Common.{◌≡◌, ◌∙◌, true, false, arith, sym}
+use Rattle.std.proofs.Common.{◌≡◌, ◌∙◌, true, false, arith}
 use Rattle.std.proofs.lemmas.Grind.{common_steps}
 use Rattle.gix_commands.specs.Chosen.{keeps}
 use Rattle.gix_commands.proofs.ChosenFacts.{passes_all, passes_skipped, passes_taken, passes_unkept}
