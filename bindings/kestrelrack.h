@@ -62,8 +62,8 @@ struct kestrelrack_answer {
  *
  * words    The command and its ids: "breadth", "newest", "oldest", "topo" or "date", maybe "--first-parent" behind "breadth", or
  *          "--since" and a number of 1 to 10 digits behind "newest" or "oldest", maybe options that choose lines, and ids of tips, one at
- *          least, and ids of commits to be hidden, each after a ^; "ahead" and two ids; "contains" or "merge-base" and two ids at least;
- *          "files" and the id of a tree. One space or one newline is between two words, and none at either end. An id is 40 or 64 hex
+ *          least, and ids of commits to be hidden, each after a ^; "ahead" and two ids; "contains", "containing" or "merge-base" and two ids
+ *          at least; "files" and the id of a tree. One space or one newline is between two words, and none at either end. An id is 40 or 64 hex
  *          digits.
  *          The options that choose lines come in this order, each at most once: "--until" and a number of 1 to 10 digits leaves out the
  *          commits of a later time; "--merges" those of fewer than two parents, or "--no-merges" those of more than one; "--skip" and a
@@ -72,8 +72,8 @@ struct kestrelrack_answer {
  * records  The objects, as `git cat-file --batch='%(objecttype) %(objectname) %(objectsize)'` prints them. They are read where they
  *          are: only an object that the walk looks up is copied, one at a time.
  * room     For the lines, each with a newline and none with a zero byte. The lines of commits are never longer than the records (only
- *          "0" and a newline may be), those of "ahead" are at most 42 bytes, those of "contains" never longer than the words, and those of
- *          "merge-base" never longer than the records.
+ *          "0" and a newline may be), those of "ahead" are at most 42 bytes, those of "contains" and "containing" never longer than the
+ *          words, and those of "merge-base" never longer than the records.
  *
  * At KESTRELRACK_WELL the first `length` bytes of the room are the lines, and the rest of it is as it was. At every other number the
  * whole room is as it was, also where a list of commits breaks off midway: of faults no line is written.

@@ -209,6 +209,7 @@ module _ (words : List (List ℕ)) (records : List ℕ) where
   is_other (command_of.Files ending tree) other by limit tips hidden = λ e. cc
   is_other (command_of.Ahead one two) other by limit tips hidden = λ e. cc
   is_other (command_of.Contained tip ids) other by limit tips hidden = λ e. cc
+  is_other (command_of.Containing target ids) other by limit tips hidden = λ e. cc
   is_other (command_of.Bases one others) other by limit tips hidden = λ e. cc
 
   -- or other lines than all

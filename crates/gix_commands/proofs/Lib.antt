@@ -19,6 +19,7 @@ pub mod CheckedWalks
 mod CheckedSteps
 mod AheadFacts
 mod ContainedFacts
+mod ContainingFacts
 mod BasesFacts
 mod StartFacts
 pub mod RunFacts
@@ -37,6 +38,7 @@ mod FileRuns
 mod SimpleFaults
 mod AheadRuns
 mod ContainedRuns
+mod ContainingRuns
 mod BasesRuns
 mod TextNumbers
 mod OverGraphs
@@ -58,6 +60,7 @@ mod SameDescents
 mod SameTrees
 pub mod SameWords
 mod SameContained
+mod SameContaining
 mod SameBases
 mod SameLists
 mod RightTrees

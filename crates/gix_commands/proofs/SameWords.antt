@@ -2,7 +2,7 @@
 use Rattle.std.proofs.Common.{arith, int_le, ◌<◌, ◌≤◌, ◌≡◌, ◌≢◌, ◌⊎◌, ◌+◌, ◌==◌, ◌||◌, ◌&&◌, nat_lt, nat_le, length, ℕ, ℤ, pos, List, [], ◌∷◌, ◌++◌, Bool, true, false, cond, Option, Some, None, Result, Ok, Err, codes, bytes_eq, refl, sym, ap, subst, ◌∙◌, inl}
 use Rattle.std.proofs.Common.{inr, eqb-true, ltb-true, leb-true}
 use Rattle.std.specs.List.{list_all}
-use Rattle.gix_commands.proofs.Common.{false≢true, ObjectId, HexError, id_from_hex, Fault, Order, Simple, Topo, Request, Commits, Files, Ahead, Contained, Bases, Ranked, Ids, begins_with_caret, begins_with_sign, without_caret, is_shown, with_id, with_word, ids_from, number_in, order_named, limited_of, listed_of, chosen_of, since_of, by_first_parents, in_order_of, file_of, files_from, files_of, ahead_from, ahead_of, asked, several_among, several_from, several_of, request_named, request_of, recent_of, by_cutoff, IsNumber, Spells, AreTips, digits_in, Asked, Shown, chosen_from, commits_in, formed_of, limit_by, merges_of, plain_of, skip_by, until_by, until_of, with_form, with_limit, with_merges, with_skip, with_until, page_choice}
+use Rattle.gix_commands.proofs.Common.{false≢true, ObjectId, HexError, id_from_hex, Fault, Order, Simple, Topo, Request, Commits, Files, Ahead, Contained, Containing, Bases, Ranked, Ids, begins_with_caret, begins_with_sign, without_caret, is_shown, with_id, with_word, ids_from, number_in, order_named, limited_of, listed_of, chosen_of, since_of, by_first_parents, in_order_of, file_of, files_from, files_of, ahead_from, ahead_of, asked, several_among, several_from, several_of, request_named, request_of, recent_of, by_cutoff, IsNumber, Spells, AreTips, digits_in, Asked, Shown, chosen_from, commits_in, formed_of, limit_by, merges_of, plain_of, skip_by, until_by, until_of, with_form, with_limit, with_merges, with_skip, with_until, page_choice}
 use Rattle.std.proofs.lemmas.Slice.Eq.{bytes_eq-Decides}
 use Rattle.gix_records.specs.Decimal.{digits_behind}
 use Rattle.gix_revwalk.specs.declared.CommitTimeOrder.TheVariants as order
@@ -151,6 +151,7 @@ AreWordsOf words (Ok (Files ending tree)) =
     (option : List (List ℕ)) × (text : List ℕ) × IsEndedBy option ending × (words ≡ codes "files" ∷ (option ++ text ∷ [])) × Spells (digits_in tree) text tree
 AreWordsOf words (Ok (Ahead one other)) = (a b : List ℕ) × (words ≡ codes "ahead" ∷ a ∷ b ∷ []) × Spells (digits_in one) a one × Spells (digits_in other) b other
 AreWordsOf words (Ok (Contained tip ids)) = (rest : List (List ℕ)) × (words ≡ codes "contains" ∷ rest) × AreTips rest (tip ∷ ids) [] × (ids ≢ [])
+AreWordsOf words (Ok (Containing target tips)) = (rest : List (List ℕ)) × (words ≡ codes "containing" ∷ rest) × AreTips rest (target ∷ tips) [] × (tips ≢ [])
 AreWordsOf words (Ok (Bases one others)) = (rest : List (List ℕ)) × (words ≡ codes "merge-base" ∷ rest) × AreTips rest (one ∷ others) [] × (others ≢ [])
 
 -- what words choose, from a place on: nothing that has its place before
@@ -435,6 +436,9 @@ asked_are words rest asks each (Err e) h = tt
 contained_are : (rest : List (List ℕ)) → AreWordsOf (codes "contains" ∷ rest) (asked Contained (several_of rest))
 contained_are rest = asked_are (codes "contains" ∷ rest) rest Contained (λ i ids are some. (rest, refl, are, some)) (several_of rest) (several_are rest)
 
+containing_are : (rest : List (List ℕ)) → AreWordsOf (codes "containing" ∷ rest) (asked Containing (several_of rest))
+containing_are rest = asked_are (codes "containing" ∷ rest) rest Containing (λ i ids are some. (rest, refl, are, some)) (several_of rest) (several_are rest)
+
 bases_are : (rest : List (List ℕ)) → AreWordsOf (codes "merge-base" ∷ rest) (asked Bases (several_of rest))
 bases_are rest = asked_are (codes "merge-base" ∷ rest) rest Bases (λ i ids are some. (rest, refl, are, some)) (several_of rest) (several_are rest)
 
@@ -442,8 +446,11 @@ bases_are rest = asked_are (codes "merge-base" ∷ rest) rest Bases (λ i ids ar
 abbrev asked_jointly : List ℕ → List (List ℕ) → Result Request Fault
 asked_jointly name rest = cond (bytes_eq name (codes "merge-base")) (asked Bases (several_of rest)) (Err fault.Usage)
 
+abbrev asked_above : List ℕ → List (List ℕ) → Result Request Fault
+asked_above name rest = cond (bytes_eq name (codes "containing")) (asked Containing (several_of rest)) (asked_jointly name rest)
+
 abbrev asked_about : List ℕ → List (List ℕ) → Result Request Fault
-asked_about name rest = cond (bytes_eq name (codes "contains")) (asked Contained (several_of rest)) (asked_jointly name rest)
+asked_about name rest = cond (bytes_eq name (codes "contains")) (asked Contained (several_of rest)) (asked_above name rest)
 
 named_are : (name : List ℕ) (o : Option Order) (rest : List (List ℕ)) → IsChosenBy name o → AreWordsOf (name ∷ rest) (request_named name o rest)
 named_are name (Some by) rest h = in_order_are name by rest h.0 h.1
@@ -453,9 +460,13 @@ named_are name None rest h = files (bytes_eq name (codes "files")) refl
     bases true e = subst (λ word. AreWordsOf (word ∷ rest) (asked Bases (several_of rest))) (sym ((bytes_eq-Decides name (codes "merge-base")).0 e)) (bases_are rest)
     bases false e = tt
 
-    contained : (t : Bool) → bytes_eq name (codes "contains") ≡ t → AreWordsOf (name ∷ rest) (cond t (asked Contained (several_of rest)) (asked_jointly name rest))
+    containing : (t : Bool) → bytes_eq name (codes "containing") ≡ t → AreWordsOf (name ∷ rest) (cond t (asked Containing (several_of rest)) (asked_jointly name rest))
+    containing true e = subst (λ word. AreWordsOf (word ∷ rest) (asked Containing (several_of rest))) (sym ((bytes_eq-Decides name (codes "containing")).0 e)) (containing_are rest)
+    containing false e = bases (bytes_eq name (codes "merge-base")) refl
+
+    contained : (t : Bool) → bytes_eq name (codes "contains") ≡ t → AreWordsOf (name ∷ rest) (cond t (asked Contained (several_of rest)) (asked_above name rest))
     contained true e = subst (λ word. AreWordsOf (word ∷ rest) (asked Contained (several_of rest))) (sym ((bytes_eq-Decides name (codes "contains")).0 e)) (contained_are rest)
-    contained false e = bases (bytes_eq name (codes "merge-base")) refl
+    contained false e = containing (bytes_eq name (codes "containing")) refl
 
     ahead : (t : Bool) → bytes_eq name (codes "ahead") ≡ t → AreWordsOf (name ∷ rest) (cond t (ahead_of rest) (asked_about name rest))
     ahead true e = subst (λ word. AreWordsOf (word ∷ rest) (ahead_of rest)) (sym ((bytes_eq-Decides name (codes "ahead")).0 e)) (ahead_are rest)

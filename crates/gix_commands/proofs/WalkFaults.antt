@@ -1,6 +1,6 @@
 -- Which faults walks may have, and commands that are served.
 use Rattle.std.proofs.Common.{◌≡◌, ◌≢◌, ℕ, List, Option, None, Some, Result, Ok, Err, refl, sym, ap, subst, inl, inr, ◌∙◌}
-use Rattle.gix_commands.proofs.Common.{ObjectId, GraphRow, Objects, Info, Fault, fault_of_find, fault_of_walk, fault_of_topo_walk, fault_of_bases, fault_of_contained, fault_of_tree_walk, walked, not_walked, walked_down, not_built, not_listed, counted, not_ahead, not_behind, selected, not_selected, joined, not_joined, unserved, Ends, EndsBy, finished, cut_short, enough, before, Request, kept_in}
+use Rattle.gix_commands.proofs.Common.{ObjectId, GraphRow, Objects, Info, Fault, fault_of_find, fault_of_walk, fault_of_topo_walk, fault_of_bases, fault_of_contained, fault_of_tree_walk, walked, not_walked, walked_down, not_built, not_listed, counted, not_ahead, not_behind, selected, not_selected, reaching, not_reaching, joined, not_joined, unserved, Ends, EndsBy, finished, cut_short, enough, before, Request, kept_in}
 use Rattle.gix_contained.specs.declared.Error.{Error as ContainedError}
 use Rattle.gix_contained.specs.declared.Error.TheVariants as contained_error
 use Rattle.gix_merge_base.specs.declared.Error.{Error as BasesError}
@@ -118,6 +118,8 @@ serves_of_walk (not_ahead f) = ends_of_walk simple_tells f.1.ends
 serves_of_walk (not_behind n a f) = ends_of_walk simple_tells f.1.ends
 serves_of_walk (selected those s a) = tt
 serves_of_walk (not_selected why f) = contained_of_walk why
+serves_of_walk (reaching those f a) = tt
+serves_of_walk (not_reaching why f) = bases_of_walk why
 serves_of_walk (joined bases f a) = tt
 serves_of_walk (not_joined why f) = bases_of_walk why
 serves_of_walk unserved = tt

@@ -1,7 +1,7 @@
 -- What is so of each request that words spell, and which faults words may have.
 use Rattle.std.proofs.Common.{ℕ, ◌+◌, pos, List, [], ◌∷◌, Bool, true, false, ◌||◌, Option, Some, None, Result, Ok, Err, codes, bytes_eq, cond}
 use Rattle.std.specs.List.{list_all}
-use Rattle.gix_commands.proofs.Common.{ObjectId, HexError, id_from_hex, Fault, Order, Request, Files, Ahead, Contained, Bases, Ids, begins_with_caret, begins_with_sign, without_caret, is_shown, with_id, with_word, ids_from, number_in, order_named, limited_of, listed_of, chosen_of, recent_of, since_of, by_cutoff, in_order_of, file_of, files_from, files_of, ahead_from, ahead_of, asked, several_among, several_from, several_of, Asked, chosen_from, commits_in, formed_of, limit_by, merges_of, plain_of, skip_by, until_by, until_of, with_form, with_limit, with_merges, with_skip, with_until}
+use Rattle.gix_commands.proofs.Common.{ObjectId, HexError, id_from_hex, Fault, Order, Request, Files, Ahead, Contained, Containing, Bases, Ids, begins_with_caret, begins_with_sign, without_caret, is_shown, with_id, with_word, ids_from, number_in, order_named, limited_of, listed_of, chosen_of, recent_of, since_of, by_cutoff, in_order_of, file_of, files_from, files_of, ahead_from, ahead_of, asked, several_among, several_from, several_of, Asked, chosen_from, commits_in, formed_of, limit_by, merges_of, plain_of, skip_by, until_by, until_of, with_form, with_limit, with_merges, with_skip, with_until}
 use Rattle.gix_commands.proofs.Common.{request_named, request_of, by_first_parents}
 use Rattle.gix_words.specs.Words.{limit_from, skip_from, skipped_of, until_from}
 use Rattle.gix_words.specs.declared.fault.Fault.TheVariants as fault
@@ -19,8 +19,8 @@ each_ids Q ids_so no_id n [] = ids_so ([], [])
 each_ids Q ids_so no_id n (word ∷ words) =
     with_each Q ids_so no_id (begins_with_caret word) n (id_from_hex (without_caret word)) (ids_from (n + 1) words) (each_ids Q ids_so no_id (n + 1) words)
 
--- what is so of a wrong use, of a word that spells no id, of a tree, of two commits to compare, of a tip and ids behind it and of what an order's words ask for
-module _ (P : Result Request Fault → Type 0) (usage : P (Err fault.Usage)) (no_id : (n : ℕ) → P (Err (fault.Id n))) (tree : (ending : ℕ) (i : ObjectId) → P (Ok (Files ending i))) (pair : (i j : ObjectId) → P (Ok (Ahead i j))) (some : (i : ObjectId) (ids : List ObjectId) → P (Ok (Contained i ids))) (joint : (i : ObjectId) (ids : List ObjectId) → P (Ok (Bases i ids))) where
+-- what is so of a wrong use, of a word that spells no id, of a tree, of two commits to compare, of an id and ids behind it and of what an order's words ask for
+module _ (P : Result Request Fault → Type 0) (usage : P (Err fault.Usage)) (no_id : (n : ℕ) → P (Err (fault.Id n))) (tree : (ending : ℕ) (i : ObjectId) → P (Ok (Files ending i))) (pair : (i j : ObjectId) → P (Ok (Ahead i j))) (some : (i : ObjectId) (ids : List ObjectId) → P (Ok (Contained i ids))) (above : (i : ObjectId) (ids : List ObjectId) → P (Ok (Containing i ids))) (joint : (i : ObjectId) (ids : List ObjectId) → P (Ok (Bases i ids))) where
   either : (t : Bool) (a b : Result Request Fault) → P a → P b → P (cond t a b)
   either true a b h k = h
   either false a b h k = k
@@ -86,7 +86,8 @@ module _ (P : Result Request Fault → Type 0) (usage : P (Err fault.Usage)) (no
     from_name : (name : List ℕ) (o : Option Order) (ids : List (List ℕ)) → P (request_named name o ids)
     from_name name (Some by) ids = from_order by ids
     from_name name None ids = either (bytes_eq name (codes "files")) (files_of ids) _ (from_trees ids) (either (bytes_eq name (codes "ahead")) (ahead_of ids) _ (from_pairs ids) (either (bytes_eq name (codes "contains")) (asked Contained (several_of ids)) _ (from_somes Contained some ids)
-        (either (bytes_eq name (codes "merge-base")) (asked Bases (several_of ids)) (Err fault.Usage) (from_somes Bases joint ids) usage)))
+        (either (bytes_eq name (codes "containing")) (asked Containing (several_of ids)) _ (from_somes Containing above ids)
+        (either (bytes_eq name (codes "merge-base")) (asked Bases (several_of ids)) (Err fault.Usage) (from_somes Bases joint ids) usage))))
 
     -- is so of each request
     pub each_request : (words : List (List ℕ)) → P (request_of words)
@@ -196,4 +197,4 @@ listed_words by n words = go (until_of n words) (until_words n words)
     go (Err e) h = h
 
 pub request_words : (words : List (List ℕ)) → OfWords (request_of words)
-request_words = each_request OfWords tt (λ n. tt) (λ ending i. tt) (λ i j. tt) (λ i ids. tt) (λ i ids. tt) listed_words
+request_words = each_request OfWords tt (λ n. tt) (λ ending i. tt) (λ i j. tt) (λ i ids. tt) (λ i ids. tt) (λ i ids. tt) listed_words

@@ -13,7 +13,7 @@ use Rattle.gix_words.specs.declared.words.Order.TheVariants.{Simple, Topo}
 use Rattle.gix_words.specs.declared.words.Shown.{Shown}
 use Rattle.gix_records.specs.Records.{Record, AreRecords, stored}
 use Rattle.gix_commands.specs.Run.{Runs}
-use Rattle.gix_words.specs.Words.{Ahead, Bases, Commits, Contained, request_of}
+use Rattle.gix_words.specs.Words.{Ahead, Bases, Commits, Contained, Containing, request_of}
 
 -- all that the ids reach are whole commits
 abbrev pub AreWhole : Objects → List ObjectId → Type 0
@@ -71,6 +71,14 @@ ContainsSucceeds =
     (words : List (List ℕ)) (input : List ℕ) (records : List Record) (tip : ObjectId) (ids : List ObjectId) (answer : Result (Unit {0}) Fault)
     (old new : Option (List ℕ)) →
     request_of words ≡ Ok (Contained tip ids) → AreRecords records input → AreWhole (stored records) (tip ∷ ids) →
+    Runs words (Some input) old answer new → EndsWell answer
+
+-- A run of `containing` over whole commits ends well.
+abbrev pub ContainingSucceeds : Type 0
+ContainingSucceeds =
+    (words : List (List ℕ)) (input : List ℕ) (records : List Record) (target : ObjectId) (tips : List ObjectId)
+    (answer : Result (Unit {0}) Fault) (old new : Option (List ℕ)) →
+    request_of words ≡ Ok (Containing target tips) → AreRecords records input → AreWhole (stored records) (target ∷ tips) →
     Runs words (Some input) old answer new → EndsWell answer
 
 -- A run of `merge-base` over whole commits ends well.

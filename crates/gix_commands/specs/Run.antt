@@ -8,6 +8,7 @@ use Rattle.gix_object.specs.Object.{Objects}
 use Rattle.gix_commitgraph.specs.Rows.{GraphRow}
 use Rattle.gix_contained.specs.declared.Error.{Error as ContainedError}
 use Rattle.gix_contained.specs.Contained.{Selects, FailsBy}
+use Rattle.gix_containing.specs.Containing.{FindsContaining}
 use Rattle.gix_merge_base.specs.declared.Error.{Error as BasesError}
 use Rattle.gix_merge_base.specs.Bases as base
 use Rattle.gix_merge_base.specs.Bases.{FindsBases}
@@ -40,7 +41,7 @@ use Rattle.gix_commands.specs.Opening.{Opens, FailsToOpen}
 use Rattle.gix_commands.specs.Readable.{readable, reads_all_lines}
 use Rattle.gix_commands.specs.TopoWalked as topo
 use Rattle.gix_commands.specs.Walked.{Walk, Answers, IsWalkFault, StartsFrom, FailsAtStart, EndsBy, given, line_of, never_faulty, AsksForMore}
-use Rattle.gix_words.specs.Words.{Request, Commits, Files, Ahead, Contained, Bases, request_of}
+use Rattle.gix_words.specs.Words.{Request, Commits, Files, Ahead, Contained, Containing, Bases, request_of}
 
 -- Over objects, rows for the walks of commits and a writer that has the bytes `old`: which answers a request may get, and which bytes the writer then has.
 pub data Serves (objects : Objects) (rows : List GraphRow) (old : Option (List ℕ)) : Request → Result (Unit {0}) Fault → Option (List ℕ) → Type 0 where
@@ -86,6 +87,11 @@ pub data Serves (objects : Objects) (rows : List GraphRow) (old : Option (List �
       → Selects objects rows (tip ∷ []) ids those → Appends old new (flat_map line_of those) → Serves objects rows old (Contained tip ids) (Ok tt) new
   not_selected : {tip : ObjectId} {ids : List ObjectId} (e : ContainedError) → FailsBy objects (never_faulty objects) rows (tip ∷ []) ids e
       → Serves objects rows old (Contained tip ids) (Err (fault_of_contained e)) old
+  reaching : {target : ObjectId} {tips : List ObjectId} (those : List ObjectId) {new : Option (List ℕ)}
+      → FindsContaining objects rows target tips those → Appends old new (flat_map line_of those)
+      → Serves objects rows old (Containing target tips) (Ok tt) new
+  not_reaching : {target : ObjectId} {tips : List ObjectId} (e : BasesError) → base.FailsBy objects (never_faulty objects) rows target tips e
+      → Serves objects rows old (Containing target tips) (Err (fault_of_bases e)) old
   joined : {one : ObjectId} {others : List ObjectId} (bases : List ObjectId) {new : Option (List ℕ)}
       → FindsBases objects rows one others bases → Appends old new (flat_map line_of bases) → Serves objects rows old (Bases one others) (Ok tt) new
   not_joined : {one : ObjectId} {others : List ObjectId} (e : BasesError) → base.FailsBy objects (never_faulty objects) rows one others e

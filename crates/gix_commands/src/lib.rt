@@ -20,6 +20,7 @@ mod bases;
 pub mod checked;
 mod chosen;
 pub mod commits;
+mod containing;
 mod contains;
 mod digits;
 mod files;
@@ -36,6 +37,7 @@ use bases::write_bases;
 use checked::Checked;
 use chosen::Chooser;
 use commits::{topo_walk_from, walk_from};
+use containing::write_containing;
 use contains::write_contained;
 use files::write_files;
 pub use given::run_in;
@@ -66,16 +68,16 @@ pub use stored::{run_named, run_stored};
 /// of these lines comes first, and with `--count` one line says how many they are.
 /// `files` writes the mode, the id and the path of each entry of the tree and of the trees in it, one a line. `ahead` writes how many
 /// commits the first id reaches and the second doesn't, a space, and how many the second reaches and the first doesn't. `contains` writes
-/// those of its further ids that the first reaches, in the order given, one a line. `merge-base` writes the best common ancestors of the
-/// first id and of any of the others, in rising order: what these reach, and no other such commit reaches.
+/// those of its further ids that the first reaches, in the order given, one a line, and `containing` those that reach the first.
+/// `merge-base` writes the best common ancestors of the first id and of any of the others, in rising order: what these reach, and no other
+/// such commit reaches.
 ///
 /// # Errors
 /// `Usage` and `Id` where the words are no command, `Read` where the reader fails or gives no end when it is asked for the last time,
 /// `Record` where the input isn't records: nothing is written. `Missing`, `WrongKind` and `Broken` where the walk meets such an object,
 /// or in an order by time such a parent of the commit that it gave last, `Cycle` where it meets a tree that is under itself, and
-/// `Memory`: the lines of the commits before are written, and nothing with `--reverse` and `--count`, and of `files`, `ahead`, `contains` and
-/// `merge-base`. `Name` where a tree has a name
-/// that is empty or holds `/`: nothing is written. `Write` where the writer fails, or takes nothing: a beginning of the lines is written,
+/// `Memory`: the lines of the commits before are written, and nothing with `--reverse` and `--count`, and of `files`, `ahead`, `contains`,
+/// `containing` and `merge-base`. `Name` where a tree has a name that is empty or holds `/`: nothing is written. `Write` where the writer fails, or takes nothing: a beginning of the lines is written,
 /// which may end within a line.
 ///
 /// A commit without a byte is `Broken`, and with `--first-parent` one is of which a line of a parent isn't sound, be it of another parent.
@@ -120,6 +122,9 @@ fn serve<W: Write>(
         Command::Files { ending, tree } => write_files(alloc, ending, tree, store, graph, writer),
         Command::Ahead { one, other } => write_ahead(alloc, one, other, store, graph, writer),
         Command::Contained { tip, ids } => write_contained(alloc, tip, ids, store, graph, writer),
+        Command::Containing { target, tips } => {
+            write_containing(alloc, target, tips, store, graph, writer)
+        }
         Command::Bases { one, others } => write_bases(alloc, one, others, store, graph, writer),
     }
 }

@@ -122,6 +122,7 @@ mod ahead;
 mod bases;
 mod breadth;
 mod by_time;
+mod containing;
 mod contains;
 mod files;
 mod hidden;

@@ -90,6 +90,15 @@ pub const COMMANDS: &[Command] = &[
         example: "contains HEAD HEAD~3 HEAD~9",
     },
     Command {
+        name: Name::Containing,
+        arguments: "A B..",
+        what: &[
+            "those of the further revisions that reach the first, as ids, in the order given, as",
+            "git tag --contains finds tags",
+        ],
+        example: "containing HEAD~3 HEAD HEAD~9",
+    },
+    Command {
         name: Name::MergeBase,
         arguments: "A B..",
         what: &[
@@ -160,7 +169,8 @@ with a name that is empty or holds a slash.
   --until TIME leaves out the commits of a later time, in the first five commands, and goes on from them. --before TIME is the same
   --reverse    writes the lines of the first five commands with the last first, as --skip and -n have chosen them
   --count      writes the number of these lines and not the lines
-  --names      writes behind each id of contains a space and the revision as it was given, or the name of the ref
+  --names      writes behind each id of contains and containing a space and the revision as it was given, or the name of
+               the ref
   --first-parent
                goes from each commit to its first parent alone, in breadth; what ^A excludes is reached by all parents
   --since TIME leaves out the commits of an earlier time and what it would meet by them alone, in newest and oldest. The time
@@ -181,8 +191,8 @@ with a name that is empty or holds a slash.
   --version    says which program this is, and whether it was proved
 
 The status is 0 where everything was listed, or the commit-graph is right, 1 after a fault, 2 where the words are no such command, and
-3 where contains found that some revisions aren't contained, is-ancestor that the first isn't reached, or verify-certificate that other
-lines are written. A line on standard error says why.
+3 where contains found that some revisions aren't contained, containing that some don't reach the first, is-ancestor that the first
+isn't reached, or verify-certificate that other lines are written. A line on standard error says why.
 ";
 
 /// What the help says of a command.

@@ -60,7 +60,7 @@ pub enum Misuse {
     /// A list of commits begins nowhere.
     #[error("{0} needs a revision without ^")]
     NoTip(&'static str),
-    /// The revisions that `contains` or `merge-base` asks about are missing or hidden, or the first isn't named.
+    /// The revisions that `contains`, `containing` or `merge-base` asks about are missing or hidden, or the first isn't named.
     #[error("{0} needs two revisions at least, the first of them by its name, and none with ^ or a range A..B")]
     Several(&'static str),
     /// `ahead`, `is-ancestor` and `files` take so many revisions.

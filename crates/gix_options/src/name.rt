@@ -17,6 +17,8 @@ pub enum Name {
     Ahead,
     /// Which of some revisions another one reaches.
     Contains,
+    /// Which of some revisions reach another one.
+    Containing,
     /// The best common ancestors of a revision and of any of some others.
     MergeBase,
     /// Whether a revision is reached by another one.
@@ -42,6 +44,7 @@ impl Name {
             "date" => Some(Name::Date),
             "ahead" => Some(Name::Ahead),
             "contains" => Some(Name::Contains),
+            "containing" => Some(Name::Containing),
             "merge-base" => Some(Name::MergeBase),
             "is-ancestor" => Some(Name::IsAncestor),
             "files" => Some(Name::Files),
@@ -62,6 +65,7 @@ impl Name {
             Name::Date => "date",
             Name::Ahead => "ahead",
             Name::Contains => "contains",
+            Name::Containing => "containing",
             Name::MergeBase => "merge-base",
             Name::IsAncestor => "is-ancestor",
             Name::Files => "files",

@@ -408,7 +408,7 @@ impl Arguments {
         if self.options.ends_in_zero && name != Name::Files {
             return Err(Misuse::option("-z", name));
         }
-        if self.options.gives_names && name != Name::Contains {
+        if self.options.gives_names && !matches!(name, Name::Contains | Name::Containing) {
             return Err(Misuse::option("--names", name));
         }
         if self.options.certificate.is_some() && name == Name::CheckGraph {
@@ -462,7 +462,7 @@ impl Arguments {
                     Err(Misuse::Number(name.word(), 1))
                 }
             }
-            Name::Contains | Name::MergeBase => {
+            Name::Contains | Name::Containing | Name::MergeBase => {
                 let begins = matches!(self.asked.first(), Some(Asked::Word(_)));
                 if begins && words > 1 && tips == words {
                     Ok(())

@@ -91,6 +91,15 @@ const CASES: &[(&str, &str)] = &[
         "contains needs two revisions at least, the first of them by its name, and none with ^ or a range A..B",
     ),
     ("-C . contains HEAD --tags", ""),
+    (
+        "-C . containing HEAD",
+        "containing needs two revisions at least, the first of them by its name, and none with ^ or a range A..B",
+    ),
+    (
+        "-C . containing --count HEAD a",
+        "--count doesn't go with containing",
+    ),
+    ("-C . containing HEAD --names --tags", ""),
     ("-C . contains HEAD --names --tags", ""),
     (
         "-C . merge-base HEAD --names a",

@@ -4,7 +4,7 @@ use Rattle.std.specs.Fmt.{digits}
 use Rattle.gix_hash.proofs.Ids.Membership.{no_member}
 use Rattle.gix_hash.specs.declared.ObjectId.{ObjectId}
 use Rattle.gix_statement.proofs.Tests.{not_among}
-use Rattle.gix_statement.specs.WholeStatement.{Object, Objects, Row, AreRecords, AreFed, IsLast, IsCommit, IsThere, IsHistory, Promises, Serves, commits, ahead, contains, bases, files, lists, id_line, Choice, Form, Lines, Reversed, Number, chosen, written}
+use Rattle.gix_statement.specs.WholeStatement.{Object, Objects, Row, AreRecords, AreFed, IsLast, IsCommit, IsThere, IsHistory, Promises, Serves, commits, ahead, contains, containing, bases, files, lists, id_line, Choice, Form, Lines, Reversed, Number, chosen, written}
 
 pub none : ObjectId → List ObjectId
 none i = []
@@ -71,6 +71,7 @@ module _ (objects : Objects) (rows : List Row) (nothing : (i : ObjectId) → obj
       subst IsNothing (sym (appends ∙ is_written)) (written_of_none c ids (none_there ids there))
   served_nothing words out (ahead {one = one} n m a b there other ns ms appends) = absurd (not_there one there)
   served_nothing words out (contains {tip = tip} {ids = ids} are some there keeps appends) = absurd (not_there tip (there 0 tip (omega arith)))
+  served_nothing words out (containing {target = target} are some there keeps appends) = absurd (not_there target (there 0 target (omega arith)))
   served_nothing words out (bases {one = one} those are some there exact rising appends) = absurd (not_there one (there 0 one (omega arith)))
   served_nothing words out (files option a {tree = t} ends spells (text, is, entries) unfolds appends) = let no : None ≡ Some _ = sym (nothing t) ∙ is in cc
 
@@ -86,6 +87,7 @@ module _ (objects : Objects) (rows : List Row) (nothing : (i : ObjectId) → obj
       none_of_five (subst (Contains five) same named)
   not_contained words rest out is (ahead {one = one} n m a b there other ns ms appends) = not_there one there
   not_contained words rest out is (contains {tip = tip} {ids = ids} are some there keeps appends) = not_there tip (there 0 tip (omega arith))
+  not_contained words rest out is (containing {target = target} are some there keeps appends) = not_there target (there 0 target (omega arith))
   not_contained words rest out is (bases {one = one} those are some there exact rising appends) = not_there one (there 0 one (omega arith))
   not_contained words rest out is (files option a {tree = t} ends spells (text, e, entries) unfolds appends) = let no : None ≡ Some _ = sym (nothing t) ∙ e in cc
 

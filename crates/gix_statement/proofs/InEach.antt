@@ -6,9 +6,9 @@ use Rattle.std.specs.Io.KnownBytes.{Appends}
 use Rattle.std.proofs.lemmas.List.Elements.{All-contains, All-nil}
 use Rattle.gix_hash.proofs.Ids.Membership.{no_member}
 use Rattle.gix_hash.specs.declared.ObjectId.{ObjectId}
-use Rattle.gix_statement.specs.WholeStatement.{Objects, Row, IsThere, IsHistory, InEach, Allows, AreTips, Begins, IsWhole, IsNext, breadth, newest, oldest, date, topo, parent, Follows, all, id_line, digits_in, Spells, Keeps, Lists, lists, HasBegun, Serves, commits, ahead, contains, bases, IsBase, by_bytes, files, Reaches, start, IsNumberShown, IsTree, Unfolds, Entry, entry_line, Choice, Chooses, Lines, chosen, written}
+use Rattle.gix_statement.specs.WholeStatement.{Objects, Row, IsThere, IsHistory, InEach, Allows, AreTips, Begins, IsWhole, IsNext, breadth, newest, oldest, date, topo, parent, Follows, all, id_line, digits_in, Spells, Keeps, Lists, lists, HasBegun, Serves, commits, ahead, contains, containing, bases, IsBase, by_bytes, files, Reaches, start, IsNumberShown, IsTree, Unfolds, Entry, entry_line, Choice, Chooses, Lines, chosen, written}
 use Rattle.gix_statement.proofs.Heart.{IsSimple}
-use Rattle.gix_statement.proofs.EachHistory.{base_back, base_there, counted_there, kept_there, moved, same_parents, same_time, filter_same}
+use Rattle.gix_statement.proofs.EachHistory.{base_back, base_there, containing_there, counted_there, kept_there, moved, same_parents, same_time, filter_same}
 use Rattle.gix_statement.proofs.Descents.{IsDown, begins_down, whole_down}
 
 module _ (objects : Objects) (rows : List Row) (parents : ObjectId → List ObjectId) (time : ObjectId → ℤ) (one : IsHistory objects rows parents time) (old new : Option (List ℕ)) where
@@ -112,6 +112,11 @@ module _ (objects : Objects) (rows : List Row) (parents : ObjectId → List Obje
       → Keeps (λ before i after. Reaches parents (tip ∷ []) i) [] ids those → Appends old new (flat_map id_line those) → Each (codes "contains" ∷ words)
   contains_each {tip = tip} {ids = ids} {those = those} are some there all_there keeps written other times another =
       contains are some all_there (kept_there objects rows parents other time times one another (tip ∷ []) there [] ids those keeps) written
+
+  pub containing_each : {words : List (List ℕ)} {target : ObjectId} {tips those : List ObjectId} → AreTips words (target ∷ tips) [] → tips ≢ [] → AreThere tips → All (IsThere objects rows) (target ∷ tips)
+      → Keeps (λ before i after. Reaches parents (i ∷ []) target) [] tips those → Appends old new (flat_map id_line those) → Each (codes "containing" ∷ words)
+  containing_each {target = target} {tips = tips} {those = those} are some there all_there keeps written other times another =
+      containing are some all_there (containing_there objects rows parents other time times one another target tips there those keeps) written
 
   pub bases_each : {words : List (List ℕ)} {left : ObjectId} {others : List ObjectId} (those : List ObjectId) → AreTips words (left ∷ others) [] → others ≢ [] → AreThere (left ∷ []) → AreThere others → All (IsThere objects rows) (left ∷ others)
       → ((i : ObjectId) → Contains those i ↔ IsBase parents left others i) → AllPairs (λ i j. by_bytes i j ≡ Less) those → Appends old new (flat_map id_line those) → Each (codes "merge-base" ∷ words)

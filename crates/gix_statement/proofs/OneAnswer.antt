@@ -10,7 +10,7 @@ use Rattle.std.specs.Str.Parse.{AllDigits, digits_value}
 use Rattle.gix_hash.proofs.Ids.Membership.{Contains-here, Contains-there, Contains-cons_cases, no_member}
 use Rattle.gix_hash.specs.declared.ObjectId.{ObjectId}
 use Rattle.gix_hash.specs.declared.ObjectId.TheVariants.{Sha1, Sha256}
-use Rattle.gix_statement.specs.WholeStatement.{Objects, Row, IsPending, IsReady, IsFirst, IsBest, Keeps, empty, kept, passed, IsNext, breadth, newest, oldest, date, topo, AreMadeReady, by_time, Begins, IsWhole, Allows, AreTips, Follows, all, first, since, Spells, digits_in, bytes_in, Lists, lists, HasBegun, IsCutOff, OneAnswer, Serves, commits, ahead, contains, bases, IsBase, by_bytes, files, Entry, Object, AreEntries, IsTree, Unfolds, whole, other, tree, Clash, Reaches, id_line, entry_line, IsNumberShown, Choice, Chooses, everything, until, merges, no_merges, skip, at_most, reversed, counted, chosen, written, Lines, Reversed, Number}
+use Rattle.gix_statement.specs.WholeStatement.{Objects, Row, IsPending, IsReady, IsFirst, IsBest, Keeps, empty, kept, passed, IsNext, breadth, newest, oldest, date, topo, AreMadeReady, by_time, Begins, IsWhole, Allows, AreTips, Follows, all, first, since, Spells, digits_in, bytes_in, Lists, lists, HasBegun, IsCutOff, OneAnswer, Serves, commits, ahead, contains, containing, bases, IsBase, by_bytes, files, Entry, Object, AreEntries, IsTree, Unfolds, whole, other, tree, Clash, Reaches, id_line, entry_line, IsNumberShown, Choice, Chooses, everything, until, merges, no_merges, skip, at_most, reversed, counted, chosen, written, Lines, Reversed, Number}
 use Rattle.gix_statement.proofs.OneCommit.{spelled_same, append_same, first_same, id_same}
 use Rattle.gix_statement.proofs.Carried.{same_object}
 use Rattle.gix_statement.proofs.Tests.{not_among, other_head}
@@ -432,10 +432,12 @@ module _ (read objects : Objects) (rows more : List Row) (parents : ObjectId →
       w ∙ ap (λ xs. old ++ xs) ((lists_before parents time read objects rows more ids others true asked words l m is).1 refl) ∙ sym v
   served_once asked words (commits ids l w) (ahead n m x y o p ns ms v) is = absurd (not_listed (codes "ahead") _ asked ids true read rows (inl refl) l is)
   served_once asked words (commits ids l w) (contains are some there keeps v) is = absurd (not_listed (codes "contains") _ asked ids true read rows (inr (omega arith)) l is)
+  served_once asked words (commits ids l w) (containing are some there keeps v) is = absurd (not_listed (codes "containing") _ asked ids true read rows (inr (omega arith)) l is)
   served_once asked words (commits ids l w) (bases those are some there exact rising v) is = absurd (not_listed (codes "merge-base") _ asked ids true read rows (inr (omega arith)) l is)
   served_once asked words (commits ids l w) (files option x ends spells t u v) is = absurd (not_listed (codes "files") _ asked ids true read rows (inl refl) l is)
   served_once asked words (ahead n m x y o p ns ms v) (commits ids l w) is = absurd (not_listed (codes "ahead") _ words ids true objects more (inl refl) l (sym is))
   served_once asked words (contains are some there keeps v) (commits ids l w) is = absurd (not_listed (codes "contains") _ words ids true objects more (inr (omega arith)) l (sym is))
+  served_once asked words (containing are some there keeps v) (commits ids l w) is = absurd (not_listed (codes "containing") _ words ids true objects more (inr (omega arith)) l (sym is))
   served_once asked words (bases those are some there exact rising v) (commits ids l w) is = absurd (not_listed (codes "merge-base") _ words ids true objects more (inr (omega arith)) l (sym is))
   served_once asked words (files option x ends spells t u v) (commits ids l w) is = absurd (not_listed (codes "files") _ words ids true objects more (inl refl) l (sym is))
   served_once asked words (ahead n m x y o p ns ms w) (contains are some there keeps v) is = let h : codes "ahead" ≡ codes "contains" = cc in let l : 5 ≡ 8 = ap length h in absurd (omega (arith, l))
@@ -448,6 +450,14 @@ module _ (read objects : Objects) (rows more : List Row) (parents : ObjectId →
   served_once asked words (bases those are_too any here exact rising v) (contains are some there keeps w) is = let h : codes "merge-base" ≡ codes "contains" = cc in let l : 10 ≡ 8 = ap length h in absurd (omega (arith, l))
   served_once asked words (files option x ends spells t u w) (bases those are some there exact rising v) is = let h : codes "files" ≡ codes "merge-base" = cc in let l : 5 ≡ 10 = ap length h in absurd (omega (arith, l))
   served_once asked words (bases those are some there exact rising v) (files option x ends spells t u w) is = let h : codes "merge-base" ≡ codes "files" = cc in let l : 10 ≡ 5 = ap length h in absurd (omega (arith, l))
+  served_once asked words (ahead n m x y o p ns ms w) (containing are some there keeps v) is = let h : codes "ahead" ≡ codes "containing" = cc in let l : 5 ≡ 10 = ap length h in absurd (omega (arith, l))
+  served_once asked words (containing are some there keeps v) (ahead n m x y o p ns ms w) is = let h : codes "containing" ≡ codes "ahead" = cc in let l : 10 ≡ 5 = ap length h in absurd (omega (arith, l))
+  served_once asked words (contains are some there keeps w) (containing are_too any here keeps_too v) is = let h : codes "contains" ≡ codes "containing" = cc in let l : 8 ≡ 10 = ap length h in absurd (omega (arith, l))
+  served_once asked words (containing are_too any here keeps_too v) (contains are some there keeps w) is = let h : codes "containing" ≡ codes "contains" = cc in let l : 10 ≡ 8 = ap length h in absurd (omega (arith, l))
+  served_once asked words (bases those are some there exact rising w) (containing are_too any here keeps_too v) is = let h : codes "merge-base" ≡ codes "containing" = cc in absurd (other_head 109 99 _ _ refl h)
+  served_once asked words (containing are_too any here keeps_too v) (bases those are some there exact rising w) is = let h : codes "containing" ≡ codes "merge-base" = cc in absurd (other_head 99 109 _ _ refl h)
+  served_once asked words (files option x ends spells t u w) (containing are some there keeps v) is = let h : codes "files" ≡ codes "containing" = cc in let l : 5 ≡ 10 = ap length h in absurd (omega (arith, l))
+  served_once asked words (containing are some there keeps v) (files option x ends spells t u w) is = let h : codes "containing" ≡ codes "files" = cc in let l : 10 ≡ 5 = ap length h in absurd (omega (arith, l))
   served_once asked words (ahead n m x y o p ns ms w) (files option z ends spells t u v) is = let h : codes "ahead" ≡ codes "files" = cc in absurd (other_head 97 102 _ _ refl h)
   served_once asked words (files option z ends spells t u v) (ahead n m x y o p ns ms w) is = let h : codes "files" ≡ codes "ahead" = cc in absurd (other_head 102 97 _ _ refl h)
   served_once asked words (ahead {a = x} {b = y} {one = one} {other = another} n m s t o p ns ms w) (ahead {a = u} {b = v} {one = left} {other = right} i j q r c d is js z) is_same =
@@ -464,6 +474,13 @@ module _ (read objects : Objects) (rows more : List Row) (parents : ObjectId →
       let f : tip ≡ top = cc in
       let g : ids ≡ others = cc in
       let k = keeps_once (λ before i after. Reaches parents (tip ∷ []) i) keeps (subst (λ (T : Type 0). T) (λ k. Keeps (λ before i after. Reaches parents (sym f k ∷ []) i) [] (sym g k) those) keeps_too) in
+      w ∙ ap (λ xs. old ++ flat_map id_line xs) k ∙ sym v
+  served_once asked words (containing {words = ws} {target = target} {tips = tips} are some there keeps w) (containing {words = vs} {target = goal} {tips = others} {those = those} too any all_there keeps_too v) is =
+      let e : ws ≡ vs = cc in
+      let t = (tips_once ws (target ∷ tips) [] (goal ∷ others) [] are (subst (λ x. AreTips x (goal ∷ others) []) (sym e) too)).0 in
+      let f : target ≡ goal = cc in
+      let g : tips ≡ others = cc in
+      let k = keeps_once (λ before i after. Reaches parents (i ∷ []) target) keeps (subst (λ (T : Type 0). T) (λ k. Keeps (λ before i after. Reaches parents (i ∷ []) (sym f k)) [] (sym g k) those) keeps_too) in
       w ∙ ap (λ xs. old ++ flat_map id_line xs) k ∙ sym v
   served_once asked words (bases {words = ws} {one = one} {others = ids} those are some there exact rising w) (bases {words = vs} {one = left} {others = others} found too any all_there exact_too rising_too v) is =
       let e : ws ≡ vs = cc in
@@ -496,6 +513,7 @@ module _ (read objects : Objects) (rows more : List Row) (parents : ObjectId →
       (h.0, v ∙ ap (λ xs. old ++ xs) h.1 ∙ sym (append_assoc old ids h.0) ∙ ap (λ xs. xs ++ h.0) (sym w))
   begun_of asked words (ids, l, w) (ahead n m x y o p ns ms v) is = absurd (not_listed (codes "ahead") _ asked ids false read rows (inl refl) l is)
   begun_of asked words (ids, l, w) (contains are some there keeps v) is = absurd (not_listed (codes "contains") _ asked ids false read rows (inr (omega arith)) l is)
+  begun_of asked words (ids, l, w) (containing are some there keeps v) is = absurd (not_listed (codes "containing") _ asked ids false read rows (inr (omega arith)) l is)
   begun_of asked words (ids, l, w) (bases those are some there exact rising v) is = absurd (not_listed (codes "merge-base") _ asked ids false read rows (inr (omega arith)) l is)
   begun_of asked words (ids, l, w) (files option x ends spells t u v) is = absurd (not_listed (codes "files") _ asked ids false read rows (inl refl) l is)
 

@@ -8,7 +8,7 @@ use Rattle.gix_statement.proofs.Carried.{same_object}
 use Rattle.gix_statement.specs.CommitGraph.{AreLayers}
 use Rattle.gix_statement.proofs.HaveHistory.{have_history}
 use Rattle.gix_statement.proofs.OneAnswer.{one_answer}
-use Rattle.gix_statement.specs.WholeStatement.{Objects, Row, Clash, InEach, Promises, Serves, commits, ahead, contains, bases, files, Object, IsText, IsCommit, Agree, AreFed}
+use Rattle.gix_statement.specs.WholeStatement.{Objects, Row, Clash, InEach, Promises, Serves, commits, ahead, contains, containing, bases, files, Object, IsText, IsCommit, Agree, AreFed}
 
 module _ (objects : Objects) (rows : List Row) (words : List (List ℕ)) (old : List ℕ) where
   abbrev Served : List ℕ → Type 0
@@ -25,6 +25,7 @@ module _ (objects : Objects) (rows : List Row) (words : List (List ℕ)) (old : 
   grown parents time b asked (commits ids l w) = (_, w)
   grown parents time b asked (ahead n m x y o p ns ms w) = (_, w)
   grown parents time b asked (contains are some there keeps w) = (_, w)
+  grown parents time b asked (containing are some there keeps w) = (_, w)
   grown parents time b asked (bases those are some there exact rising w) = (_, w)
   grown parents time b asked (files option x ends spells t u w) = (_, w)
 

@@ -8,7 +8,7 @@ use Rattle.gix_hash.proofs.Ids.Membership.{Contains-cons_cases, no_member, same_
 use Rattle.gix_hash.specs.Id.{is_same}
 use Rattle.gix_hash.specs.declared.ObjectId.{ObjectId}
 use Rattle.gix_hash.specs.declared.ObjectId.TheVariants.{Sha1, Sha256}
-use Rattle.gix_statement.specs.WholeStatement.{Objects, Row, Allows, AreTips, digits_in, IsCommit, IsThere, IsHistory, IsShown, IsWhole, Promises, Serves, commits, ahead, contains, bases, files, lists, Follows, all, first, since, Spells, Reaches, start, parent, Choice, Chooses, everything, until, merges, no_merges, skip, at_most, counted, reversed}
+use Rattle.gix_statement.specs.WholeStatement.{Objects, Row, Allows, AreTips, digits_in, IsCommit, IsThere, IsHistory, IsShown, IsWhole, Promises, Serves, commits, ahead, contains, containing, bases, files, lists, Follows, all, first, since, Spells, Reaches, start, parent, Choice, Chooses, everything, until, merges, no_merges, skip, at_most, counted, reversed}
 use Rattle.gix_statement.proofs.OneCommit.{spelled_same}
 use Rattle.gix_statement.proofs.Tests.{is_hex}
 
@@ -131,6 +131,7 @@ module _ (objects : Objects) (nothing : (i : ObjectId) → objects i ≡ None) w
   refused : (asked : List (List ℕ)) (out : Option (List ℕ)) → asked ≡ words → Serves objects (row ∷ []) parents time (Some []) out asked → ⊥
   refused asked out is (ahead n m a b there others ns ms w) = let h : codes "ahead" ≡ codes "newest" = cc in let l : 5 ≡ 6 = ap length h in omega (arith, l)
   refused asked out is (contains are some there keeps w) = let h : codes "contains" ≡ codes "newest" = cc in let l : 8 ≡ 6 = ap length h in omega (arith, l)
+  refused asked out is (containing are some there keeps w) = let h : codes "containing" ≡ codes "newest" = cc in let l : 10 ≡ 6 = ap length h in omega (arith, l)
   refused asked out is (bases those are some there exact rising w) = let h : codes "merge-base" ≡ codes "newest" = cc in let l : 10 ≡ 6 = ap length h in omega (arith, l)
   refused asked out is (files option a ends spells tree unfolds w) = let h : codes "files" ≡ codes "newest" = cc in let l : 5 ≡ 6 = ap length h in omega (arith, l)
   refused asked out is (commits bytes (lists {by = by} option more c ids named chooses some follows there begins allows ended may is_written) w) =

@@ -9,7 +9,7 @@ use Rattle.gix_statement.proofs.OneCommit.{one_commit}
 use Rattle.gix_statement.proofs.OneOutput.{output_of_both}
 use Rattle.gix_statement.proofs.Tests.{begun_lines}
 use Rattle.gix_statement.specs.CommitGraph.{AreLayers}
-use Rattle.gix_statement.specs.WholeStatement.{Objects, Row, Promises, HasBegun, Serves, commits, ahead, contains, bases, files, Lists, lists, Allows, AreTips, Follows, all, first, since, digits_in, bytes_in, id_line, Agree, AreNamed, InEach, IsHash, IsText, Choice, Chooses, everything, until, merges, no_merges, skip, at_most, counted, reversed}
+use Rattle.gix_statement.specs.WholeStatement.{Objects, Row, Promises, HasBegun, Serves, commits, ahead, contains, containing, bases, files, Lists, lists, Allows, AreTips, Follows, all, first, since, digits_in, bytes_in, id_line, Agree, AreNamed, InEach, IsHash, IsText, Choice, Chooses, everything, until, merges, no_merges, skip, at_most, counted, reversed}
 
 -- HALF A LINE is left only by a run whose writer failed.
 abbrev last_of : ℕ → List ℕ → ℕ
@@ -98,6 +98,9 @@ module _ (by n word : List ℕ) (more : List (List ℕ)) (short : length word < 
     not_served old new asked is (contains {words = words} {tip = tip} {ids = ids} are some there keeps appends) =
         let rest : words ≡ codes "-n" ∷ n ∷ word ∷ more = cc in
         no_short_tip (codes "-n") (n ∷ word ∷ more) (tip ∷ ids) [] (omega arith) (subst (λ x. AreTips x (tip ∷ ids) []) rest are)
+    not_served old new asked is (containing {words = words} {target = target} {tips = tips} are some there keeps appends) =
+        let rest : words ≡ codes "-n" ∷ n ∷ word ∷ more = cc in
+        no_short_tip (codes "-n") (n ∷ word ∷ more) (target ∷ tips) [] (omega arith) (subst (λ x. AreTips x (target ∷ tips) []) rest are)
     not_served old new asked is (bases {words = words} {one = one} {others = others} those are some there exact rising appends) =
         let rest : words ≡ codes "-n" ∷ n ∷ word ∷ more = cc in
         no_short_tip (codes "-n") (n ∷ word ∷ more) (one ∷ others) [] (omega arith) (subst (λ x. AreTips x (one ∷ others) []) rest are)

@@ -17,8 +17,9 @@ use gix_repository::Repository;
 use gix_revision::Resolved;
 use std::io::Write;
 
-/// The status where `contains` found that some revisions aren't contained, or `is-ancestor` that one isn't reached.
-const NOT_ALL_CONTAINED: u8 = 3;
+/// The status where `contains` found that some revisions aren't contained, `containing` that some don't reach the first, or `is-ancestor` that
+/// one isn't reached.
+const NOT_ALL: u8 = 3;
 /// How many objects are read until it is said how many there are.
 const STEP: usize = 8192;
 /// How many commits are read at first, where a part of them may be enough, beside those that are asked for.
@@ -92,6 +93,16 @@ pub(crate) fn answer_from<W: Write>(
     output: &mut W,
 ) -> Result<Answered, Failure> {
     let chosen = choose(rt.alloc(), question, resolved)?;
+    let asks_of_others = matches!(
+        question.name,
+        Name::Contains | Name::Containing | Name::MergeBase
+    );
+    if chosen.tips.is_empty() || asks_of_others && chosen.tips.len() < 2 {
+        return Ok(Answered {
+            status: 0,
+            rows: Rows::Unused,
+        });
+    }
     let mut asking = Asking {
         rt,
         keys,
@@ -349,7 +360,7 @@ impl Asking<'_> {
         Err(Failure::Command(Fault::Internal))
     }
 
-    /// Writes the lines of the command, as the question asks for them: `contains --names` with words, and `is-ancestor` none.
+    /// Writes the lines of the command, as the question asks for them: with `--names` each with its word, and those of `is-ancestor` not at all.
     fn write_lines<W: Write>(&self, lines: &[u8], output: &mut W) -> Result<(), Failure> {
         if self.question.name == Name::IsAncestor {
             return Ok(());
@@ -364,8 +375,9 @@ impl Asking<'_> {
     /// The status of an answer of these lines.
     fn status(&self, lines: &[u8]) -> u8 {
         let count = lines.iter().filter(|byte| **byte == b'\n').count();
-        if self.asks_what_is_reached() && count.saturating_add(1) < self.chosen.tips.len() {
-            NOT_ALL_CONTAINED
+        let gives_revisions = self.asks_what_is_reached() || self.question.name == Name::Containing;
+        if gives_revisions && count.saturating_add(1) < self.chosen.tips.len() {
+            NOT_ALL
         } else {
             0
         }
@@ -405,8 +417,20 @@ impl Asking<'_> {
             return self.write_ids(output);
         }
         let words = self.chosen.words(alloc, self.keys, self.question)?;
-        run_named(alloc, words.as_slice(), objects, graph, output)?;
-        Ok(0)
+        if name != Name::Containing {
+            run_named(alloc, words.as_slice(), objects, graph, output)?;
+            return Ok(0);
+        }
+        let mut lines = Vec::new(alloc);
+        in_memory(run_named(
+            alloc,
+            words.as_slice(),
+            objects,
+            graph,
+            &mut lines,
+        ))?;
+        self.write_lines(lines.as_slice(), output)?;
+        Ok(self.status(lines.as_slice()))
     }
 }
 

@@ -286,7 +286,7 @@ fn check_number(name: Name, chosen: &Chosen) -> Result<(), Misuse> {
                 Err(Misuse::Number(name.word(), 1))
             }
         }
-        Name::Contains | Name::MergeBase => {
+        Name::Contains | Name::Containing | Name::MergeBase => {
             if are_tips {
                 Ok(())
             } else {

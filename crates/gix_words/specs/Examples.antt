@@ -53,6 +53,12 @@ hidden_commit = refl
 pub bad_commit : request_of (codes "ahead" ∷ codes "zz" ∷ codes "zz" ∷ []) ≡ Err (fault.Id 2)
 bad_commit = refl
 
+pub one_containing : request_of (codes "containing" ∷ codes "zz" ∷ []) ≡ Err fault.Usage
+one_containing = refl
+
+pub bad_containing : request_of (codes "containing" ∷ codes "zz" ∷ codes "zz" ∷ []) ≡ Err (fault.Id 2)
+bad_containing = refl
+
 pub one_base : request_of (codes "merge-base" ∷ codes "zz" ∷ []) ≡ Err fault.Usage
 one_base = refl
 

@@ -33,6 +33,8 @@ pub data Request : Type 0 where
   Ahead : (one other : ObjectId) → Request
   -- those of the ids that the tip reaches
   Contained : (tip : ObjectId) (ids : List ObjectId) → Request
+  -- those of the tips that reach the target
+  Containing : (target : ObjectId) (tips : List ObjectId) → Request
   -- the best common ancestors of the one and of any of the others
   Bases : (one : ObjectId) (others : List ObjectId) → Request
 
@@ -41,6 +43,7 @@ request_of_command (command.Commits order shown tips hidden) = Commits order sho
 request_of_command (command.Files ending tree) = Files ending tree
 request_of_command (command.Ahead one other) = Ahead one other
 request_of_command (command.Contained tip ids) = Contained tip ids.items
+request_of_command (command.Containing target tips) = Containing target tips.items
 request_of_command (command.Bases one others) = Bases one others.items
 
 -- what is written of commits, and ids of tips and of hidden ones
@@ -318,6 +321,7 @@ request_named name None ids =
     if bytes_eq name (codes "files") then files_of ids
     else if bytes_eq name (codes "ahead") then ahead_of ids
     else if bytes_eq name (codes "contains") then asked Contained (several_of ids)
+    else if bytes_eq name (codes "containing") then asked Containing (several_of ids)
     else if bytes_eq name (codes "merge-base") then asked Bases (several_of ids)
     else Err fault.Usage
 

@@ -1,7 +1,7 @@
 //! The words of a command.
 ghost use Rattle.std.specs.Prelude.{◌≡◌, ◌≤◌, IfSome, map, string_bytes};
 ghost use Rattle.std.specs.List.{list_all};
-ghost use Rattle.gix_words.specs.Words.{Bases, Contained, Gives, Tells, AddsId, begins_with_caret, begins_with_dash, begins_with_sign, number_in, request_of_command, request_of, order_named, by_first_parents, by_cutoff, ids_from, plain_of, asked_by, until_of, until_from, merges_of, no_merges_of, with_merges, skipped_of, skip_from, limited_of, limit_from, formed_of, listed_of, since_of, in_order_of, file_of, files_of, ahead_of, is_shown, several_among, several_of, several_in, asked};
+ghost use Rattle.gix_words.specs.Words.{Bases, Contained, Containing, Gives, Tells, AddsId, begins_with_caret, begins_with_dash, begins_with_sign, number_in, request_of_command, request_of, order_named, by_first_parents, by_cutoff, ids_from, plain_of, asked_by, until_of, until_from, merges_of, no_merges_of, with_merges, skipped_of, skip_from, limited_of, limit_from, formed_of, listed_of, since_of, in_order_of, file_of, files_of, ahead_of, is_shown, several_among, several_of, several_in, asked};
 
 use crate::fault::Fault;
 use gix_parts::hash::ObjectId;
@@ -88,6 +88,11 @@ pub enum Command {
         tip: ObjectId,
         ids: Vec<ObjectId>,
     },
+    /// Those of the tips that reach the target.
+    Containing {
+        target: ObjectId,
+        tips: Vec<ObjectId>,
+    },
     /// The best common ancestors of the one and of any of the others.
     Bases {
         one: ObjectId,
@@ -96,13 +101,13 @@ pub enum Command {
 }
 
 /// The command that the words are: `breadth`, `newest`, `oldest`, `topo` or `date`, maybe options, ids of tips, one at least, and ids of
-/// commits to be hidden, each after a `^`; or `files` and one id; or `ahead` and two ids; or `contains` or `merge-base` and two ids at least.
-/// The options come in this order, each at most once: `--first-parent` for `breadth` or `--since` and a time for `newest` and `oldest`,
+/// commits to be hidden, each after a `^`; or `files` and one id; or `ahead` and two ids; or `contains`, `containing` or `merge-base` and two
+/// ids at least. The options come in this order, each at most once: `--first-parent` for `breadth` or `--since` and a time for `newest` and `oldest`,
 /// `--until` and a time, `--merges` or `--no-merges`, `--skip` and a number, `-n` and a limit, `--count` or `--reverse`. An id is 40 or 64 hex
 /// digits, a time 1 to 10 decimal digits, another number 1 to 9.
 ///
 /// # Errors
-/// `Usage` where the words are no command, as where `files`, `ahead`, `contains` or `merge-base` has a word that begins with `^` or `-`. `Id` at
+/// `Usage` where the words are no command, as where `files`, `ahead`, `contains`, `containing` or `merge-base` has a word that begins with `^` or `-`. `Id` at
 /// the first word that has to be an id and is none. `Memory`.
 pub fn read_command(alloc: Global, words: &[String]) -> Result<Command, Fault>
     ensures { Gives request_of_command result (request_of (map string_bytes words.now)) }
@@ -121,6 +126,9 @@ pub fn read_command(alloc: Global, words: &[String]) -> Result<Command, Fault>
     }
     if name.as_str() == "contains" {
         return contained(alloc, ids);
+    }
+    if name.as_str() == "containing" {
+        return containing(alloc, ids);
     }
     if name.as_str() == "merge-base" {
         return bases(alloc, ids);
@@ -494,6 +502,17 @@ fn contained(alloc: Global, ids: &[String]) -> Result<Command, Fault>
     Ok(Command::Contained {
         tip: first,
         ids: others,
+    })
+}
+
+/// The target of these ids, and the others, which may contain it.
+fn containing(alloc: Global, ids: &[String]) -> Result<Command, Fault>
+    ensures { Gives request_of_command result (asked Containing (several_of (map string_bytes ids.now))) }
+{
+    let SomeIds { first, others } = several(alloc, ids)?;
+    Ok(Command::Containing {
+        target: first,
+        tips: others,
     })
 }
 
