@@ -118,7 +118,7 @@ enum { KESTRELRACK_TIME = 1, KESTRELRACK_GENERATION = 2 };
  * Each call finds all records and walks from the start, and it looks up as many objects as one with "-n" and skip + length. Whoever wants
  * all takes one large room, or batches that grow, as 1,000, 8,000, 64,000: over 200,000 commits these took 1.9 to 2.3 times as long as one
  * call by breadth and newest, and 2.6 to 3.3 times by topo and date. As long as the words and the records are the same, batches one behind
- * another are the list: of each batch this is proved, of all of them together it is tested.
+ * another are the list: this is proved of each batch, and of all of them together.
  */
 struct kestrelrack_answer kestrelrack_commits(const void *words, size_t words_length, const void *records, size_t records_length,
                                               uint64_t skip, struct kestrelrack_commit *commits, size_t commits_length,
