@@ -1,5 +1,5 @@
 -- What is written of a walk that was drawn: lines, their number, or the last line first.
-use Rattle.std.proofs.Common.{◌≡◌, ◌≢◌, ◌+◌, ℕ, List, [], ◌∷◌, ◌++◌, length, reverse, false, flat_map, Option, Result, Ok, Err, refl, sym, subst, ◌∙◌, arith}
+use Rattle.std.proofs.Common.{◌≡◌, ◌≢◌, ℕ, List, [], ◌∷◌, ◌++◌, length, reverse, false, flat_map, Option, Result, Ok, Err, refl, sym, subst, ◌∙◌, arith}
 use Rattle.std.specs.Fmt.{digits}
 use Rattle.gix_commands.proofs.Common.{Appends, Fault, Info, ObjectId, line_of}
 use Rattle.gix_words.specs.declared.words.Form.{Form}
