@@ -42,6 +42,14 @@ def prepare():
         run(["git", "config", "--global", *setting.split("=")])
 
 
+def built(name):
+    """The program of a crate, which ./build proves and builds if it isn't there"""
+    program = HERE / "crates" / name / "out" / name
+    if not program.exists() and subprocess.run([HERE / "build", name]).returncode != 0:
+        fail(f"{name} isn't built")
+    return program
+
+
 def lines_of(table, **values):
     """The lines of a table, with these values for $NAMES, and a line for each way through {A,B}."""
     for line in filter(None, string.Template(table).substitute(values).split("\n")):

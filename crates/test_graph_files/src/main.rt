@@ -1,9 +1,9 @@
 //! Reads commit-graph files from standard input, and writes for each its rows or its first fault, and then a line `end`.
-//! `tests/graph-files` builds and runs it.
+//! `tests/graph-files` runs it over files of git, whole and damaged.
 //!
-//! A number in four bytes comes first: 0 before a file that is alone, and otherwise one more than there are layers of a chain. Each file is
-//! behind its length in four bytes. A row is a line: the id, the tree's id, the generation, the committer's seconds, and for each parent
-//! its position or `x` where it is no row. A fault is its name, with its chunk or its row, of a chain behind the layer's number.
+//! A number in four bytes comes first: 0 before a file that is alone, and otherwise one more than a chain has layers. The length of each file
+//! comes before it, in four bytes. A row is a line: the id, the tree's id, the generation, the committer's seconds, and for each parent
+//! its position, or `x` if it is no row. A fault is its name, with its chunk or its row. In a chain the layer's number comes before it.
 #![tactic(auto)]
 
 use anyhow::Result;
@@ -15,7 +15,14 @@ use std::io::{BufWriter, Read, Write};
 fn write_rows<W: Write>(out: &mut W, graph: &Graph) -> Result<()> {
     for position in 0..graph.num_commits() {
         let commit = graph.commit_at(Position(position));
-        write!(out, "{} {} {} {}", commit.id(), commit.root_tree_id(), commit.generation(), commit.committer_timestamp())?;
+        write!(
+            out,
+            "{} {} {} {}",
+            commit.id(),
+            commit.root_tree_id(),
+            commit.generation(),
+            commit.committer_timestamp()
+        )?;
         for place in commit.iter_parents() {
             match place {
                 Ok(parent) => write!(out, " {}", parent.0)?,
@@ -60,7 +67,7 @@ fn take_number(left: &mut &[u8]) -> Option<usize> {
     }
 }
 
-/// Takes a file from the front, which stands behind its length.
+/// Takes a file from the front, whose length comes before it.
 fn take_file<'a>(left: &mut &'a [u8]) -> Option<&'a [u8]> {
     let len = take_number(left)?;
     let (file, behind) = left.split_at_checked(len)?;

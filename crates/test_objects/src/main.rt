@@ -1,11 +1,17 @@
-//! Reads a folder of objects. `tests/objects` builds and runs it.
+//! Reads a folder of objects. `tests/objects` runs it over folders of git, whole and damaged.
 //!
-//! Its arguments are the folder, a word, and ids. `commits` and `trees` write the records of all that the ids lead to, as a walk over what was
-//! gathered meets them, and fail where more was gathered. `some` has a number, an order and the ids of a border, which end at `--`, before its
-//! ids: it reads so many commits at a time, and writes behind each time how many there are, whether more are to be read, and the ids that
-//! are reached. `unread` writes the files of alternates that aren't read. `beyond` has a file of a commit-graph before its ids, and gathers what has no row. `each` takes ids from standard input, one
-//! a line, and writes for each its record, or `missing` or `fault` behind the id. A fault of the whole is one line on standard error, and the
-//! status is then 1.
+//! Its arguments are the folder, a word, and what the word needs:
+//!
+//! - `commits IDS` and `trees ID` write the records of all that the ids lead to, in the order in which a walk over what was gathered meets
+//!   them. They fail if more was gathered.
+//! - `some COUNT ORDER BORDER -- IDS` reads so many commits at a time, up to the ids of the border. After each time it writes how many there
+//!   are, whether these are all, whether the last id waits, and then the ids that are reached.
+//! - `beyond FILE IDS` gathers the commits that have no row in this file of a commit-graph.
+//! - `unread` writes the files of alternates that aren't read.
+//! - `each IDS` takes ids from standard input, one a line, of the kind of those among its arguments. It writes the record of each, or the id
+//!   and then `missing` or `fault`.
+//!
+//! A fault of the whole is one line on standard error, and the status is then 1.
 #![tactic(auto)]
 
 use gix_gather::{Gathering, Order, commits, trees};
@@ -32,7 +38,7 @@ fn main(rt: HostRuntime) -> ExitCode {
 
 /// Writes why the program fails.
 fn failed<E: Display>(rt: &HostRuntime, error: &E) {
-    let _ = eprintln!(rt; "objects: {error}");
+    let _ = eprintln!(rt; "test_objects: {error}");
 }
 
 fn answer(rt: &HostRuntime) -> Option<()> {
@@ -48,14 +54,27 @@ fn answer(rt: &HostRuntime) -> Option<()> {
             let count = count.as_str().parse().ok()?;
             let order = order_of(order.as_str())?;
             let border = ids_of(rt, border)?;
-            write_some(rt, &mut odb, count, order, border.as_slice(), tips.as_slice())
+            write_some(
+                rt,
+                &mut odb,
+                count,
+                order,
+                border.as_slice(),
+                tips.as_slice(),
+            )
         }
         [folder, word, file, tips @ ..] if word.as_str() == "beyond" => {
             let tips = ids_of(rt, tips)?;
             let mut odb = open(rt, folder.as_str(), tips.as_slice())?;
             let layer = fs::read(rt, file.as_str()).ok()?;
             let graph = graph_of(rt.alloc(), layer.as_slice()).ok()?;
-            let gathered = commits(rt.alloc(), Keys::KNOWN, &mut odb, tips.as_slice(), Some(&graph));
+            let gathered = commits(
+                rt.alloc(),
+                Keys::KNOWN,
+                &mut odb,
+                tips.as_slice(),
+                Some(&graph),
+            );
             write_records(rt, gathered, tips.as_slice())
         }
         [folder, word, ids @ ..] => {
@@ -101,9 +120,18 @@ fn serve(rt: &HostRuntime, folder: &str, word: &str, ids: &[ObjectId]) -> Option
     let mut odb = open(rt, folder, ids)?;
     match word {
         "unread" => write_unread(rt, &odb),
-        "commits" => write_records(rt, commits(rt.alloc(), Keys::KNOWN, &mut odb, ids, None), ids),
-        "trees" => write_records(rt, trees(rt.alloc(), Keys::KNOWN, &mut odb, ids.first()?), ids),
-        _ => write_each(rt, &mut odb),
+        "commits" => write_records(
+            rt,
+            commits(rt.alloc(), Keys::KNOWN, &mut odb, ids, None),
+            ids,
+        ),
+        "trees" => write_records(
+            rt,
+            trees(rt.alloc(), Keys::KNOWN, &mut odb, ids.first()?),
+            ids,
+        ),
+        "each" => write_each(rt, &mut odb),
+        _ => None,
     }
 }
 
@@ -114,7 +142,11 @@ fn write_unread(rt: &HostRuntime, odb: &Odb<HostRuntime>) -> Option<()> {
     Some(())
 }
 
-fn write_records(rt: &HostRuntime, gathered: Result<NamedObjects, gix_gather::Fault>, ids: &[ObjectId]) -> Option<()> {
+fn write_records(
+    rt: &HostRuntime,
+    gathered: Result<NamedObjects, gix_gather::Fault>,
+    ids: &[ObjectId],
+) -> Option<()> {
     let objects = match gathered {
         Ok(objects) => objects,
         Err(fault) => {
@@ -167,7 +199,7 @@ fn write_some(
     rt.stdout().write_all(out.as_slice()).ok()
 }
 
-/// Writes the records of the objects that are reached in a store, or their ids, and says how many they are.
+/// Adds to `out` the records of the objects that are reached in a store, or their ids, and returns how many they are.
 fn write_reached(
     rt: &HostRuntime,
     store: &LentStore<'_>,
@@ -203,7 +235,12 @@ fn write_reached(
     Some(count)
 }
 
-fn add_named(kind: ObjectKind, id: &ObjectId, bytes: &[u8], wait: &mut Vec<ObjectId>) -> Option<()> {
+fn add_named(
+    kind: ObjectKind,
+    id: &ObjectId,
+    bytes: &[u8],
+    wait: &mut Vec<ObjectId>,
+) -> Option<()> {
     match kind {
         ObjectKind::Commit => {
             for item in CommitRefIter::from_bytes(bytes, id.kind()) {
@@ -239,7 +276,12 @@ fn write_each(rt: &HostRuntime, odb: &mut Odb<HostRuntime>) -> Option<()> {
     out.flush().ok()
 }
 
-fn write_one<W: Write>(odb: &mut Odb<HostRuntime>, id: &ObjectId, object: &mut Vec<u8>, out: &mut W) -> Option<()> {
+fn write_one<W: Write>(
+    odb: &mut Odb<HostRuntime>,
+    id: &ObjectId,
+    object: &mut Vec<u8>,
+    out: &mut W,
+) -> Option<()> {
     match odb.read(id, object) {
         Ok(Some(kind)) => {
             write!(out, "{} {} {}\n", word_of(kind), id, object.len()).ok()?;

@@ -1,11 +1,12 @@
-//! Walks a generated history by the library, and writes what the walk gave and what it cost. `bench/library` builds and runs it.
+//! Walks a generated history by the library, and writes what the walk gave and what it cost. `bench/library` prints a table of such walks.
 //!
 //! The words are: the number of commits; `store`, or `rows` for a walk with a commit-graph of all commits; the walk, one of `breadth`,
-//! `newest`, `oldest`, `topo`, `date`, or `none`; how many commits are drawn at most; and how many of the oldest commits are made the
-//! history to hide, by their youngest, or 0.
+//! `newest`, `oldest`, `topo`, `date`, or `none`; how many commits are drawn at most; and 0, or the number of the commit whose history is
+//! hidden.
 //!
-//! One line is written: the commits that the walk gave, a number made of their ids in this order, the look-ups in the store, the
-//! commits whose parents `Topo` has counted, and the nanoseconds of the walk, from its building on.
+//! One line is written: how many commits the walk gave, a number made of their ids in this order, the look-ups in the store, and how many
+//! commits `Topo` has counted the parents of. Standard error has the nanoseconds of the walk, from its building on, since no two runs take
+//! the same time.
 #![tactic(auto)]
 
 ghost use Rattle.std.specs.Iterator.{IsFinite};
@@ -63,7 +64,7 @@ fn id_of(commit: u32) -> ObjectId {
     ObjectId::Sha1(bytes)
 }
 
-/// The text of a commit, whose time is its number behind one second.
+/// The text of a commit. Its time is a second later than that of the commit before.
 fn text_of(alloc: Global, commit: u32, parents: &[u32]) -> Result<String, AllocError> {
     let mut text = format!(in alloc; "tree {TREE}\n")?;
     for parent in parents {
@@ -88,7 +89,7 @@ fn time_of(commit: u32) -> i64 {
 struct History {
     alloc: Global,
     store: MemoryStore,
-    /// Where rows are wanted, the row of each commit.
+    /// The row of each commit, if rows are wanted.
     rows: Option<Vec<Row>>,
     generations: Vec<u32>,
     heads: [u32; 4],
@@ -324,9 +325,7 @@ fn main(rt: HostRuntime) -> Result<()> {
         digest,
         expanded,
     } = drawn;
-    println!(rt;
-        "{commits} {digest} {} {expanded} {nanoseconds}",
-        look_ups.get()
-    )?;
+    println!(rt; "{commits} {digest} {} {expanded}", look_ups.get())?;
+    eprintln!(rt; "{nanoseconds}")?;
     Ok(())
 }

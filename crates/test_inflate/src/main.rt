@@ -1,8 +1,8 @@
-//! Inflates streams that come on standard input, and writes a line for each. `tests/inflate` builds and runs it.
+//! Inflates streams that come on standard input, and writes a line for each. `tests/inflate` compares the lines with what zlib says.
 //!
-//! A stream comes behind three numbers in four bytes: 0 to inflate it whole or 1 for its front, how many bytes there are to be, and how many
-//! bytes it has. The line is `ok`, how many bytes the stream takes (of a front, how many came out), and the SHA-1 of what came out; or
-//! the name of the fault.
+//! Three numbers of four bytes come before a stream: 0 to inflate it whole or 1 for its front, how many bytes have to come out, and how
+//! many bytes it has. The line is `ok`, how many bytes the stream takes (of a front, how many came out), and the SHA-1 of what came out;
+//! or the name of the fault.
 #![tactic(auto)]
 
 use anyhow::Result;
@@ -22,8 +22,13 @@ fn take_number(left: &mut &[u8]) -> Option<usize> {
     }
 }
 
-/// Writes the line for what came of a stream, whose bytes are the first of `room`, as many as `len` says.
-fn write_line<W: Write>(out: &mut W, answer: Result<usize, Fault>, room: &[u8], len: usize) -> Result<()> {
+/// Writes the line of a stream. What came out is the first `len` bytes of `room`.
+fn write_line<W: Write>(
+    out: &mut W,
+    answer: Result<usize, Fault>,
+    room: &[u8],
+    len: usize,
+) -> Result<()> {
     match answer {
         Ok(count) => {
             write!(out, "ok {count} ")?;
@@ -37,9 +42,18 @@ fn write_line<W: Write>(out: &mut W, answer: Result<usize, Fault>, room: &[u8], 
     Ok(())
 }
 
-/// Answers one stream of the input. Whether there was one.
-fn answer<W: Write>(alloc: Global, inflater: &mut Inflater, left: &mut &[u8], out: &mut W) -> Result<bool> {
-    let (Some(way), Some(size), Some(len)) = (take_number(left), take_number(left), take_number(left)) else {
+/// Answers one stream of the input, and returns whether there was one.
+fn answer<W: Write>(
+    alloc: Global,
+    inflater: &mut Inflater,
+    left: &mut &[u8],
+    out: &mut W,
+) -> Result<bool> {
+    let (Some(way), Some(size), Some(len)) = (
+        take_number(left),
+        take_number(left),
+        take_number(left),
+    ) else {
         return Ok(false);
     };
     let Some((stream, behind)) = left.split_at_checked(len) else {
