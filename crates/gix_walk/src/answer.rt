@@ -93,16 +93,6 @@ pub(crate) fn answer_from<W: Write>(
     output: &mut W,
 ) -> Result<Answered, Failure> {
     let chosen = choose(rt.alloc(), question, resolved)?;
-    let asks_of_others = matches!(
-        question.name,
-        Name::Contains | Name::Containing | Name::MergeBase
-    );
-    if chosen.tips.is_empty() || asks_of_others && chosen.tips.len() < 2 {
-        return Ok(Answered {
-            status: 0,
-            rows: Rows::Unused,
-        });
-    }
     let mut asking = Asking {
         rt,
         keys,
@@ -145,7 +135,10 @@ impl Asking<'_> {
         output: &mut W,
     ) -> Result<u8, Failure> {
         let tips = self.chosen.tips.len();
-        let asks_of_others = matches!(self.question.name, Name::Contains | Name::MergeBase);
+        let asks_of_others = matches!(
+            self.question.name,
+            Name::Contains | Name::Containing | Name::MergeBase
+        );
         if tips == 0 || asks_of_others && tips < 2 {
             return Ok(0);
         }
