@@ -61,15 +61,19 @@ struct kestrelrack_answer {
 /* Runs a command over records, and puts the lines that it writes at the front of the room.
  *
  * words    The command and its ids: "breadth", "newest", "oldest", "topo" or "date", maybe "--first-parent" behind "breadth", or
- *          "--since" and a number of 1 to 10 digits behind "newest" or "oldest", maybe "-n" and a number of 1 to 9 digits, and ids of
- *          tips, one at least, and ids of commits to be hidden, each after a ^; "ahead" and two ids; "contains" or "merge-base" and two
- *          ids at least; "files" and the id of a tree. One space or one newline is between two words, and none at either end. An id is
- *          40 or 64 hex digits. After "-n" and a number no more lines are written than the number says.
+ *          "--since" and a number of 1 to 10 digits behind "newest" or "oldest", maybe options that choose lines, and ids of tips, one at
+ *          least, and ids of commits to be hidden, each after a ^; "ahead" and two ids; "contains", "containing" or "merge-base" and two ids
+ *          at least; "files" and the id of a tree. One space or one newline is between two words, and none at either end. An id is 40 or 64 hex
+ *          digits.
+ *          The options that choose lines come in this order, each at most once: "--until" and a number of 1 to 10 digits leaves out the
+ *          commits of a later time; "--merges" those of fewer than two parents, or "--no-merges" those of more than one; "--skip" and a
+ *          number of 1 to 9 digits so many of the others first; after "-n" and such a number no more lines are written than it says;
+ *          with "--reverse" the last of these lines comes first, or with "--count" their number is the only line.
  * records  The objects, as `git cat-file --batch='%(objecttype) %(objectname) %(objectsize)'` prints them. They are read where they
  *          are: only an object that the walk looks up is copied, one at a time.
- * room     For the lines, each with a newline and none with a zero byte. The lines of commits are never longer than the records, and
- *          those of "ahead" are at most 42 bytes, those of "contains" never longer than the words, and those of "merge-base" never
- *          longer than the records.
+ * room     For the lines, each with a newline and none with a zero byte. The lines of commits are never longer than the records (only
+ *          "0" and a newline may be), those of "ahead" are at most 42 bytes, those of "contains" and "containing" never longer than the
+ *          words, and those of "merge-base" never longer than the records.
  *
  * At KESTRELRACK_WELL the first `length` bytes of the room are the lines, and the rest of it is as it was. At every other number the
  * whole room is as it was, also where a list of commits breaks off midway: of faults no line is written.
@@ -99,7 +103,8 @@ enum { KESTRELRACK_TIME = 1, KESTRELRACK_GENERATION = 2 };
  * ids of their parents at the front of `parents`, as many commits as both have room for.
  *
  * words    "breadth", "newest", "oldest", "topo" or "date" with its options and ids, as for kestrelrack_run. Another command is
- *          KESTRELRACK_USAGE. The number behind "-n" counts those that are skipped.
+ *          KESTRELRACK_USAGE, and so are "--until", "--merges", "--no-merges", "--skip", "--reverse" and "--count": a caller has each
+ *          commit's time and parents, and chooses by itself. The number behind "-n" counts those that are skipped.
  * records  As for kestrelrack_run.
  *
  * The answer's `length` is the number of commits, at each number:
@@ -113,7 +118,7 @@ enum { KESTRELRACK_TIME = 1, KESTRELRACK_GENERATION = 2 };
  * Each call finds all records and walks from the start, and it looks up as many objects as one with "-n" and skip + length. Whoever wants
  * all takes one large room, or batches that grow, as 1,000, 8,000, 64,000: over 200,000 commits these took 1.9 to 2.3 times as long as one
  * call by breadth and newest, and 2.6 to 3.3 times by topo and date. As long as the words and the records are the same, batches one behind
- * another are the list: of each batch this is proved, of all of them together it is tested.
+ * another are the list: this is proved of each batch, and of all of them together.
  */
 struct kestrelrack_answer kestrelrack_commits(const void *words, size_t words_length, const void *records, size_t records_length,
                                               uint64_t skip, struct kestrelrack_commit *commits, size_t commits_length,

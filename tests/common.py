@@ -17,7 +17,7 @@ import time
 
 HERE = pathlib.Path(__file__).resolve().parent.parent
 PROGRAM = str(pathlib.Path((sys.argv[1:] or [os.environ.get("PROGRAM") or HERE / "crates/gix_walk/out/gix_walk"])[0]).resolve())
-COMMANDS = "breadth newest oldest topo date ahead contains merge-base is-ancestor files resolve check-graph".split()
+COMMANDS = "breadth newest oldest topo date ahead contains containing merge-base is-ancestor files resolve check-graph verify-certificate".split()
 WALKS = COMMANDS[:5]
 ROOT = pathlib.Path(tempfile.mkdtemp())
 ALONE = {"PATH": "", "HOME": str(ROOT / "home")}
@@ -40,6 +40,14 @@ def prepare():
         os.environ.update({f"GIT_{role}_NAME": "A", f"GIT_{role}_EMAIL": "a@b"})
     for setting in SETTINGS:
         run(["git", "config", "--global", *setting.split("=")])
+
+
+def built(name):
+    """The program of a crate, which ./build proves and builds if it isn't there"""
+    program = HERE / "crates" / name / "out" / name
+    if not program.exists() and subprocess.run([HERE / "build", name]).returncode != 0:
+        fail(f"{name} isn't built")
+    return program
 
 
 def lines_of(table, **values):
@@ -142,10 +150,10 @@ class Repository:
         if command == "ahead":
             pair = "...".join(revisions)
             return self.git("rev-list", "--left-right", "--count", pair).replace("\t", " "), 0
-        if command == "contains":
-            tip, *others = revisions
+        if command in ("contains", "containing"):
+            first, *others = revisions
             names = self.git("for-each-ref", "--format=%(refname)", "refs/heads").split() if "--branches" in rest else []
-            within = [one for one in others + names if self.reaches(tip, one)]
+            within = [one for one in others + names if (self.reaches(first, one) if command == "contains" else self.reaches(one, first))]
             lines = [self.git("rev-parse", f"{one}^{{commit}}") + (f" {one}" if "--names" in rest else "") for one in within]
             return "\n".join(lines), 0 if len(within) == len(others + names) else 3
         if command == "merge-base":

@@ -12,9 +12,8 @@ use Rattle.gix_batches.specs.declared.commit.Commit.{Commit}
 use Rattle.gix_batches.specs.declared.commit.CommitId.{CommitId}
 use Rattle.gix_batches.specs.declared.commit.Ending.{Ending}
 use Rattle.gix_batches.specs.declared.commit.Ending.TheVariants.{Ended, More, Small, Failed}
-use Rattle.gix_commands.specs.Checked.{AsksForMore}
-use Rattle.gix_commands.specs.Walked.{Ends, EndsBy, before, enough, failed as fell, finished, cut_short, given}
-use Rattle.gix_batches.specs.Draws.{Draws, ended, failed, more, small, Fills, FillsFront, Holds, IsFull, IsSkipped, Passes, ending_at, least_of, most_of}
+use Rattle.gix_commands.specs.Walked.{AsksForMore, Ends, EndsBy, before, enough, failed as fell, finished, cut_short, given}
+use Rattle.gix_batches.specs.Draws.{Draws, ended, failed, more, small, Fills, FillsFront, Holds, IsFull, IsOver, IsSkipped, Passes, ending_at, ids_given, least_of, most_of}
 use Rattle.gix_batches.specs.Slices.{Told, commit_of, commits_of, id_of, ids_of, told_by, told_of}
 use Rattle.gix_batches.proofs.Slots.{put_next}
 
@@ -82,6 +81,9 @@ pub one_less : (infos : List Info) (info : Info) (left limit : ℕ) → length i
 one_less infos info left limit e some = let more : length (infos ++ info ∷ []) ≡ length infos + 1 = length-append infos (info ∷ []) in omega (arith, e, some, more)
 
 -- LIMITS
+pub many : (infos : List Info) → length (ids_given infos) ≡ length infos
+many infos = length-map infos (λ (info : Info). info.id)
+
 pub below_room : (limit : Option ℕ) (room at : ℕ) → at < most_of limit room → at < room
 below_room None room at l = l
 below_room (Some n) room at l = go (nat_lt n room) refl l
@@ -90,7 +92,7 @@ below_room (Some n) room at l = go (nat_lt n room) refl l
     go true e l = omega (arith, ltb-true n room e, l)
     go false e l = l
 
-pub below_limit : (limit : Option ℕ) (room : ℕ) (infos : List Info) (at : ℕ) → at ≡ length infos → at < most_of limit room → AsksForMore limit infos
+pub below_limit : (limit : Option ℕ) (room : ℕ) (infos : List Info) (at : ℕ) → at ≡ length infos → at < most_of limit room → AsksForMore limit (length infos)
 below_limit None room infos at e l = tt
 below_limit (Some n) room infos at e l = go (nat_lt n room) refl l
   where
@@ -110,16 +112,16 @@ module _ {W E : Type 0} (Steps : W → Option (Result Info E) → W → Type 0) 
   pub drawn_one : (walk at new : W) (infos : List Info) (answer : Result Info E) (info : Info) → Yields Steps walk (given infos) at → Steps at (Some answer) new → answer ≡ Ok info → Yields Steps walk (given (infos ++ info ∷ [])) new
   drawn_one walk at new infos answer info h step is = given_more walk at new infos (info ∷ []) h (new, subst (λ (a : Result Info E). Steps at (Some a) new) is step, refl)
 
-  pub by_limit : (limit : Option ℕ) (walk : W) (infos : List Info) {answer : Result (Unit {0}) Fault} → AsksForMore limit infos → Ends Steps Tells walk infos answer → EndsBy Steps Tells limit walk infos answer
+  pub by_limit : (limit : Option ℕ) (walk : W) (infos : List Info) {answer : Result (Unit {0}) Fault} → AsksForMore limit (length infos) → Ends Steps Tells walk infos answer → EndsBy Steps Tells ids_given limit walk infos answer
   by_limit None walk infos asks ends = ends
-  by_limit (Some n) walk infos asks ends = before ends asks
+  by_limit (Some n) walk infos asks ends = before ends (omega (arith, asks, many infos))
 
   -- a fault came
   pub fault_came : (walk at new : W) (infos : List Info) (answer : Result Info E) (e : E) (f : Fault) → Yields Steps walk (given infos) at → Steps at (Some answer) new → answer ≡ Err e → Tells e f → Ends Steps Tells walk infos (Err f)
   fault_came walk at new infos answer e f h step is tells = fell e f new (at, h, subst (λ (a : Result Info E). Steps at (Some a) new) is step) tells
 
   -- the parents of the next commit don't fit
-  pub too_many : (limit : Option ℕ) (walk at new : W) (infos : List Info) (answer : Result Info E) (info : Info) (ids : List _) → Yields Steps walk (given infos) at → Steps at (Some answer) new → answer ≡ Ok info → AsksForMore limit infos → ids ≡ info.parent_ids.items
+  pub too_many : (limit : Option ℕ) (walk at new : W) (infos : List Info) (answer : Result Info E) (info : Info) (ids : List _) → Yields Steps walk (given infos) at → Steps at (Some answer) new → answer ≡ Ok info → AsksForMore limit (length infos) → ids ≡ info.parent_ids.items
       → Draws Steps Tells limit walk infos (Small (length ids))
   too_many limit walk at new infos answer info ids h step is asks same =
       subst (λ xs. Draws Steps Tells limit walk infos (Small (length xs))) (sym same) (small new info (drawn_one walk at new infos answer info h step is) asks)
@@ -151,7 +153,7 @@ module _ {W E : Type 0} (Steps : W → Option (Result Info E) → W → Type 0) 
           least false l e other = (omega (arith, e, ltb-false n (length old) l, other), e)
 
           go : (t : Bool) → nat_eq n at ≡ t → Draws Steps Tells (Some n) walk infos (cond t Ended More) × IsFull (length old) (length rooms) (record { commits = at; parents = used; ending = cond t Ended More })
-          go true e = (ended (enough last drawn (sym number ∙ sym (eqb-true n at e))), tt)
+          go true e = (ended (enough last drawn (many infos ∙ sym number ∙ sym (eqb-true n at e))), tt)
           go false e =
               let l = least (nat_lt n (length old)) refl is (eqb-false n at e) in
               (more last drawn (omega (arith, number, l.0)), l.1)
@@ -167,7 +169,7 @@ module _ {W E : Type 0} (Steps : W → Option (Result Info E) → W → Type 0) 
   none_put old rooms ending = record { commits = refl; parents = refl; number = refl; ids = refl }
 
   module _ (limit : Option ℕ) (skip : ℕ) (walk : W) (old new : List Commit) (rooms filled : List CommitId) where
-    least_within : (limit : Option ℕ) (infos : List Info) → length infos < least_of limit skip → AsksForMore limit infos × (length infos < skip)
+    least_within : (limit : Option ℕ) (infos : List Info) → length infos < least_of limit skip → AsksForMore limit (length infos) × (length infos < skip)
     least_within None infos l = (tt, l)
     least_within (Some n) infos l = go (nat_lt n skip) refl l
       where
@@ -176,22 +178,22 @@ module _ {W E : Type 0} (Steps : W → Option (Result Info E) → W → Type 0) 
         go false e l = (omega (arith, ltb-false n skip e, l), l)
 
     -- the walk stopped among those that are skipped
-    stopped : (infos : List Info) (ending : Ending) → length infos < least_of limit skip → (AsksForMore limit infos → Draws Steps Tells limit walk infos ending) → IsFull (length old) (length rooms) (record { commits = 0; parents = 0; ending = ending })
+    stopped : (infos : List Info) (ending : Ending) → IsOver ending → length infos < least_of limit skip → (AsksForMore limit (length infos) → Draws Steps Tells limit walk infos ending) → IsFull (length old) (length rooms) (record { commits = 0; parents = 0; ending = ending })
         → Fills Steps Tells limit skip walk old old rooms rooms (record { commits = 0; parents = 0; ending = ending })
-    stopped infos ending less draws full =
+    stopped infos ending over less draws full =
         let within = least_within limit infos less in
         record {
           skipped = infos;
           infos = [];
           draws = subst (λ (xs : List Info). Draws Steps Tells limit walk xs ending) (sym (append-nil infos)) (draws within.0);
-          passed = inr (within.1, refl);
+          passed = inr (within.1, refl, over);
           holds = none_put old rooms ending;
           full = full;
         }
 
     pub none_filled : (ending : Ending) (last : W) → Passes Steps Tells (least_of limit skip) walk (Err ending) last → Fills Steps Tells limit skip walk old old rooms rooms (record { commits = 0; parents = 0; ending = ending })
-    none_filled Ended last p = stopped p.0 Ended p.2 (λ asks. ended (by_limit limit walk p.0 asks p.1)) tt
-    none_filled (Failed f) last p = stopped p.0 (Failed f) p.2 (λ asks. failed f (by_limit limit walk p.0 asks p.1)) tt
+    none_filled Ended last p = stopped p.0 Ended tt p.2 (λ asks. ended (by_limit limit walk p.0 asks p.1)) tt
+    none_filled (Failed f) last p = stopped p.0 (Failed f) tt p.2 (λ asks. failed f (by_limit limit walk p.0 asks p.1)) tt
     none_filled More last p = absurd p
     none_filled (Small n) last p = absurd p
 
@@ -206,9 +208,9 @@ module _ {W E : Type 0} (Steps : W → Option (Result Info E) → W → Type 0) 
       both = length-append some infos
 
       abbrev Behind : Option ℕ → Type 0
-      Behind limit = (ending : Ending) → length some ≡ least_of limit skip → Draws Steps Tells (option_map (λ n. n - skip) limit) mid infos ending → Draws Steps Tells limit walk (some ++ infos) ending × IsSkipped skip some infos
+      Behind limit = (ending : Ending) → length some ≡ least_of limit skip → Draws Steps Tells (option_map (λ n. n - skip) limit) mid infos ending → Draws Steps Tells limit walk (some ++ infos) ending × IsSkipped skip some infos ending
 
-      small_more : (limit : Option ℕ) (at : W) (next : Info) → Yields Steps mid (given (infos ++ next ∷ [])) at → AsksForMore limit (some ++ infos) → Draws Steps Tells limit walk (some ++ infos) (Small (length next.parent_ids.items))
+      small_more : (limit : Option ℕ) (at : W) (next : Info) → Yields Steps mid (given (infos ++ next ∷ [])) at → AsksForMore limit (length (some ++ infos)) → Draws Steps Tells limit walk (some ++ infos) (Small (length next.parent_ids.items))
       small_more limit at next h asks = small at next (subst (λ (xs : List Info). Yields Steps walk (given xs) at) (sym (append_assoc some infos (next ∷ []))) (given_more walk mid at some (infos ++ next ∷ []) passed h)) asks
 
       open_end : Behind None
@@ -218,7 +220,7 @@ module _ {W E : Type 0} (Steps : W → Option (Result Info E) → W → Type 0) 
       open_end (Small n) all (small at next h asks) = (small_more None at next h tt, inl all)
 
       abbrev From : ℕ → Bool → Type 0
-      From n t = (ending : Ending) → length some ≡ cond t n skip → Draws Steps Tells (Some (n - skip)) mid infos ending → Draws Steps Tells (Some n) walk (some ++ infos) ending × IsSkipped skip some infos
+      From n t = (ending : Ending) → length some ≡ cond t n skip → Draws Steps Tells (Some (n - skip)) mid infos ending → Draws Steps Tells (Some n) walk (some ++ infos) ending × IsSkipped skip some infos ending
 
       limited : (n : ℕ) → Behind (Some n)
       limited n = go (nat_lt n skip) refl
@@ -231,16 +233,16 @@ module _ {W E : Type 0} (Steps : W → Option (Result Info E) → W → Type 0) 
           early : nat_lt n skip ≡ true → From n true
           early less Ended all (ended (enough at h e)) =
               let l = ltb-true n skip less in
-              (ended (enough at (given_more walk mid at some infos passed h) (omega (arith, both, all, e, l))), inr (omega (arith, all, l), nothing infos (omega (arith, e, l))))
+              (ended (enough at (given_more walk mid at some infos passed h) (omega (arith, both, all, e, l, many infos, many (some ++ infos)))), inr (omega (arith, all, l), nothing infos (omega (arith, e, l, many infos)), tt))
           early less Ended all (ended (before ends few)) = absurd (omega (arith, few, ltb-true n skip less))
           early less (Failed f) all (failed f2 (before ends few)) = absurd (omega (arith, few, ltb-true n skip less))
           early less More all (more at h few) = absurd (omega (arith, few, ltb-true n skip less))
           early less (Small k) all (small at next h few) = absurd (omega (arith, few, ltb-true n skip less))
 
           late : nat_lt n skip ≡ false → From n false
-          late less Ended all (ended (enough at h e)) = (ended (enough at (given_more walk mid at some infos passed h) (omega (arith, both, all, e, ltb-false n skip less))), inl all)
-          late less Ended all (ended (before ends few)) = (ended (before (ends_more ends) (omega (arith, both, all, few, ltb-false n skip less))), inl all)
-          late less (Failed f) all (failed f2 (before ends few)) = (failed f2 (before (ends_more ends) (omega (arith, both, all, few, ltb-false n skip less))), inl all)
+          late less Ended all (ended (enough at h e)) = (ended (enough at (given_more walk mid at some infos passed h) (omega (arith, both, all, e, ltb-false n skip less, many infos, many (some ++ infos)))), inl all)
+          late less Ended all (ended (before ends few)) = (ended (before (ends_more ends) (omega (arith, both, all, few, ltb-false n skip less, many infos, many (some ++ infos)))), inl all)
+          late less (Failed f) all (failed f2 (before ends few)) = (failed f2 (before (ends_more ends) (omega (arith, both, all, few, ltb-false n skip less, many infos, many (some ++ infos)))), inl all)
           late less More all (more at h few) = (more at (given_more walk mid at some infos passed h) (omega (arith, both, all, few, ltb-false n skip less)), inl all)
           late less (Small k) all (small at next h few) = (small_more (Some n) at next h (omega (arith, both, all, few, ltb-false n skip less)), inl all)
 

@@ -1,5 +1,5 @@
 -- What is told of the commits of a list is what their texts say.
-use Rattle.std.proofs.Common.{◌≡◌, ℕ, ℤ, Bool, List, [], ◌∷◌, map, Option, None, All, refl, sym, ap, subst, ◌∙◌, inl, inr}
+use Rattle.std.proofs.Common.{◌≡◌, ℕ, ℤ, Bool, List, [], ◌∷◌, ◌++◌, flat_map, Option, None, All, refl, sym, ap, subst, ◌∙◌, inl, inr}
 use Rattle.std.specs.List.{AllByRecursion}
 use Rattle.std.proofs.lemmas.List.Elements.{All-head, All-tail}
 use Rattle.gix_hash.specs.declared.ObjectId.{ObjectId}
@@ -9,7 +9,7 @@ use Rattle.gix_revwalk.specs.Commits.{time_of}
 use Rattle.gix_revwalk.specs.Texts.{text_next}
 use Rattle.gix_revwalk.specs.declared.Info.{Info}
 use Rattle.gix_statement.specs.WholeStatement as page
-use Rattle.gix_statement.specs.WholeStatement.{InEach, IsCommit, IsText, IsThere, Lists, Row, lists}
+use Rattle.gix_statement.specs.WholeStatement.{InEach, IsCommit, IsText, IsThere, Row, id_line}
 use Rattle.gix_commands.specs.Pages.{page_objects}
 use Rattle.gix_commands.proofs.CommitRuns.{ids_in}
 use Rattle.gix_commands.proofs.PageCommits.{fed_history}
@@ -17,12 +17,9 @@ use Rattle.gix_batches.specs.Batches.{IsTold, Says, Shows}
 use Rattle.gix_batches.specs.Slices.{Told, told_by, told_of}
 use Rattle.gix_batches.proofs.ToldWalks.{IsRead}
 
-pub told_ids : (infos : List Info) → map (λ (t : Told). t.id) (told_by infos) ≡ ids_in infos
-told_ids [] = refl
-told_ids (info ∷ infos) = ap (λ xs. info.id ∷ xs) (told_ids infos)
-
-all_there : (objects : page.Objects) (rows : List Row) (parents : ObjectId → List ObjectId) (time : ObjectId → ℤ) (ids : List ObjectId) (ended : Bool) (words : List (List ℕ)) → Lists objects rows parents time ids ended words → All (IsThere objects rows) ids
-all_there objects rows parents time ids ended words (lists option limit tips named are some follows there begins allows whole) = there
+told_lines : (infos : List Info) → flat_map (λ (t : Told). id_line t.id) (told_by infos) ≡ flat_map id_line (ids_in infos)
+told_lines [] = refl
+told_lines (info ∷ infos) = ap (λ xs. id_line info.id ++ xs) (told_lines infos)
 
 module _ (objects : Objects) (words : List (List ℕ)) (cut : List ObjectId → List ObjectId) (timed : ℤ → Option ℤ)
     (says : (r : Row) → Says r words (record { id = r.id; parents = cut r.parents; time = timed r.time; generation = None })) where
@@ -45,9 +42,10 @@ module _ (objects : Objects) (words : List (List ℕ)) (cut : List ObjectId → 
   texts_told [] there read = tt
   texts_told (info ∷ infos) there read = (text_told info (All-head (IsThere (page_objects objects) []) info.id (ids_in infos) there) read.0, texts_told infos (All-tail (IsThere (page_objects objects) []) info.id (ids_in infos) there) read.1)
 
-  -- commits that are listed, and that were read
-  pub shows_read : (ended : Bool) (infos : List Info) → InEach (page_objects objects) [] (λ ps ts. Lists (page_objects objects) [] ps ts (ids_in infos) ended words) → AllByRecursion IsReadSo infos → Shows (page_objects objects) words (told_by infos) ended
-  shows_read ended infos each read = record {
-    lists = subst (λ (ids : List ObjectId). InEach (page_objects objects) [] (λ ps ts. Lists (page_objects objects) [] ps ts ids ended words)) (sym (told_ids infos)) each;
-    texts = texts_told infos (all_there (page_objects objects) [] (text_next objects) (time_of objects) (ids_in infos) ended words (each (text_next objects) (time_of objects) (fed_history objects))) read;
+  -- commits that are listed, that are there, and that were read
+  pub shows_read : (ended : Bool) (infos : List Info) → InEach (page_objects objects) [] (λ ps ts. page.Lists (page_objects objects) [] ps ts (flat_map id_line (ids_in infos)) ended words) → All (IsThere (page_objects objects) []) (ids_in infos)
+      → AllByRecursion IsReadSo infos → Shows (page_objects objects) words (told_by infos) ended
+  shows_read ended infos each there read = record {
+    lists = subst (λ (bytes : List ℕ). InEach (page_objects objects) [] (λ ps ts. page.Lists (page_objects objects) [] ps ts bytes ended words)) (sym (told_lines infos)) each;
+    texts = texts_told infos there read;
   }

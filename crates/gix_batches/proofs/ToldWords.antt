@@ -1,5 +1,5 @@
 -- What is told of a commit by the words of each order.
-use Rattle.std.proofs.Common.{◌≡◌, ◌≢◌, ◌⊎◌, ℕ, suc, List, [], ◌∷◌, ◌++◌, length, take, Option, Some, None, codes, refl, sym, ap, subst, ◌∙◌, inl, inr, ⊎_elim, arith}
+use Rattle.std.proofs.Common.{◌≡◌, ◌≢◌, ◌⊎◌, ℕ, suc, List, [], ◌∷◌, ◌++◌, length, take, Some, None, codes, refl, sym, ap, subst, ◌∙◌, inl, inr, ⊎_elim, arith}
 use Rattle.gix_hash.specs.declared.ObjectId.{ObjectId}
 use Rattle.gix_hash.specs.declared.ObjectId.TheVariants.{Sha1, Sha256}
 use Rattle.gix_revwalk.specs.Commits.{by_mode}
@@ -11,9 +11,9 @@ use Rattle.gix_simple.specs.declared.Sorting.{Sorting}
 use Rattle.gix_simple.specs.declared.Sorting.TheVariants as sorting
 use Rattle.gix_topo.specs.declared.Sorting.{Sorting as TopoSorting}
 use Rattle.gix_topo.specs.declared.Sorting.TheVariants as topo
-use Rattle.gix_statement.specs.WholeStatement.{AreTips, Row, digits_in}
+use Rattle.gix_statement.specs.WholeStatement.{AreTips, Choice, Chooses, Row, at_most, counted, digits_in, everything, merges, no_merges, reversed, skip, until}
 use Rattle.gix_words.specs.declared.words.Order.TheVariants.{Simple, Topo}
-use Rattle.gix_commands.proofs.SameWords.{AreBehind, IsNameOf, IsOptionOf}
+use Rattle.gix_commands.proofs.SameWords.{IsNameOf, IsOptionOf}
 use Rattle.gix_batches.specs.Batches.{Says, breadth, first, timed}
 use Rattle.gix_batches.specs.Slices.{Told}
 
@@ -37,10 +37,19 @@ tips_free [] tips hidden are = λ e. let none : ◌≡◌ {A = List (List ℕ)} 
 tips_free (word ∷ words) tips hidden (inl (i, more, is, s, a)) = λ e. let l : length word ≡ 14 = ap (λ ws. length (first_word ws)) e in long i (length word) (inl s.0) l
 tips_free (word ∷ words) tips hidden (inr (i, more, is, id, w, s, a)) = λ e. let l : length word ≡ 14 = ap (λ ws. length (first_word ws)) e in long i (length word) (inr (ap length w ∙ ap suc s.0)) l
 
--- behind the options no word is one
-pub behind_free : (limit : Option ℕ) (rest words : List (List ℕ)) (tips hidden : List ObjectId) → AreBehind limit rest words → AreTips words tips hidden → take 1 rest ≢ codes "--first-parent" ∷ []
-behind_free None rest words tips hidden same are = subst (λ ws. take 1 ws ≢ codes "--first-parent" ∷ []) (sym same) (tips_free words tips hidden are)
-behind_free (Some n) rest words tips hidden (number, is, same) are = λ e. let l : 2 ≡ 14 = ap (λ ws. length (first_word ws)) (ap (take 1) (sym same) ∙ e) in absurd (omega (arith, l))
+word_free : (word : List ℕ) (words : List (List ℕ)) → length word ≢ 14 → take 1 (word ∷ words) ≢ codes "--first-parent" ∷ []
+word_free word words other = λ e. other (ap (λ ws. length (first_word ws)) e)
+
+-- behind it no word is this option
+pub behind_free : {place : ℕ} {words : List (List ℕ)} {c : Choice} (tips hidden : List ObjectId) → Chooses tips hidden place words c → take 1 words ≢ codes "--first-parent" ∷ []
+behind_free tips hidden (everything {words = words} are) = tips_free words tips hidden are
+behind_free tips hidden (until {number = number} {words = words} n is late more) = word_free (codes "--until") (number ∷ words) (λ e. omega (arith, e))
+behind_free tips hidden (merges {words = words} late more) = word_free (codes "--merges") words (λ e. omega (arith, e))
+behind_free tips hidden (no_merges {words = words} late more) = word_free (codes "--no-merges") words (λ e. omega (arith, e))
+behind_free tips hidden (skip {number = number} {words = words} n is late more) = word_free (codes "--skip") (number ∷ words) (λ e. omega (arith, e))
+behind_free tips hidden (at_most {number = number} {words = words} n is late more) = word_free (codes "-n") (number ∷ words) (λ e. omega (arith, e))
+behind_free tips hidden (counted {words = words} late more) = word_free (codes "--count") words (λ e. omega (arith, e))
+behind_free tips hidden (reversed {words = words} late more) = word_free (codes "--reverse") words (λ e. omega (arith, e))
 
 first_alone : (ids : List ObjectId) → by_mode mode.First ids ≡ take 1 ids
 first_alone [] = refl
@@ -73,3 +82,8 @@ module _ (r : Row) (name : List ℕ) (option rest : List (List ℕ)) (free : tak
   pub says_down : (by : TopoSorting) → IsNameOf name (Topo by) → Says r (name ∷ (option ++ rest)) (told_down r)
   says_down topo.TopoOrder named = named_so (codes "topo") _ named (timed (2, omega arith, refl))
   says_down topo.DateOrder named = named_so (codes "date") _ named (timed (3, omega arith, refl))
+
+pub says_id : (r : Row) (words : List (List ℕ)) (t : Told) → Says r words t → t.id ≡ r.id
+says_id r words t (breadth free) = refl
+says_id r words t first = refl
+says_id r words t (timed c) = refl

@@ -1,6 +1,7 @@
 -- How slices are filled from a walk.
-use Rattle.std.specs.Prelude.{◌≡◌, ◌⊎◌, ℕ, ◌+◌, ◌<◌, nat_lt, nat_eq, List, [], ◌∷◌, ◌++◌, length, drop, Option, Some, None, Result, Ok, Err, if◌then◌else◌}
+use Rattle.std.specs.Prelude.{◌≡◌, ◌⊎◌, ℕ, ◌+◌, ◌<◌, nat_lt, nat_eq, List, [], ◌∷◌, ◌++◌, map, length, drop, Option, Some, None, Result, Ok, Err, if◌then◌else◌}
 use Rattle.std.specs.Iterator.{Yields}
+use Rattle.gix_hash.specs.declared.ObjectId.{ObjectId}
 use Rattle.gix_revwalk.specs.declared.Info.{Info}
 use Rattle.gix_words.specs.declared.fault.Fault.{Fault}
 use Rattle.gix_batches.specs.declared.commit.Batch.{Batch}
@@ -8,8 +9,7 @@ use Rattle.gix_batches.specs.declared.commit.Commit.{Commit}
 use Rattle.gix_batches.specs.declared.commit.CommitId.{CommitId}
 use Rattle.gix_batches.specs.declared.commit.Ending.{Ending}
 use Rattle.gix_batches.specs.declared.commit.Ending.TheVariants.{Ended, More, Small, Failed}
-use Rattle.gix_commands.specs.Checked.{AsksForMore}
-use Rattle.gix_commands.specs.Walked.{EndsBy, Ends, given}
+use Rattle.gix_commands.specs.Walked.{AsksForMore, EndsBy, Ends, given}
 use Rattle.gix_batches.specs.Slices.{Told, commits_of, ids_of, told_by}
 
 -- how many commits are passed, and how many are put at most
@@ -25,14 +25,18 @@ abbrev pub ending_at : Option ℕ → ℕ → Ending
 ending_at None at = More
 ending_at (Some limit) at = if nat_eq limit at then Ended else More
 
+-- the ids of commits that a walk gave
+abbrev pub ids_given : List Info → List ObjectId
+ids_given infos = map (λ info. info.id) infos
+
 -- How a walk stopped that gave these commits: it ended, or a limit was reached, or its next answer was a fault; or it was drawn no
 -- further, or its next commit has so many parents
 pub data Draws {W E : Type 0} (Steps : W → Option (Result Info E) → W → Type 0) (Tells : E → Fault → Type 0) (limit : Option ℕ) (walk : W)
     (infos : List Info) : Ending → Type 0 where
-  ended : EndsBy Steps Tells limit walk infos (Ok tt) → Draws Steps Tells limit walk infos Ended
-  failed : (f : Fault) → EndsBy Steps Tells limit walk infos (Err f) → Draws Steps Tells limit walk infos (Failed f)
-  more : (at : W) → Yields Steps walk (given infos) at → AsksForMore limit infos → Draws Steps Tells limit walk infos More
-  small : (at : W) (next : Info) → Yields Steps walk (given (infos ++ next ∷ [])) at → AsksForMore limit infos
+  ended : EndsBy Steps Tells ids_given limit walk infos (Ok tt) → Draws Steps Tells limit walk infos Ended
+  failed : (f : Fault) → EndsBy Steps Tells ids_given limit walk infos (Err f) → Draws Steps Tells limit walk infos (Failed f)
+  more : (at : W) → Yields Steps walk (given infos) at → AsksForMore limit (length infos) → Draws Steps Tells limit walk infos More
+  small : (at : W) (next : Info) → Yields Steps walk (given (infos ++ next ∷ [])) at → AsksForMore limit (length infos)
       → Draws Steps Tells limit walk infos (Small (length next.parent_ids.items))
 
 -- so many commits were drawn, or it stopped before
@@ -68,9 +72,16 @@ pub record FillsFront {W E : Type 0} (Steps : W → Option (Result Info E) → W
   pub holds : Holds (told_by infos) old new before after batch
   pub full : IsFull (length old) (length before) batch
 
--- so many were skipped, or fewer, and then nothing was given
-abbrev pub IsSkipped : {A B : Type 0} → ℕ → List A → List B → Type 0
-IsSkipped skip skipped those = (length skipped ≡ skip) ⊎ ((length skipped < skip) × (those ≡ []))
+-- nothing comes behind such an end
+abbrev pub IsOver : Ending → Type 0
+IsOver Ended = Unit {0}
+IsOver More = ⊥
+IsOver (Small n) = ⊥
+IsOver (Failed e) = Unit {0}
+
+-- so many were skipped; or fewer, and then nothing was given, and nothing comes behind
+abbrev pub IsSkipped : {A B : Type 0} → ℕ → List A → List B → Ending → Type 0
+IsSkipped skip skipped those ending = (length skipped ≡ skip) ⊎ ((length skipped < skip) × (those ≡ []) × IsOver ending)
 
 -- the slices hold what a walk gave behind those that are skipped
 pub record Fills {W E : Type 0} (Steps : W → Option (Result Info E) → W → Type 0) (Tells : E → Fault → Type 0) (limit : Option ℕ) (skip : ℕ) (walk : W)
@@ -78,6 +89,6 @@ pub record Fills {W E : Type 0} (Steps : W → Option (Result Info E) → W → 
   pub skipped : List Info
   pub infos : List Info
   pub draws : Draws Steps Tells limit walk (skipped ++ infos) batch.ending
-  pub passed : IsSkipped skip skipped infos
+  pub passed : IsSkipped skip skipped infos batch.ending
   pub holds : Holds (told_by infos) old new before after batch
   pub full : IsFull (length old) (length before) batch

@@ -1,6 +1,6 @@
 -- What a run of `merge-base` writes, by what commits reach.
-use Rattle.std.proofs.Common.{◌≡◌, ◌≢◌, ℕ, List, [], ◌∷◌, Option, Result, Ok, Some, IsSome, false, refl, sym, ap, subst, ◌∙◌}
-use Rattle.gix_commands.proofs.Common.{Appends, ObjectId, Objects, GraphRow, stored, IsAgreeing, commit_at, parents_of, none_agree, whole_from, Fault, fault_of_bases, AreWhole, EndsWell}
+use Rattle.std.proofs.Common.{◌≢◌, ℕ, List, [], ◌∷◌, Option, Result, Ok, IsSome, false, refl, sym, ap, subst}
+use Rattle.gix_commands.proofs.Common.{Appends, ObjectId, Objects, GraphRow, stored, IsAgreeing, parents_of, none_agree, whole_from, Fault, fault_of_bases, AreWhole, EndsWell}
 use Rattle.gix_commands.proofs.Common.{BasesSucceeds, joined, not_joined, unserved, never_faulty, Bases}
 use Rattle.gix_merge_base.specs.Bases.{AreBases, FindsBases}
 use Rattle.gix_merge_base.proofs.Tops.{store_alone}

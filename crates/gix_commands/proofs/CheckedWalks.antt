@@ -1,13 +1,14 @@
 -- What a checked walk gives, its walk gives, and the parents of each commit behind which it goes on are there.
-use Rattle.std.proofs.Common.{◌≡◌, ◌+◌, ◌-◌, ◌⊎◌, ℕ, zero, suc, List, [], ◌∷◌, ◌++◌, length, take, Contains, Option, None, Some, Result, Ok, Err, refl, sym, ap, subst, ◌∙◌, ⊎_elim, arith, inl, inr, take_all, take_at}
+use Rattle.std.proofs.Common.{◌<◌, nat_lt, ltb-true, ◌≡◌, ◌+◌, ◌-◌, ◌⊎◌, ℕ, zero, suc, List, [], ◌∷◌, ◌++◌, length, take, Contains, Option, None, Some, Result, Ok, Err, refl, sym, ap, subst, ◌∙◌, ⊎_elim, arith, inl, inr, take_at}
 use Rattle.std.specs.Iterator.{Yields}
-use Rattle.gix_commands.proofs.Common.{Contains-cons_cases, Contains-append_cases, no_member, only_member, Objects, GraphRow, Info, Fault, Ends, EndsBy, finished, cut_short, enough, before}
+use Rattle.gix_commands.proofs.Common.{ObjectId, cond-true, cond-false, false_from_ne_true, Contains-cons_cases, Contains-append_cases, no_member, only_member, Objects, GraphRow, Info, Fault, Ends, EndsBy, finished, cut_short, enough, before}
+use Rattle.std.proofs.lemmas.Bool.{lt-ltb}
 use Rattle.std.proofs.lemmas.List.{length-append}
 use Rattle.gix_simple.specs.declared.Error.{Error}
 use Rattle.gix_words.specs.declared.fault.Fault.TheVariants as fault
 use Rattle.gix_words.specs.Faults.{fault_of_walk}
-use Rattle.gix_commands.specs.Checked.{AsksForMore, CheckedWalk, Checks, HasParents, HaveParents, LacksParent, Looks, gone_on, ended, failed, gave, lost}
-use Rattle.gix_commands.specs.Walked.{Walk, Answers, IsWalkFault, given}
+use Rattle.gix_commands.specs.Checked.{CheckedWalk, Checks, HasParents, HaveParents, LacksParent, Looks, gone_on, ended, failed, gave, lost}
+use Rattle.gix_commands.specs.Walked.{Walk, Answers, AsksForMore, IsWalkFault, given}
 use Rattle.gix_commands.specs.Walked as walked
 
 -- which fault of a run a fault of a checked walk is: itself
@@ -119,74 +120,82 @@ module _ (objects : Objects) (rows : List GraphRow) where
       d.so
 
   -- in any case those before the last have theirs
-  before_have : (walk : Walk) (limit : ℕ) (infos : List Info) (at : CheckedWalk) → Drawn walk None infos at → length infos ≡ limit → HaveParents objects rows (take (limit - 1) infos)
-  before_have walk limit infos at d all =
+  before_have : (walk : Walk) (n : ℕ) (infos : List Info) (at : CheckedWalk) → Drawn walk None infos at → n ≡ length infos → HaveParents objects rows (take (n - 1) infos)
+  before_have walk n infos at d all =
       ⊎_elim
-      (λ (p : (infos ≡ []) × (at.lost ≡ None)). subst (λ xs. HaveParents objects rows (take (limit - 1) xs)) (sym p.0) (λ info c. absurd (no_member info (subst (λ xs. Contains xs info) (take_none (limit - 1)) c))))
+      (λ (p : (infos ≡ []) × (at.lost ≡ None)). subst (λ xs. HaveParents objects rows (take (n - 1) xs)) (sym p.0) (λ info c. absurd (no_member info (subst (λ xs. Contains xs info) (take_none (n - 1)) c))))
       (λ (g : Gave infos at.lost). subst (HaveParents objects rows) (sym (front g)) g.whole)
       d.so
     where
-      front : (g : Gave infos at.lost) → take (limit - 1) infos ≡ g.before
-      front g = ap (take (limit - 1)) g.place ∙ take_at g.before (g.last ∷ []) (limit - 1) (let same : length infos ≡ length (g.before ++ g.last ∷ []) = ap length g.place in let sum : length (g.before ++ g.last ∷ []) ≡ length g.before + length (g.last ∷ []) = length-append g.before (g.last ∷ []) in omega (arith, same, sum, all))
+      front : (g : Gave infos at.lost) → take (n - 1) infos ≡ g.before
+      front g = ap (take (n - 1)) g.place ∙ take_at g.before (g.last ∷ []) (n - 1) (let same : length infos ≡ length (g.before ++ g.last ∷ []) = ap length g.place in let sum : length (g.before ++ g.last ∷ []) ≡ length g.before + length (g.last ∷ []) = length-append g.before (g.last ∷ []) in omega (arith, same, sum, all))
 
-  -- how the walk below ended, or that a parent isn't there
-  pub data IsChecked (walk : Walk) (limit : Option ℕ) (infos : List Info) : Result (Unit {0}) Fault → Type 0 where
-    well : {answer : Result (Unit {0}) Fault} → EndsBy Answers IsWalkFault limit walk infos answer → HaveParents objects rows (gone_on limit infos) → IsChecked walk limit infos answer
-    lacking : {why : Fault} (at : Walk) → Yields Answers walk (given infos) at → AsksForMore limit infos → LacksParent objects rows infos why → IsChecked walk limit infos (Err why)
+  -- what a limit says of those behind which the walk goes on
+  pub less_on : (n k : ℕ) (infos : List Info) → k < n → gone_on (Some n) k infos ≡ infos
+  less_on n k infos less = cond-true (nat_lt k n) _ _ (lt-ltb k n less)
 
-  -- with a limit or without
-  abbrev ByLimit : Walk → Option ℕ → List Info → Type 0
-  ByLimit walk limit infos = (answer : Result (Unit {0}) Fault) → Ends Answers IsWalkFault walk infos answer → EndsBy Answers IsWalkFault limit walk infos answer
+  pub enough_on : (n k : ℕ) (infos : List Info) → k ≡ n → gone_on (Some n) k infos ≡ take (length infos - 1) infos
+  enough_on n k infos all = cond-false (nat_lt k n) _ _ (false_from_ne_true (nat_lt k n) (λ e. let less : k < n = ltb-true k n e in omega (arith, less, all)))
 
-  module _ (walk : Walk) (limit : Option ℕ) (infos : List Info) (by : ByLimit walk limit infos) (keep : HaveParents objects rows infos → HaveParents objects rows (gone_on limit infos)) (more : AsksForMore limit infos) where
-    -- the walk had no more commits
-    no_commit : (at new : CheckedWalk) (d : Drawn walk None infos at) {answer : Option (Result Info Fault)} → Came at.walk at.lost answer new → answer ≡ None → IsChecked walk limit infos (Ok tt)
-    no_commit at new d (no_more {last = last} n a) e = well (by (Ok tt) (finished last (at.walk, d.inner, a))) (keep (all_have walk infos at d n))
-    no_commit at new d (by_walk why n a) e = cc
-    no_commit at new d (commit n a looks) e = cc
-    no_commit at new d (by_parent why is) e = cc
+  module _ (those : List Info → List ObjectId) where
+    -- how the walk below ended, or that a parent isn't there
+    pub data IsChecked (walk : Walk) (limit : Option ℕ) (infos : List Info) : Result (Unit {0}) Fault → Type 0 where
+      well : {answer : Result (Unit {0}) Fault} → EndsBy Answers IsWalkFault those limit walk infos answer → HaveParents objects rows (gone_on limit (length (those infos)) infos) → IsChecked walk limit infos answer
+      lacking : {why : Fault} (at : Walk) → Yields Answers walk (given infos) at → AsksForMore limit (length (those infos)) → LacksParent objects rows infos why → IsChecked walk limit infos (Err why)
 
-    -- there was no memory for the line of a commit
-    no_line : (at new : CheckedWalk) (d : Drawn walk None infos at) (info : Info) → One at.walk at.lost info new → IsChecked walk limit infos (Err fault.Memory)
-    no_line at new d info o = well (by (Err fault.Memory) (cut_short info o.last (at.walk, d.inner, o.answered))) (keep (all_have walk infos at d o.open_to))
+    -- with a limit or without
+    abbrev ByLimit : Walk → Option ℕ → List Info → Type 0
+    ByLimit walk limit infos = (answer : Result (Unit {0}) Fault) → Ends Answers IsWalkFault walk infos answer → EndsBy Answers IsWalkFault those limit walk infos answer
 
-    -- a parent isn't there
-    lacks : (at : CheckedWalk) (d : Drawn walk None infos at) (why : Fault) → at.lost ≡ Some why → IsChecked walk limit infos (Err why)
-    lacks at d why is =
-        ⊎_elim
-        (λ (p : (infos ≡ []) × (at.lost ≡ None)). let no : None ≡ Some why = sym p.1 ∙ is in cc)
-        (λ (g : Gave infos at.lost).
-        lacking at.walk d.inner more
-        (record { before = g.before; last = g.last; place = g.place; whole = g.whole; lacks = λ other. sym (sym is ∙ g.looks (λ e. other (let same : Some why ≡ Some fault.Memory = sym is ∙ e in cc))) }))
-        d.so
+    module _ (walk : Walk) (limit : Option ℕ) (infos : List Info) (by : ByLimit walk limit infos) (keep : HaveParents objects rows infos → HaveParents objects rows (gone_on limit (length (those infos)) infos)) (more : AsksForMore limit (length (those infos))) where
+      -- the walk had no more commits
+      no_commit : (at new : CheckedWalk) (d : Drawn walk None infos at) {answer : Option (Result Info Fault)} → Came at.walk at.lost answer new → answer ≡ None → IsChecked walk limit infos (Ok tt)
+      no_commit at new d (no_more {last = last} n a) e = well (by (Ok tt) (finished last (at.walk, d.inner, a))) (keep (all_have walk infos at d n))
+      no_commit at new d (by_walk why n a) e = cc
+      no_commit at new d (commit n a looks) e = cc
+      no_commit at new d (by_parent why is) e = cc
 
-    -- the answer was a fault
-    a_fault : (at new : CheckedWalk) (d : Drawn walk None infos at) (e f : Fault) {answer : Option (Result Info Fault)} → Came at.walk at.lost answer new → answer ≡ Some (Err e) → f ≡ e → IsChecked walk limit infos (Err f)
-    a_fault at new d e f (no_more n a) same is = cc
-    a_fault at new d e f (commit n a looks) same is = cc
-    a_fault at new d e f (by_walk {last = last} why n a) same is =
-        let whose : f ≡ fault_of_walk why = cc in
-        well (by (Err f) (walked.failed why f last (at.walk, d.inner, a) whose)) (keep (all_have walk infos at d n))
-    a_fault at new d e f (by_parent why here) same is =
-        let whose : why ≡ f = cc in
-        subst (λ (x : Fault). IsChecked walk limit infos (Err x)) whose (lacks at d why here)
+      -- there was no memory for the line of a commit
+      no_line : (at new : CheckedWalk) (d : Drawn walk None infos at) (info : Info) → One at.walk at.lost info new → IsChecked walk limit infos (Err fault.Memory)
+      no_line at new d info o = well (by (Err fault.Memory) (cut_short info o.last (at.walk, d.inner, o.answered))) (keep (all_have walk infos at d o.open_to))
 
-    from_ends : (answer : Result (Unit {0}) Fault) → Ends Checks IsItself (checked walk None) infos answer → IsChecked walk limit infos answer
-    from_ends answer (finished new h) =
-        let d = drawn infos walk None h.0 h.1 in
-        no_commit h.0 new d (came h.0.walk h.0.lost (subst (λ c. Checks c None new) d.over h.2)) refl
-    from_ends answer (walked.failed e f new h is) =
-        let d = drawn infos walk None h.0 h.1 in
-        a_fault h.0 new d e f (came h.0.walk h.0.lost (subst (λ c. Checks c (Some (Err e)) new) d.over h.2)) refl is
-    from_ends answer (cut_short info new h) =
-        let d = drawn infos walk None h.0 h.1 in
-        no_line h.0 new d info (one h.0.walk h.0.lost info new (subst (λ c. Checks c (Some (Ok info)) new) d.over h.2))
+      -- a parent isn't there
+      lacks : (at : CheckedWalk) (d : Drawn walk None infos at) (why : Fault) → at.lost ≡ Some why → IsChecked walk limit infos (Err why)
+      lacks at d why is =
+          ⊎_elim
+          (λ (p : (infos ≡ []) × (at.lost ≡ None)). let no : None ≡ Some why = sym p.1 ∙ is in cc)
+          (λ (g : Gave infos at.lost).
+          lacking at.walk d.inner more
+          (record { before = g.before; last = g.last; place = g.place; whole = g.whole; lacks = λ other. sym (sym is ∙ g.looks (λ e. other (let same : Some why ≡ Some fault.Memory = sym is ∙ e in cc))) }))
+          d.so
 
-  -- how a checked walk ended that was drawn so far
-  pub from_by : (walk : Walk) (limit : Option ℕ) (infos : List Info) (answer : Result (Unit {0}) Fault) → EndsBy Checks IsItself limit (checked walk None) infos answer → IsChecked walk limit infos answer
-  from_by walk None infos answer ends = from_ends walk None infos (λ _ e. e) (λ all. all) tt answer ends
-  from_by walk (Some n) infos answer (enough at h all) =
-      let d = drawn infos walk None at h in
-      well (enough at.walk d.inner all) (before_have walk n infos at d all)
-  from_by walk (Some n) infos answer (before ends less) =
-      from_ends walk (Some n) infos (λ _ e. before e less) (λ all. subst (HaveParents objects rows) (sym (take_all (n - 1) infos (omega (arith, less)))) all) less answer ends
+      -- the answer was a fault
+      a_fault : (at new : CheckedWalk) (d : Drawn walk None infos at) (e f : Fault) {answer : Option (Result Info Fault)} → Came at.walk at.lost answer new → answer ≡ Some (Err e) → f ≡ e → IsChecked walk limit infos (Err f)
+      a_fault at new d e f (no_more n a) same is = cc
+      a_fault at new d e f (commit n a looks) same is = cc
+      a_fault at new d e f (by_walk {last = last} why n a) same is =
+          let whose : f ≡ fault_of_walk why = cc in
+          well (by (Err f) (walked.failed why f last (at.walk, d.inner, a) whose)) (keep (all_have walk infos at d n))
+      a_fault at new d e f (by_parent why here) same is =
+          let whose : why ≡ f = cc in
+          subst (λ (x : Fault). IsChecked walk limit infos (Err x)) whose (lacks at d why here)
+
+      from_ends : (answer : Result (Unit {0}) Fault) → Ends Checks IsItself (checked walk None) infos answer → IsChecked walk limit infos answer
+      from_ends answer (finished new h) =
+          let d = drawn infos walk None h.0 h.1 in
+          no_commit h.0 new d (came h.0.walk h.0.lost (subst (λ c. Checks c None new) d.over h.2)) refl
+      from_ends answer (walked.failed e f new h is) =
+          let d = drawn infos walk None h.0 h.1 in
+          a_fault h.0 new d e f (came h.0.walk h.0.lost (subst (λ c. Checks c (Some (Err e)) new) d.over h.2)) refl is
+      from_ends answer (cut_short info new h) =
+          let d = drawn infos walk None h.0 h.1 in
+          no_line h.0 new d info (one h.0.walk h.0.lost info new (subst (λ c. Checks c (Some (Ok info)) new) d.over h.2))
+
+    -- how a checked walk ended that was drawn so far
+    pub from_by : (walk : Walk) (limit : Option ℕ) (infos : List Info) (answer : Result (Unit {0}) Fault) → EndsBy Checks IsItself those limit (checked walk None) infos answer → IsChecked walk limit infos answer
+    from_by walk None infos answer ends = from_ends walk None infos (λ _ e. e) (λ all. all) tt answer ends
+    from_by walk (Some n) infos answer (enough at h all) =
+        let d = drawn infos walk None at h in
+        well (enough at.walk d.inner all) (subst (HaveParents objects rows) (sym (enough_on n (length (those infos)) infos all)) (before_have walk (length infos) infos at d refl))
+    from_by walk (Some n) infos answer (before ends less) =
+        from_ends walk (Some n) infos (λ _ e. before e less) (λ all. subst (HaveParents objects rows) (sym (less_on n (length (those infos)) infos less)) all) less answer ends

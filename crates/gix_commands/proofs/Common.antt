@@ -40,11 +40,13 @@ pub use Rattle.gix_tree.specs.Tracked.{fresh_recorder, Tracked, Tracks}
 pub use Rattle.gix_tree.specs.Visits.{Broken, descent, Ending, Enters, Failed, is_broken, IsUnfailed, Items, Leaves, outcome_of, Place, Visit, visit, Whole}
 pub use Rattle.gix_tree.specs.Walk.{depth_answer, DepthFirst, items_of_kind, items_of_object, LookUpFailed, LookUpFails, trees_of}
 pub use Rattle.gix_words.specs.Faults.{fault_of_bases, fault_of_contained, fault_of_disagreement, fault_of_find, fault_of_records, fault_of_topo_walk, fault_of_tree_walk, fault_of_walk}
-pub use Rattle.gix_words.specs.Words.{Ahead, ahead_from, ahead_of, asked, Bases, begins_with_caret, by_cutoff, by_first_parents, chosen_of, Commits, commits_from, commits_of, Contained, file_of, Files}
-pub use Rattle.gix_words.specs.Words.{files_from, files_of, Ids, ids_from, in_order_of, is_shown, limited_of, listed_of, number_in, order_named, Ranked, recent_of, Request, request_named, request_of, several_among, several_from, several_of, since_of, with_id, with_word, without_caret}
+pub use Rattle.gix_words.specs.Words.{Ahead, ahead_from, ahead_of, asked, Asked, Bases, begins_with_caret, begins_with_sign, by_cutoff, by_first_parents, chosen_from, chosen_of, Commits, commits_in, Contained, Containing, file_of, Files, files_from, files_of, formed_of, Ids, ids_from, in_order_of, is_shown, limit_by, limited_of}
+pub use Rattle.gix_words.specs.Words.{listed_of, merges_of, number_in, order_named, plain_of, Ranked, recent_of, Request, request_named, request_of, several_among, several_from, several_of, since_of, skip_by, until_by, until_of, with_form, with_id, with_limit, with_merges, with_skip, with_until, with_word, without_caret}
 pub use Rattle.gix_words.specs.declared.fault.Fault.{Fault}
 pub use Rattle.gix_words.specs.declared.words.Order.{Order}
 pub use Rattle.gix_words.specs.declared.words.Order.TheVariants.{Simple, Topo}
+pub use Rattle.gix_words.specs.declared.words.Shown.{Shown}
+pub use Rattle.gix_commands.specs.Chosen.{Writes, kept_in, page_choice}
 pub use Rattle.gix_hash.proofs.Ids.Membership.{among_from, among_is, Contains-cons_cases, Contains-here, Contains-there, id_apart, id_total, no_member, same_from, same_is}
 pub use Rattle.gix_hash.proofs.Lists.{filter_all, filter_within, only_member}
 pub use Rattle.gix_records.proofs.RecordFacts.{no_bad_record, only_reading}
@@ -58,9 +60,9 @@ pub use Rattle.gix_simple.proofs.Difference.{begun_whole, drawn_whole, loosened,
 pub use Rattle.gix_topo.proofs.Run.EachOnce.{named_all, reached_known}
 pub use Rattle.gix_tree.proofs.Theorems.Laws.{depth_is_in_order, depth_is_recorded, depth_ok, go_on, sound_depth_succeeds}
 pub use Rattle.gix_commands.specs.Files.{AreLinesOf, file_line, file_lines, IsTreeFault, RecordsTree, six_octal_digits}
-pub use Rattle.gix_commands.specs.Histories.{AheadSucceeds, AreWhole, BasesSucceeds, ContainsSucceeds, EndsWell, IsOutside, SimpleSucceeds, TopoSucceeds}
+pub use Rattle.gix_commands.specs.Histories.{AheadSucceeds, AreWhole, BasesSucceeds, ContainingSucceeds, ContainsSucceeds, EndsWell, IsOutside, SimpleSucceeds, TopoSucceeds}
 pub use Rattle.gix_commands.specs.Output.{Adds, Grows, WritesAll}
-pub use Rattle.gix_commands.specs.Run.{bad_record, counted, disagrees, joined, no_command, not_ahead, not_behind, not_built, not_joined, not_listed, not_read, not_selected, not_walked, Runs, RunsOver, selected, served, unserved, walked, walked_down}
+pub use Rattle.gix_commands.specs.Run.{bad_record, counted, disagrees, joined, no_command, not_ahead, not_behind, not_built, not_joined, not_listed, not_reaching, not_read, not_selected, not_walked, reaching, Runs, RunsOver, selected, served, unserved, walked, walked_down}
 pub use Rattle.gix_commands.specs.Run.{without_memory}
 pub use Rattle.gix_commands.specs.TopoWalked.{IsBuiltFrom, plan_from}
 pub use Rattle.gix_commands.specs.Walked.{accepts_all, before, cut_short, Ends, EndsBy, EndsWithin, enough, FailsAtStart, finished, IsMadeOf, IsStartFault, line_of, lines_of, never_faulty, objects_of, StartsFrom}

@@ -1,8 +1,11 @@
 mod Common
-mod WordFaults
+pub mod WordFaults
 pub mod WalkFaults
-mod MemoryFaults
+pub mod MemoryFaults
 mod OutputFacts
+mod WrittenForms
+mod ChosenFacts
+mod LookedAt
 mod BrokenOff
 mod InternalFacts
 mod TreeFacts
@@ -10,12 +13,13 @@ mod TopoInternalFacts
 mod FileFacts
 mod NotedNames
 mod ListerFacts
-mod LostParents
+pub mod LostParents
 mod RowedParents
 pub mod CheckedWalks
 mod CheckedSteps
 mod AheadFacts
 mod ContainedFacts
+mod ContainingFacts
 mod BasesFacts
 mod StartFacts
 pub mod RunFacts
@@ -29,12 +33,12 @@ pub mod TopoRuns
 mod GoesOn
 pub mod SimpleBegins
 mod TopoBegins
-mod FirstCommits
 mod NamedTrees
 mod FileRuns
 mod SimpleFaults
 mod AheadRuns
 mod ContainedRuns
+mod ContainingRuns
 mod BasesRuns
 mod TextNumbers
 mod OverGraphs
@@ -56,6 +60,7 @@ mod SameDescents
 mod SameTrees
 pub mod SameWords
 mod SameContained
+mod SameContaining
 mod SameBases
 mod SameLists
 mod RightTrees
@@ -64,6 +69,7 @@ pub mod PageCommits
 mod PageTexts
 mod PageLists
 mod OrderNames
+pub mod WrittenBytes
 pub mod RightSimple
 pub mod RightTopo
 pub mod RightRuns
@@ -72,7 +78,7 @@ pub mod ReadableTexts
 mod ReachedIsRead
 pub mod SameCommitsThere
 mod RowsAsTexts
-mod NamedOnes
+pub mod NamedOnes
 mod Promised
 mod PromisedRuns
 mod SortedRows

@@ -1,13 +1,16 @@
 -- Lines that are buffered, and lines that were written.
-use Rattle.std.proofs.Common.{◌≡◌, ◌<◌, ◌≤◌, ◌+◌, ◌-◌, ℕ, List, [], ◌∷◌, ◌++◌, length, Option, Some, None, Result, Ok, Err, refl, sym, ap, subst, ◌∙◌, append_assoc, arith, inl, inr, append-nil, length-append}
-use Rattle.gix_commands.proofs.Common.{Appends, Yields, Info, Fault, Grows, Adds, Ends, EndsBy, finished, cut_short, enough, line_of, lines_of}
+use Rattle.std.proofs.Common.{◌≡◌, ◌≢◌, ◌<◌, ◌+◌, ℕ, zero, suc, flat_map, List, [], ◌∷◌, ◌++◌, length, Option, Some, None, Result, Ok, Err, refl, sym, ap, subst, ◌∙◌, append_assoc, arith, inl, inr, append-nil, length-append}
+use Rattle.gix_commands.proofs.Common.{Appends, ObjectId, Yields, Info, Fault, Grows, Adds, Ends, EndsBy, WritesAll, finished, cut_short, enough, before, line_of}
 use Rattle.std.proofs.lemmas.List.{map-append}
 use Rattle.std.proofs.lemmas.Grind.{flat_map-append}
 use Rattle.std.proofs.KnownBytes.{Appends-nil, Appends-trans}
 use Rattle.gix_words.specs.declared.fault.Fault.TheVariants as fault
 use Rattle.std.specs.Io.KnownBytes.{append_known}
-use Rattle.gix_commands.specs.Output.{AddsBegun, AddsNone, BreaksOff, WritesBegun, added, broken_off, written, cut}
-use Rattle.gix_commands.specs.Walked.{given, failed}
+use Rattle.gix_words.specs.declared.words.Form.{Form}
+use Rattle.gix_words.specs.declared.words.Form.TheVariants as form
+use Rattle.gix_commands.specs.Chosen.{Writes}
+use Rattle.gix_commands.specs.Output.{AddsBegun, BreaksOff, Held, StopsWithin, Takes, TakesNone, WritesBegun, WritesWhole, added, broken_off, written, cut, unwritten}
+use Rattle.gix_commands.specs.Walked.{AsksForMore, given, failed}
 
 -- nothing was written
 pub grows_waiting : (old : Option (List ℕ)) (waiting waits bytes : List ℕ) → waits ≡ waiting ++ bytes → Grows old waiting old waits bytes
@@ -33,26 +36,35 @@ none_before : (some more : List ℕ) → some ++ more ≡ [] → some ≡ []
 none_before [] more e = refl
 none_before (b ∷ some) more e = cc
 
-pub lines_last : (infos : List Info) (info : Info) → lines_of (infos ++ info ∷ []) ≡ lines_of infos ++ line_of info.id
-lines_last infos info = flat_map-append (λ (i : Info). line_of i.id) infos (info ∷ []) ∙ ap (λ x. lines_of infos ++ x) (append-nil (line_of info.id))
-
-pub grows_one : (a b c : Option (List ℕ)) (x y z : List ℕ) (infos : List Info) (info : Info) → Grows a x b y (lines_of infos) → Grows b y c z (line_of info.id) → Grows a x c z (lines_of (infos ++ info ∷ []))
-grows_one a b c x y z infos info h k = subst (Grows a x c z) (sym (lines_last infos info)) (grows_more a b c x y z (lines_of infos) (line_of info.id) h k)
-
 given_last : {E : Type 0} (infos : List Info) (info : Info) → given {E = E} (infos ++ info ∷ []) ≡ given infos ++ Ok info ∷ []
 given_last infos info = map-append (λ (i : Info). Ok i) infos (info ∷ [])
 
--- where some are left to be drawn, fewer were drawn than were asked for
-pub fewer : (infos : List Info) (left limit : ℕ) → length infos + left ≡ limit → 0 < left → length infos < limit
-fewer infos left limit e some = omega (arith, e, some)
+-- one more id was added
+pub takes_more : (by : Form) (a b c : Option (List ℕ)) (x y z : Held) (ids more : List ObjectId) → Takes by a x ids b y → Takes by b y more c z → Takes by a x (ids ++ more) c z
+takes_more form.Lines a b c x y z ids more h k = subst (Grows a x.lines c z.lines) (sym (flat_map-append line_of ids more)) (grows_more a b c x.lines y.lines z.lines (flat_map line_of ids) (flat_map line_of more) h k)
+takes_more form.Count a b c x y z ids more h k = (k.0 ∙ h.0, omega (arith, h.1, k.1, length-append ids more))
+takes_more form.Reverse a b c x y z ids more h k = (k.0 ∙ h.0, k.1 ∙ ap (λ xs. xs ++ more) h.1 ∙ append_assoc x.ids ids more)
 
--- where none is left to be drawn, as many were drawn as were asked for
-pub all_drawn : (infos : List Info) (left limit : ℕ) → length infos + left ≡ limit → left ≤ 0 → length infos ≡ limit
-all_drawn infos left limit e none = omega (arith, e, none)
+pub takes_nothing : (by : Form) (old : Option (List ℕ)) (held : Held) (ids : List ObjectId) → ids ≡ [] → Takes by old held ids old held
+takes_nothing form.Lines old held ids none = grows_waiting old held.lines held.lines (flat_map line_of ids) (sym (ap (λ xs. held.lines ++ flat_map line_of xs) none ∙ append-nil held.lines))
+takes_nothing form.Count old held ids none = (refl, omega (arith, ap length none))
+takes_nothing form.Reverse old held ids none = (refl, sym (ap (λ xs. held.ids ++ xs) none ∙ append-nil held.ids))
 
--- one more was drawn, and one less is left
-pub one_less : (infos : List Info) (info : Info) (left limit : ℕ) → length infos + left ≡ limit → 0 < left → length (infos ++ info ∷ []) + (left - 1) ≡ limit
-one_less infos info left limit e some = let more : length (infos ++ info ∷ []) ≡ length infos + 1 = length-append infos (info ∷ []) in omega (arith, e, some, more)
+-- no id was added, by a form that stayed
+pub same_form : (f by : Form) → f ≡ by → (old : Option (List ℕ)) (held : Held) (new : Option (List ℕ)) (holds : Held) (e : Fault) → TakesNone f old held new holds e → TakesNone by old held new holds e
+same_form f by is old held new holds e h = subst (λ (x : Form). TakesNone x old held new holds e) is h
+
+-- of a limit so many are left
+abbrev pub IsLimitLeft : (limit : Option ℕ) → ℕ → (left : Option ℕ) → Type 0
+IsLimitLeft None n left = left ≡ None
+IsLimitLeft (Some most) n left = (k : ℕ) × (left ≡ Some k) × (n + k ≡ most)
+
+fewer : (n k limit : ℕ) → n + k ≡ limit → (k ≡ 0 → ⊥) → n < limit
+fewer n zero limit e some = absurd (some refl)
+fewer n (suc k) limit e some = omega (arith, e)
+
+all_drawn : (n k limit : ℕ) → n + k ≡ limit → k ≡ 0 → n ≡ limit
+all_drawn n k limit e none = omega (arith, e, none)
 
 module _ {W E : Type 0} where
   module _ (Steps : W → Option (Result Info E) → W → Type 0) where
@@ -66,81 +78,180 @@ module _ {W E : Type 0} where
         subst (λ (list : List (Result Info E)). Yields Steps walk list new) (sym (given_last infos info))
         (yields_last walk at new (given infos) (Ok info) h (subst (λ (a : Result Info E). Steps at (Some a) new) is step))
 
-    module _ (Tells : E → Fault → Type 0) where
-      -- how the walk ended, by what it gave
-      abbrev pub ByLimit : Option ℕ → W → List Info → Type 0
-      ByLimit limit walk infos = (answer : Result (Unit {0}) Fault) → Ends Steps Tells walk infos answer → EndsBy Steps Tells limit walk infos answer
+    module _ (Tells : E → Fault → Type 0) (those : List Info → List ObjectId) (limit : Option ℕ) (by : Form) (walk : W) (old : Option (List ℕ)) (held : Held) where
+      abbrev pub Begun : Result (Unit {0}) Fault → Option (List ℕ) → Held → Type 0
+      Begun = AddsBegun Steps Tells those limit by walk old held
+
+      -- how the walk ended, by what is left to be written
+      pub ends_before : (infos : List Info) (left : Option ℕ) {answer : Result (Unit {0}) Fault} → IsLimitLeft limit (length (those infos)) left → left ≢ Some 0 → Ends Steps Tells walk infos answer → EndsBy Steps Tells those limit walk infos answer
+      ends_before infos left {answer} is some ends = go limit is
+        where
+          go : (limit : Option ℕ) → IsLimitLeft limit (length (those infos)) left → EndsBy Steps Tells those limit walk infos answer
+          go None is = ends
+          go (Some n) (k, e, sum) = before ends (fewer _ k n sum (λ z. some (e ∙ ap Some z)))
+
+      pub ends_enough : (infos : List Info) (left : Option ℕ) (at : W) → IsLimitLeft limit (length (those infos)) left → left ≡ Some 0 → Yields Steps walk (given infos) at → EndsBy Steps Tells those limit walk infos (Ok tt)
+      ends_enough infos left at is none h = go limit is
+        where
+          go : (limit : Option ℕ) → IsLimitLeft limit (length (those infos)) left → EndsBy Steps Tells those limit walk infos (Ok tt)
+          go None is = let no : ◌≡◌ {A = Option ℕ} None (Some 0) = sym is ∙ none in cc
+          go (Some n) (k, e, sum) = enough at h (all_drawn _ k n sum (let z : k ≡ 0 = cc in z))
 
       -- the walk's answer was a fault
-      pub adds_failed : (limit : Option ℕ) (walk at drawn : W) (infos : List Info) (by : ByLimit limit walk infos) (answer : Result Info E) (e : E) (f : Fault) (old new : Option (List ℕ)) (waiting waits : List ℕ)
-          → Yields Steps walk (given infos) at → Steps at (Some answer) drawn → answer ≡ Err e → Tells e f → Grows old waiting new waits (lines_of infos) → AddsBegun Steps Tells limit walk old waiting (Err f) new waits
-      adds_failed limit walk at drawn infos by answer e f old new waiting waits h step is tells grows = added (record {
+      pub adds_failed : (at drawn : W) (infos : List Info) (left : Option ℕ) (answer : Result Info E) (e : E) (f : Fault) (new : Option (List ℕ)) (holds : Held) → IsLimitLeft limit (length (those infos)) left → left ≢ Some 0
+          → Yields Steps walk (given infos) at → Steps at (Some answer) drawn → answer ≡ Err e → Tells e f → Takes by old held (those infos) new holds → Begun (Err f) new holds
+      adds_failed at drawn infos left answer e f new holds is some h step fails tells takes = added (record {
         infos = infos;
-        ends = by (Err f) (failed e f drawn (at, h, subst (λ (a : Result Info E). Steps at (Some a) drawn) is step) tells);
-        grows = grows;
+        ends = ends_before infos left is some (failed e f drawn (at, h, subst (λ (a : Result Info E). Steps at (Some a) drawn) fails step) tells);
+        takes = takes;
       })
 
-      -- a line couldn't be added
-      pub adds_cut : (limit : Option ℕ) (walk at drawn : W) (infos : List Info) (by : ByLimit limit walk infos) (next : Result Info E) (info : Info) (e : Fault) (result : Result (Unit {0}) Fault) (a b c : Option (List ℕ)) (x y z : List ℕ)
-          → Yields Steps walk (given infos) at → Steps at (Some next) drawn → next ≡ Ok info → Grows a x b y (lines_of infos) → result ≡ Err e → AddsNone b y c z e → AddsBegun Steps Tells limit walk a x result c z
-      adds_cut limit walk at drawn infos by next info e result a b c x y z h step is grows same (inl (breaks, empty)) =
-          subst (λ (r : Result (Unit {0}) Fault). AddsBegun Steps Tells limit walk a x r c z) (sym (same ∙ ap (λ f. Err f) breaks.0))
-          (broken_off {answer = Err fault.Memory} breaks.1.1 empty (record {
-            infos = infos;
-            ends = by (Err fault.Memory) (cut_short info drawn (at, h, subst (λ (a : Result Info E). Steps at (Some a) drawn) is step));
-            grows = (
-              grows.0 ++ breaks.1.0,
-              Appends-trans a b c grows.0 breaks.1.0 grows.1 breaks.1.3,
-              grows.2 ∙ ap (λ w. grows.0 ++ w) breaks.1.2 ∙ sym (append_assoc grows.0 breaks.1.0 breaks.1.1),
-            );
-          }))
-      adds_cut limit walk at drawn infos by next info e result a b c x y z h step is grows same (inr (m, more)) = added (record {
+      -- memory ran out for a commit
+      pub adds_none : (at drawn : W) (infos : List Info) (left : Option ℕ) (next : Result Info E) (info : Info) (e : Fault) (result : Result (Unit {0}) Fault) (new : Option (List ℕ)) (holds : Held) → IsLimitLeft limit (length (those infos)) left → left ≢ Some 0
+          → Yields Steps walk (given infos) at → Steps at (Some next) drawn → next ≡ Ok info → Takes by old held (those infos) new holds → result ≡ Err e → e ≡ fault.Memory → Begun result new holds
+      adds_none at drawn infos left next info e result new holds is some h step gives takes same memory = added (record {
         infos = infos;
-        ends = by result (subst (Ends Steps Tells walk infos) (sym (same ∙ ap (λ f. Err f) m)) (cut_short info drawn (at, h, subst (λ (a : Result Info E). Steps at (Some a) drawn) is step)));
-        grows = subst (Grows a x c z) (append-nil (lines_of infos)) (grows_more a b c x y z (lines_of infos) [] grows more);
+        ends = ends_before infos left is some (subst (Ends Steps Tells walk infos) (sym (same ∙ ap (λ f. Err f) memory)) (cut_short info drawn (at, h, subst (λ (a : Result Info E). Steps at (Some a) drawn) gives step)));
+        takes = takes;
       })
+
+      -- a commit couldn't be added
+      pub adds_cut : (at drawn : W) (infos : List Info) (left : Option ℕ) (next : Result Info E) (info : Info) (e : Fault) (result : Result (Unit {0}) Fault) (mid new : Option (List ℕ)) (has holds : Held) → IsLimitLeft limit (length (those infos)) left → left ≢ Some 0
+          → Yields Steps walk (given infos) at → Steps at (Some next) drawn → next ≡ Ok info → Takes by old held (those infos) mid has → result ≡ Err e → TakesNone by mid has new holds e → Begun result new holds
+      adds_cut at drawn infos left next info e result mid new has holds is some h step gives takes same none = go by takes none
+        where
+          short : Ends Steps Tells walk infos (Err fault.Memory)
+          short = cut_short info drawn (at, h, subst (λ (a : Result Info E). Steps at (Some a) drawn) gives step)
+
+          go : (by : Form) → Takes by old held (those infos) mid has → TakesNone by mid has new holds e → AddsBegun Steps Tells those limit by walk old held result new holds
+          go form.Lines grows (inl (breaks, empty)) =
+              subst (λ (r : Result (Unit {0}) Fault). AddsBegun Steps Tells those limit form.Lines walk old held r new holds) (sym (same ∙ ap (λ f. Err f) breaks.0))
+              (broken_off breaks.1.1 refl empty (record {
+                infos = infos;
+                ends = ends_before infos left is some short;
+                takes = (
+                  grows.0 ++ breaks.1.0,
+                  Appends-trans old mid new grows.0 breaks.1.0 grows.1 breaks.1.3,
+                  grows.2 ∙ ap (λ w. grows.0 ++ w) breaks.1.2 ∙ sym (append_assoc grows.0 breaks.1.0 breaks.1.1),
+                );
+              }))
+          go form.Lines grows (inr (memory, more)) = added (record {
+            infos = infos;
+            ends = ends_before infos left is some (subst (Ends Steps Tells walk infos) (sym (same ∙ ap (λ f. Err f) memory)) short);
+            takes = subst (Grows old held.lines new holds.lines) (append-nil (flat_map line_of (those infos))) (grows_more old mid new held.lines has.lines holds.lines (flat_map line_of (those infos)) [] grows more);
+          })
+          go form.Count (kept, number) (memory, still, as_many) = added (record {
+            infos = infos;
+            ends = ends_before infos left is some (subst (Ends Steps Tells walk infos) (sym (same ∙ ap (λ f. Err f) memory)) short);
+            takes = (still ∙ kept, as_many ∙ number);
+          })
+          go form.Reverse (kept, ids) (memory, still, as_many) = added (record {
+            infos = infos;
+            ends = ends_before infos left is some (subst (Ends Steps Tells walk infos) (sym (same ∙ ap (λ f. Err f) memory)) short);
+            takes = (still ∙ kept, as_many ∙ ids);
+          })
 
       -- the walk ended
-      pub adds_all : (limit : Option ℕ) (walk at drawn : W) (infos : List Info) (by : ByLimit limit walk infos) (old new : Option (List ℕ)) (waiting waits : List ℕ) → Yields Steps walk (given infos) at → Steps at None drawn → Grows old waiting new waits (lines_of infos) → AddsBegun Steps Tells limit walk old waiting (Ok tt) new waits
-      adds_all limit walk at drawn infos by old new waiting waits h step grows = added (record {
+      pub adds_all : (at drawn : W) (infos : List Info) (left : Option ℕ) (new : Option (List ℕ)) (holds : Held) → IsLimitLeft limit (length (those infos)) left → left ≢ Some 0 → Yields Steps walk (given infos) at → Steps at None drawn
+          → Takes by old held (those infos) new holds → Begun (Ok tt) new holds
+      adds_all at drawn infos left new holds is some h step takes = added (record {
         infos = infos;
-        ends = by (Ok tt) (finished drawn (at, h, step));
-        grows = grows;
+        ends = ends_before infos left is some (finished drawn (at, h, step));
+        takes = takes;
       })
 
-      -- as many were drawn as were asked for
-      pub adds_enough : (n : ℕ) (walk at : W) (infos : List Info) (old new : Option (List ℕ)) (waiting waits : List ℕ) → Yields Steps walk (given infos) at → length infos ≡ n → Grows old waiting new waits (lines_of infos) → AddsBegun Steps Tells (Some n) walk old waiting (Ok tt) new waits
-      adds_enough n walk at infos old new waiting waits h all grows = added (record {
+      -- as many were written as were asked for
+      pub adds_enough : (at : W) (infos : List Info) (left : Option ℕ) (new : Option (List ℕ)) (holds : Held) → IsLimitLeft limit (length (those infos)) left → left ≡ Some 0 → Yields Steps walk (given infos) at → Takes by old held (those infos) new holds → Begun (Ok tt) new holds
+      adds_enough at infos left new holds is none h takes = added (record {
         infos = infos;
-        ends = enough at h all;
-        grows = grows;
+        ends = ends_enough infos left at is none h;
+        takes = takes;
       })
 
-      module _ (limit : Option ℕ) (walk : W) (old mid new : Option (List ℕ)) (waiting : List ℕ) (none : waiting ≡ []) where
-        -- what was added goes on behind what is written
-        added_behind : (waits : List ℕ) (answer : Result (Unit {0}) Fault) (some more : List ℕ) → Adds Steps Tells limit walk old waiting answer mid waits → waits ≡ some ++ more → Appends mid new some → WritesBegun Steps Tells limit walk old (Err fault.Write) new
-        added_behind waits answer some more h whole a =
-            let start = Appends-trans old mid new h.grows.0 some h.grows.1 a in
-            cut {answer = answer} {full = append_known new more} (h.grows.0 ++ some) more (record {
-              infos = h.infos;
-              ends = h.ends;
-              appends = subst (Appends old (append_known new more)) (sym (ap (λ w. w ++ lines_of h.infos) (sym none) ∙ h.grows.2 ∙ ap (λ w. h.grows.0 ++ w) whole ∙ sym (append_assoc h.grows.0 some more)))
-                  (Appends-trans old new (append_known new more) (h.grows.0 ++ some) more start (appends_behind new more));
-            }) start (appends_behind new more)
+      -- where the walk stands then
+      pub stops_at_end : (at drawn : W) (infos : List Info) (left : Option ℕ) → IsLimitLeft limit (length (those infos)) left → left ≢ Some 0 → Yields Steps walk (given infos) at → Steps at None drawn → StopsWithin Steps those limit walk drawn
+      stops_at_end at drawn infos left is some h step = inr (infos, (at, h, step), go limit is)
+        where
+          go : (limit : Option ℕ) → IsLimitLeft limit (length (those infos)) left → AsksForMore limit (length (those infos))
+          go None is = tt
+          go (Some n) (k, e, sum) = fewer _ k n sum (λ z. some (e ∙ ap Some z))
 
-        -- what was buffered was written
-        pub all_written : {waits : List ℕ} {answer : Result (Unit {0}) Fault} → AddsBegun Steps Tells limit walk old waiting answer mid waits → Appends mid new waits → WritesBegun Steps Tells limit walk old answer new
-        all_written {waits} {answer} (added h) k = written (record {
-          infos = h.infos;
-          ends = h.ends;
-          appends = grows_end old mid new waits (lines_of h.infos) (subst (λ (w : List ℕ). Grows old w mid waits (lines_of h.infos)) none h.grows) k;
-        })
-        all_written (broken_off {answer = answer} more empty h) k = added_behind more answer [] more h refl (subst (Appends mid new) empty k)
+      pub stops_enough : (at : W) (infos : List Info) (left : Option ℕ) → IsLimitLeft limit (length (those infos)) left → left ≡ Some 0 → Yields Steps walk (given infos) at → StopsWithin Steps those limit walk at
+      stops_enough at infos left is none h = inl (infos, h, go limit is)
+        where
+          go : (limit : Option ℕ) → IsLimitLeft limit (length (those infos)) left → Some (length (those infos)) ≡ limit
+          go None is = let no : ◌≡◌ {A = Option ℕ} None (Some 0) = sym is ∙ none in cc
+          go (Some n) (k, e, sum) = ap Some (all_drawn _ k n sum (let z : k ≡ 0 = cc in z))
 
-        -- the writer failed, and a beginning of what was buffered was written
-        pub begun_written : {waits : List ℕ} {answer result : Result (Unit {0}) Fault} (e : Fault) → AddsBegun Steps Tells limit walk old waiting answer mid waits → BreaksOff mid new waits e → result ≡ Err e → WritesBegun Steps Tells limit walk old result new
-        begun_written {waits} {answer} {result} e h breaks same = subst (λ (r : Result (Unit {0}) Fault). WritesBegun Steps Tells limit walk old r new) (sym (same ∙ ap (λ f. Err f) breaks.0)) (go h breaks.1.2)
-          where
-            go : {answer : Result (Unit {0}) Fault} {waits : List ℕ} → AddsBegun Steps Tells limit walk old waiting answer mid waits → waits ≡ breaks.1.0 ++ breaks.1.1 → WritesBegun Steps Tells limit walk old (Err fault.Write) new
-            go {answer} {waits} (added h) whole = added_behind waits answer breaks.1.0 breaks.1.1 h whole breaks.1.3
-            go (broken_off {answer = answer} more empty h) whole = added_behind more answer [] more h refl (subst (Appends mid new) (none_before breaks.1.0 breaks.1.1 (sym whole ∙ empty)) breaks.1.3)
+    module _ (Tells : E → Fault → Type 0) (those : List Info → List ObjectId) (limit : Option ℕ) (walk : W) (old : Option (List ℕ)) (held : Held) (none : held.lines ≡ []) where
+      abbrev AddsLines : Result (Unit {0}) Fault → Option (List ℕ) → Held → Type 0
+      AddsLines = AddsBegun Steps Tells those limit form.Lines walk old held
+
+      abbrev WritesLines : Result (Unit {0}) Fault → Option (List ℕ) → Type 0
+      WritesLines = WritesBegun Steps Tells those limit form.Lines walk old
+
+      -- what was added goes on behind what is written
+      added_behind : {mid new : Option (List ℕ)} {holds : Held} (answer : Result (Unit {0}) Fault) (some more : List ℕ) → Adds Steps Tells those limit form.Lines walk old held answer mid holds → holds.lines ≡ some ++ more → Appends mid new some → WritesLines (Err fault.Write) new
+      added_behind {mid} {new} {holds} answer some more h whole a =
+          let start = Appends-trans old mid new h.takes.0 some h.takes.1 a in
+          cut {answer = answer} {full = append_known new more} (h.takes.0 ++ some) more (record {
+            infos = h.infos;
+            ends = h.ends;
+            writes = subst (Appends old (append_known new more)) (sym (ap (λ w. w ++ flat_map line_of (those h.infos)) (sym none) ∙ h.takes.2 ∙ ap (λ w. h.takes.0 ++ w) whole ∙ sym (append_assoc h.takes.0 some more)))
+                (Appends-trans old new (append_known new more) (h.takes.0 ++ some) more start (appends_behind new more));
+          }) start (appends_behind new more)
+
+      -- what was buffered was written
+      pub lines_written : {mid new : Option (List ℕ)} {holds : Held} {answer : Result (Unit {0}) Fault} → AddsLines answer mid holds → Appends mid new holds.lines → WritesLines answer new
+      lines_written {mid} {new} {holds} {answer} (added h) k = written (record {
+        infos = h.infos;
+        ends = h.ends;
+        writes = grows_end old mid new holds.lines (flat_map line_of (those h.infos)) (subst (λ (w : List ℕ). Grows old w mid holds.lines (flat_map line_of (those h.infos))) none h.takes) k;
+      })
+      lines_written {mid} {new} (broken_off more same empty h) k = added_behind (Err fault.Memory) [] more h refl (subst (Appends mid new) empty k)
+
+      -- the writer failed, and a beginning of what was buffered was written
+      pub lines_begun : {mid new : Option (List ℕ)} {holds : Held} {answer result : Result (Unit {0}) Fault} (e : Fault) → AddsLines answer mid holds → BreaksOff mid new holds.lines e → result ≡ Err e → WritesLines result new
+      lines_begun {mid} {new} {holds} {answer} {result} e h breaks same = subst (λ (r : Result (Unit {0}) Fault). WritesLines r new) (sym (same ∙ ap (λ f. Err f) breaks.0)) (go h breaks.1.2)
+        where
+          go : {answer : Result (Unit {0}) Fault} {holds : Held} → AddsLines answer mid holds → holds.lines ≡ breaks.1.0 ++ breaks.1.1 → WritesLines (Err fault.Write) new
+          go {answer} (added h) whole = added_behind answer breaks.1.0 breaks.1.1 h whole breaks.1.3
+          go (broken_off more same empty h) whole = added_behind (Err fault.Memory) [] more h refl (subst (Appends mid new) (none_before breaks.1.0 breaks.1.1 (sym whole ∙ empty)) breaks.1.3)
+
+    -- a list that is written at once, or whose number is
+    module _ (Tells : E → Fault → Type 0) (those : List Info → List ObjectId) (limit : Option ℕ) (by : Form) (other : by ≢ form.Lines) (walk : W) (old : Option (List ℕ)) (held : Held) where
+      -- nothing was written before
+      still : (by : Form) → by ≢ form.Lines → (ids : List ObjectId) (mid : Option (List ℕ)) (holds : Held) → Takes by old held ids mid holds → mid ≡ old
+      still form.Lines other ids mid holds takes = absurd (other refl)
+      still form.Count other ids mid holds takes = takes.0
+      still form.Reverse other ids mid holds takes = takes.0
+
+      writes_none : (by : Form) → by ≢ form.Lines → (e : Fault) (ids : List ObjectId) {mid : Option (List ℕ)} → mid ≡ old → Writes by (Err e) ids old mid
+      writes_none form.Lines other e ids is = absurd (other refl)
+      writes_none form.Count other e ids is = is
+      writes_none form.Reverse other e ids is = is
+
+      -- the walk failed
+      pub whole_failed : {mid : Option (List ℕ)} {holds : Held} {answer result : Result (Unit {0}) Fault} (e : Fault) → AddsBegun Steps Tells those limit by walk old held answer mid holds → answer ≡ Err e → result ≡ Err e → WritesBegun Steps Tells those limit by walk old result mid
+      whole_failed {mid} {holds} {answer} {result} e (added h) fails same = subst (λ (r : Result (Unit {0}) Fault). WritesBegun Steps Tells those limit by walk old r mid) (sym same) (written (record {
+        infos = h.infos;
+        ends = subst (EndsBy Steps Tells those limit walk h.infos) fails h.ends;
+        writes = writes_none by other e (those h.infos) (still by other (those h.infos) mid holds h.takes);
+      }))
+      whole_failed e (broken_off more lines empty h) fails same = absurd (other lines)
+
+      -- the walk ended, and what was asked for was written, or not
+      pub whole_written : {mid new : Option (List ℕ)} {holds : Held} (bytes : List ℕ) → AddsBegun Steps Tells those limit by walk old held (Ok tt) mid holds
+          → ((ids : List ObjectId) → Takes by old held ids mid holds → (full : Option (List ℕ)) → Appends old full bytes → Writes by (Ok tt) ids old full) → (result : Result (Unit {0}) Fault) → WritesWhole mid bytes result new → WritesBegun Steps Tells those limit by walk old result new
+      whole_written {mid} {new} {holds} bytes (added h) writes result whole = go result (subst (λ o. WritesWhole o bytes result new) (still by other (those h.infos) mid holds h.takes) whole)
+        where
+          all : (full : Option (List ℕ)) → Appends old full bytes → WritesAll Steps Tells those limit by walk old (Ok tt) full
+          all full a = record { infos = h.infos; ends = h.ends; writes = writes (those h.infos) h.takes full a }
+
+          go : (result : Result (Unit {0}) Fault) → WritesWhole old bytes result new → WritesBegun Steps Tells those limit by walk old result new
+          go (Ok done) a = written (all new a)
+          go (Err e) (inl (memory, same)) = subst (λ (o : Option (List ℕ)). WritesBegun Steps Tells those limit by walk old (Err e) o) (sym same) (subst (λ (f : Fault). WritesBegun Steps Tells those limit by walk old (Err f) old) (sym memory) unwritten)
+          go (Err e) (inr breaks) =
+              let full = append_known new breaks.1.1 in
+              subst (λ (f : Fault). WritesBegun Steps Tells those limit by walk old (Err f) new) (sym breaks.0)
+              (cut breaks.1.0 breaks.1.1 (all full (subst (Appends old full) (sym breaks.1.2) (Appends-trans old new full breaks.1.0 breaks.1.1 breaks.1.3 (appends_behind new breaks.1.1)))) breaks.1.3 (appends_behind new breaks.1.1))

@@ -120,5 +120,5 @@ module _ (objects : Objects) (i : ObjectId) (bytes : List ℕ) (at : page_object
 pub have_texts : (request : Request) (objects : Objects) → HaveTexts request (page_objects (readable (reads_all_lines request) objects))
 have_texts request objects = (
   not_empty (reads_all_lines request) objects,
-  λ by limit tips hidden is. subst (λ asked. AreCommits (page_objects (readable (reads_all_lines asked) objects))) (sym is) (λ i bytes at first. is_there objects i bytes at first),
+  λ by shown tips hidden is. subst (λ asked. AreCommits (page_objects (readable (reads_all_lines asked) objects))) (sym is) (λ i bytes at first. is_there objects i bytes at first),
 )

@@ -1,14 +1,13 @@
 -- What a run over objects and rows that agree with them has written is right in each history that has these objects, where what is said to
 -- be a commit has the text of one.
 use Rattle.std.proofs.Common.{◌≡◌, ◌≢◌, ℕ, List, [], ◌∷◌, Option, Some, Result, Ok, Err, Contains, codes, refl, sym, ap, subst, inl, ◌∙◌}
-use Rattle.gix_commands.proofs.Common.{get, kind_of, Parents, ReadsParents, IsCommitRead, IsReached, objects_of, plan_from, IsBuiltFrom, Appends, Contains-get_or, Contains-here, Contains-there, ObjectId, Objects, GraphRow, IsAgreeing, text_next, time_of, Fault, Simple, Topo, AreWhole, whole_from}
-use Rattle.gix_commands.proofs.Common.{not_listed, not_ahead, not_behind, not_joined, not_selected, unserved, Request, Commits, Files, Ahead, Contained, Bases, request_of}
+use Rattle.gix_commands.proofs.Common.{get, kind_of, Parents, ReadsParents, IsCommitRead, IsReached, objects_of, plan_from, IsBuiltFrom, Appends, Contains-get_or, Contains-here, Contains-there, ObjectId, Objects, GraphRow, IsAgreeing, text_next, time_of, Fault, Simple, Topo, AreWhole, whole_from, not_listed, not_ahead, not_behind, not_joined, not_reaching, not_selected, unserved, Request, Commits, Files, Ahead, Contained, Containing, Bases, request_of, Shown}
 use Rattle.gix_object.specs.CommitItems.{commit_items}
 use Rattle.gix_object.specs.declared.Kind.TheVariants as kind
 use Rattle.gix_revwalk.specs.declared.Parents.TheVariants as mode
 use Rattle.gix_simple.specs.declared.Sorting.{Sorting}
 use Rattle.gix_topo.specs.declared.Sorting.{Sorting as TopoSorting}
-use Rattle.gix_statement.proofs.InEach.{Each, ahead_each, bases_each, files_each}
+use Rattle.gix_statement.proofs.InEach.{Each, ahead_each, bases_each, containing_each, files_each}
 use Rattle.gix_statement.specs.WholeStatement.{IsThere, contains}
 use Rattle.gix_commands.specs.Pages.{HaveTexts, page_objects}
 use Rattle.gix_commands.specs.Run.{Serves, cut_off, misnamed}
@@ -16,6 +15,7 @@ use Rattle.gix_commands.specs.TopoWalked.{Walk as TopoWalk}
 use Rattle.gix_commands.proofs.AheadRuns.{counted_so, counted_whole}
 use Rattle.gix_commands.proofs.BasesRuns.{joined_so}
 use Rattle.gix_commands.proofs.ContainedRuns.{selected_so}
+use Rattle.gix_commands.proofs.ContainingRuns.{reaching_so}
 use Rattle.gix_commands.proofs.RightSimple.{simple_right}
 use Rattle.gix_commands.proofs.PageCommits.{all_there, fed_history, reached_there, whole_there}
 use Rattle.gix_commands.proofs.PageTexts.{scan_faultless, text_there}
@@ -24,6 +24,7 @@ use Rattle.gix_commands.proofs.Right.{IsRight, cut_right}
 use Rattle.gix_commands.proofs.SameCommits.{held}
 use Rattle.gix_commands.proofs.SameBases.{bases_so, one_there, others_there, rising_so}
 use Rattle.gix_commands.proofs.SameContained.{contained_kept}
+use Rattle.gix_commands.proofs.SameContaining.{containing_so, tips_there}
 use Rattle.gix_commands.proofs.SameLists.{id_lines, number_shown}
 use Rattle.gix_commands.proofs.SameWords.{AreWordsOf, are_words}
 use Rattle.gix_commands.proofs.TextNumbers.{number_by_texts}
@@ -83,6 +84,17 @@ module _ (objects : Objects) (rows : List GraphRow) (agrees : IsAgreeing objects
   contained_right words tip ids w (Err e) new unserved = inl refl
   contained_right words tip ids w (Err e) new (cut_off {answer = answer} {full = full} some more s a b) = cut_right (page_objects objects) words old answer full new some more (contained_right words tip ids w answer full s) a b
 
+  containing_right : (words : List (List ℕ)) (target : ObjectId) (tips : List ObjectId) → AreWordsOf words (Ok (Containing target tips)) → (answer : Result (Unit {0}) Fault) (new : Option (List ℕ)) → Serves objects rows old (Containing target tips) answer new → RightSo words answer new
+  containing_right words target tips (rest, is, are, some) (Ok tt) new s =
+      let c = reaching_so target tips objects rows agrees old new some s in
+      subst (EachSo new) (sym is)
+      (containing_each (page_objects objects) [] (text_next objects) (time_of objects) (fed_history objects) old new are some
+      (tips_there objects target tips c.2) (all_there objects (target ∷ tips) c.2)
+      (containing_so objects target tips c.2 c.0 c.1) (subst (Appends old new) (id_lines c.0) c.3))
+  containing_right words target tips w (Err e) new (not_reaching why f) = inl refl
+  containing_right words target tips w (Err e) new unserved = inl refl
+  containing_right words target tips w (Err e) new (cut_off {answer = answer} {full = full} some more s a b) = cut_right (page_objects objects) words old answer full new some more (containing_right words target tips w answer full s) a b
+
   bases_right : (words : List (List ℕ)) (one : ObjectId) (others : List ObjectId) → AreWordsOf words (Ok (Bases one others)) → (answer : Result (Unit {0}) Fault) (new : Option (List ℕ)) → Serves objects rows old (Bases one others) answer new → RightSo words answer new
   bases_right words one others (rest, is, tips, some) (Ok tt) new s =
       let c = joined_so one others objects rows agrees old new some s in
@@ -99,24 +111,25 @@ module _ (objects : Objects) (rows : List GraphRow) (agrees : IsAgreeing objects
     some_text : (i : ObjectId) (bytes : List ℕ) → get objects i ≡ Some (record { kind = kind.Commit; bytes = bytes }) → bytes ≢ []
     some_text i bytes at e = have.0 i (held objects i (record { kind = kind.Commit; bytes = bytes }) at ∙ ap (λ bs. Some (record { kind = codes "commit"; bytes = bs })) e)
 
-    pub simple_there : (m : Parents) (by : Sorting) (limit : Option ℕ) (tips hidden : List ObjectId) → request ≡ Commits (Simple m by) limit tips hidden → (i : ObjectId) → ReadsParents objects m i → IsThere (page_objects objects) [] i
-    simple_there mode.All by limit tips hidden is i r = text_there objects i r.bytes (some_text i r.bytes r.stored) r.stored r.unbroken
-    simple_there mode.First by limit tips hidden is i r = have.1 by limit tips hidden is i r.bytes (held objects i (record { kind = kind.Commit; bytes = r.bytes }) r.stored) r.unbroken
+    pub simple_there : (m : Parents) (by : Sorting) (shown : Shown) (tips hidden : List ObjectId) → request ≡ Commits (Simple m by) shown tips hidden → (i : ObjectId) → ReadsParents objects m i → IsThere (page_objects objects) [] i
+    simple_there mode.All by shown tips hidden is i r = text_there objects i r.bytes (some_text i r.bytes r.stored) r.stored r.unbroken
+    simple_there mode.First by shown tips hidden is i r = have.1 by shown tips hidden is i r.bytes (held objects i (record { kind = kind.Commit; bytes = r.bytes }) r.stored) r.unbroken
 
     pub down_there : (i : ObjectId) → IsCommitRead objects i → IsThere (page_objects objects) [] i
     down_there i c = text_there objects i c.bytes (some_text i c.bytes c.stored) c.stored (scan_faultless (commit_items (kind_of i) c.bytes) c.faultless)
 
   -- THE LAW
   right_of_words : (words : List (List ℕ)) (request : Request) → AreWordsOf words (Ok request) → HaveTexts request (page_objects objects) → (answer : Result (Unit {0}) Fault) (new : Option (List ℕ)) → Serves objects rows old request answer new → RightSo words answer new
-  right_of_words words (Commits (Simple m by) limit tips hidden) (name, option, behind, those, is, named, chosen, limits, ids, some) have answer new s =
+  right_of_words words (Commits (Simple m by) shown tips hidden) (name, option, rest, is, named, chosen, place, chooses, some) have answer new s =
       subst (λ asked. RightSo asked answer new) (sym is)
-      (simple_right objects rows agrees m by tips hidden some (simple_there (Commits (Simple m by) limit tips hidden) have m by limit tips hidden refl) old name option those named chosen ids behind limit limits answer new s)
-  right_of_words words (Commits (Topo by) limit tips ends) (name, option, behind, those, is, named, chosen, limits, ids, some) have answer new s =
+      (simple_right objects rows agrees m by tips hidden some (simple_there (Commits (Simple m by) shown tips hidden) have m by shown tips hidden refl) old name option rest named chosen shown place chooses answer new s)
+  right_of_words words (Commits (Topo by) shown tips ends) (name, option, rest, is, named, chosen, place, chooses, some) have answer new s =
       subst (λ asked. RightSo asked answer new) (sym is)
-      (topo_right objects rows agrees by tips ends some (down_there (Commits (Topo by) limit tips ends) have) (read by tips ends) old name option those named chosen ids limit behind limits answer new s)
+      (topo_right objects rows agrees by tips ends some (down_there (Commits (Topo by) shown tips ends) have) (read by tips ends) old name option rest named chosen shown place chooses answer new s)
   right_of_words words (Files ending tree) w have answer new s = files_right words ending tree w answer new s
   right_of_words words (Ahead one other) w have answer new s = ahead_right words one other w answer new s
   right_of_words words (Contained tip ids) w have answer new s = contained_right words tip ids w answer new s
+  right_of_words words (Containing target tips) w have answer new s = containing_right words target tips w answer new s
   right_of_words words (Bases one others) w have answer new s = bases_right words one others w answer new s
 
   pub right : (words : List (List ℕ)) (request : Request) → request_of words ≡ Ok request → HaveTexts request (page_objects objects) → (answer : Result (Unit {0}) Fault) (new : Option (List ℕ)) → Serves objects rows old request answer new → RightSo words answer new

@@ -1,7 +1,6 @@
 -- What a run may answer.
 use Rattle.std.proofs.Common.{◌≡◌, ◌≢◌, ℕ, List, [], ◌∷◌, Option, Some, None, Result, Ok, Err, refl, sym, subst, ap, ◌∙◌}
-use Rattle.gix_commands.proofs.Common.{Appends, lines_of, get, same_map, ObjectId, Object, Objects, id_total, id_apart, with_rows, GraphRow, IsAgreeing, none_agree, Info, Parents, Fault, Order, Simple, Topo, fault_of_records, fault_of_walk}
-use Rattle.gix_commands.proofs.Common.{fault_of_topo_walk, WritesAll, stored, walked, not_walked, walked_down, not_built, not_listed, counted, not_ahead, not_behind, selected, not_selected, joined, not_joined, unserved, Runs, without_memory, no_command}
+use Rattle.gix_commands.proofs.Common.{get, same_map, ObjectId, Object, Objects, id_total, id_apart, with_rows, GraphRow, IsAgreeing, none_agree, Info, Parents, Fault, Order, Simple, Topo, fault_of_records, fault_of_walk, fault_of_topo_walk, WritesAll, stored, walked, not_walked, walked_down, not_built, not_listed, counted, not_ahead, not_behind, selected, not_selected, reaching, not_reaching, joined, not_joined, unserved, Runs, without_memory, no_command, Shown, Writes, kept_in}
 use Rattle.gix_commands.proofs.Common.{not_read, bad_record, served, StartsFrom, FailsAtStart, IsStartFault, Ends, EndsBy, finished, cut_short, enough, before, Request, Commits, request_of, no_bad_record}
 use Rattle.std.specs.Option.{option_or}
 use Rattle.gix_graph_store.proofs.ToldObjects.{get-with_rows}
@@ -17,6 +16,7 @@ use Rattle.gix_records.specs.Reading as reading
 use Rattle.gix_records.specs.Records.{Record, AreRecords}
 use Rattle.gix_simple.specs.declared.Sorting.TheVariants as sorting
 use Rattle.gix_commands.specs.Checked.{CheckedWalk, Checks, first_lost}
+use Rattle.gix_commands.specs.Chosen.{Choosing, fresh_choosing}
 use Rattle.gix_commands.specs.Output as output
 use Rattle.gix_commands.specs.Output.{WritesBegun, cut}
 use Rattle.gix_commands.specs.Readable.{readable, reads_all_lines}
@@ -55,15 +55,15 @@ topo_ends_sound agreeing (finished new h) = λ e. cc
 topo_ends_sound {walk} agreeing (failed e f new h is) = λ same. drawn_sound walk new _ e agreeing h (sym is ∙ err_same same)
 topo_ends_sound agreeing (cut_short info new h) = λ e. cc
 
-by_sound : (limit : Option ℕ) (walk : Walk) (infos : List Info) {answer : Result (Unit {0}) Fault} → EndsBy Answers IsWalkFault limit walk infos answer → answer ≢ Err fault.Internal
-by_sound None walk infos ends = ends_sound ends
-by_sound (Some n) walk infos (enough at h e) = λ e. cc
-by_sound (Some n) walk infos (before ends less) = ends_sound ends
+by_sound : (those : List Info → List ObjectId) (limit : Option ℕ) (walk : Walk) (infos : List Info) {answer : Result (Unit {0}) Fault} → EndsBy Answers IsWalkFault those limit walk infos answer → answer ≢ Err fault.Internal
+by_sound those None walk infos ends = ends_sound ends
+by_sound those (Some n) walk infos (enough at h e) = λ e. cc
+by_sound those (Some n) walk infos (before ends less) = ends_sound ends
 
-topo_by_sound : (limit : Option ℕ) (walk : topo.Walk) (infos : List Info) {answer : Result (Unit {0}) Fault} → IsAgreeing walk.plan.store walk.plan.rows → EndsBy topo.Answers topo.IsWalkFault limit walk infos answer → answer ≢ Err fault.Internal
-topo_by_sound None walk infos agreeing ends = topo_ends_sound agreeing ends
-topo_by_sound (Some n) walk infos agreeing (enough at h e) = λ e. cc
-topo_by_sound (Some n) walk infos agreeing (before ends less) = topo_ends_sound agreeing ends
+topo_by_sound : (those : List Info → List ObjectId) (limit : Option ℕ) (walk : topo.Walk) (infos : List Info) {answer : Result (Unit {0}) Fault} → IsAgreeing walk.plan.store walk.plan.rows → EndsBy topo.Answers topo.IsWalkFault those limit walk infos answer → answer ≢ Err fault.Internal
+topo_by_sound those None walk infos agreeing ends = topo_ends_sound agreeing ends
+topo_by_sound those (Some n) walk infos agreeing (enough at h e) = λ e. cc
+topo_by_sound those (Some n) walk infos agreeing (before ends less) = topo_ends_sound agreeing ends
 
 lost_sound : (objects : Objects) (rows : List GraphRow) (ids : List ObjectId) (why : Fault) → (why ≢ fault.Memory → first_lost objects rows ids ≡ Some why) → why ≢ fault.Internal
 lost_sound objects rows ids why h same =
@@ -71,10 +71,10 @@ lost_sound objects rows ids why h same =
     lost_so (λ e. e ≢ fault.Internal) (λ i e. cc) (λ i e. cc) (λ e. cc) objects rows ids why (h (λ m. internal (sym same ∙ m))) same
 
 pub serves_sound : {objects : Objects} {rows : List GraphRow} {old new : Option (List ℕ)} {request : Request} {answer : Result (Unit {0}) Fault} → IsAgreeing objects rows → Serves objects rows old request answer new → answer ≢ Err fault.Internal
-serves_sound agreeing (walked {limit = limit} walk infos s ends whole a) = by_sound limit walk infos ends
+serves_sound {objects} agreeing (walked {shown = shown} walk infos s ends whole a) = by_sound (kept_in objects shown) shown.limit walk infos ends
 serves_sound {objects} {rows} agreeing (run.lost walk at infos {why = why} by s h more l a) = λ same. lost_sound objects rows l.last.parent_ids.items why l.lacks (err_same same)
 serves_sound agreeing (not_walked why f) = λ same. start_sound f (err_same same)
-serves_sound agreeing (walked_down {limit = limit} walk infos built ends a) = topo_by_sound limit walk infos (built_agreeing built agreeing) ends
+serves_sound {objects} agreeing (walked_down {shown = shown} walk infos built ends a) = topo_by_sound (kept_in objects shown) shown.limit walk infos (built_agreeing built agreeing) ends
 serves_sound {objects} {rows} agreeing (not_built {by = by} {tips = tips} {ends = ends} why h) = λ same. build_sound objects rows agreeing by tips ends why h (err_same same)
 serves_sound agreeing (listed recorder r n a) = λ e. cc
 serves_sound {objects} agreeing (not_listed recorder why r) = λ same. tree_sound objects r (err_same same)
@@ -84,6 +84,8 @@ serves_sound agreeing (not_ahead f) = ends_sound f.1.ends
 serves_sound agreeing (not_behind n a f) = ends_sound f.1.ends
 serves_sound agreeing (selected those s a) = λ e. cc
 serves_sound {objects} {rows} agreeing (not_selected {tip = tip} {ids = ids} why f) = λ same. contained_sound objects rows (tip ∷ []) ids why f (err_same same)
+serves_sound agreeing (reaching those f a) = λ e. cc
+serves_sound {objects} {rows} agreeing (not_reaching {target = target} {tips = tips} why f) = λ same. bases_sound objects rows agreeing target tips why f (err_same same)
 serves_sound agreeing (joined bases f a) = λ e. cc
 serves_sound {objects} {rows} agreeing (not_joined {one = one} {others = others} why f) = λ same. bases_sound objects rows agreeing one others why f (err_same same)
 serves_sound agreeing unserved = λ e. cc
@@ -127,45 +129,59 @@ module _ (words : List (List ℕ)) (has old : Option (List ℕ)) where
     pub runs_served : (result : Result (Unit {0}) Fault) → Serves (readable (reads_all_lines request) (with_rows [] objects)) [] old request result new → Runs words has old result new
     runs_served result s = served request read.0 read.1 t read.2 read.3 (subst (λ (o : Objects). Serves (readable (reads_all_lines request) o) [] old request result new) (without_rows objects ∙ read.4) s)
 
-module _ (objects : Objects) (rows : List GraphRow) (old : Option (List ℕ)) (order : Order) (limit : Option ℕ) (tips hidden : List ObjectId) where
-  -- the walk was drawn, and all of its lines were written or a beginning of them
-  module _ {W E : Type 0} (Steps : W → Option (Result Info E) → W → Type 0) (Tells : E → Fault → Type 0) (walk : W) (serves : (result : Result (Unit {0}) Fault) (new : Option (List ℕ)) → WritesAll Steps Tells limit walk old result new → Serves objects rows old (Commits order limit tips hidden) result new) where
-    serves_drawn : {result : Result (Unit {0}) Fault} {new : Option (List ℕ)} → WritesBegun Steps Tells limit walk old result new → Serves objects rows old (Commits order limit tips hidden) result new
+module _ (objects : Objects) (rows : List GraphRow) (old : Option (List ℕ)) (order : Order) (shown : Shown) (tips hidden : List ObjectId) where
+  -- the walk was drawn, and all that is asked for was written or a beginning of it
+  module _ {W E : Type 0} (Steps : W → Option (Result Info E) → W → Type 0) (Tells : E → Fault → Type 0) (walk : W) (serves : (result : Result (Unit {0}) Fault) (new : Option (List ℕ)) → WritesAll Steps Tells (kept_in objects shown) shown.limit shown.form walk old result new → Serves objects rows old (Commits order shown tips hidden) result new) where
+    serves_drawn : {result : Result (Unit {0}) Fault} {new : Option (List ℕ)} → WritesBegun Steps Tells (kept_in objects shown) shown.limit shown.form walk old result new → Serves objects rows old (Commits order shown tips hidden) result new
     serves_drawn {result} {new} (output.written w) = serves result new w
     serves_drawn (cut {answer = answer} {full = full} some more w a b) = cut_off some more (serves answer full w) a b
+    serves_drawn output.unwritten = unserved
 
-module _ (objects : Objects) (rows : List GraphRow) (old : Option (List ℕ)) (m : Parents) (by : Sorting) (limit : Option ℕ) (tips hidden : List ObjectId) where
+  -- by what a chooser has of its own
+  pub by_chooser : {W E : Type 0} (Steps : W → Option (Result Info E) → W → Type 0) (Tells : E → Fault → Type 0) (walk : W) (chooser : Choosing) → chooser ≡ fresh_choosing objects shown → {result : Result (Unit {0}) Fault} {new : Option (List ℕ)}
+      → WritesBegun Steps Tells (kept_in chooser.objects chooser.shown) chooser.shown.limit chooser.shown.form walk old result new → WritesBegun Steps Tells (kept_in objects shown) shown.limit shown.form walk old result new
+  by_chooser Steps Tells walk chooser is {result} {new} w = subst (λ (c : Choosing). WritesBegun Steps Tells (kept_in c.objects c.shown) c.shown.limit c.shown.form walk old result new) is w
+
+module _ (objects : Objects) (rows : List GraphRow) (old : Option (List ℕ)) (m : Parents) (by : Sorting) (shown : Shown) (tips hidden : List ObjectId) where
   -- breadth first
-  pub serves_walk : (new : Option (List ℕ)) (walk : Walk) → by ≡ sorting.BreadthFirst → StartsFrom objects rows m by tips hidden walk → (result : Result (Unit {0}) Fault) → WritesBegun Answers IsWalkFault limit walk old result new → Serves objects rows old (Commits (Simple m by) limit tips hidden) result new
-  serves_walk new walk breadth starts result = serves_drawn objects rows old (Simple m by) limit tips hidden Answers IsWalkFault walk (λ _ _ w. walked walk w.infos starts w.ends (λ other. absurd (other breadth)) w.appends)
+  pub serves_walk : (new : Option (List ℕ)) (walk : Walk) (chooser : Choosing) → chooser ≡ fresh_choosing objects shown → by ≡ sorting.BreadthFirst → StartsFrom objects rows m by tips hidden walk → (result : Result (Unit {0}) Fault)
+      → WritesBegun Answers IsWalkFault (kept_in chooser.objects chooser.shown) chooser.shown.limit chooser.shown.form walk old result new → Serves objects rows old (Commits (Simple m by) shown tips hidden) result new
+  serves_walk new walk chooser is breadth starts result w =
+      serves_drawn objects rows old (Simple m by) shown tips hidden Answers IsWalkFault walk (λ _ _ w. walked walk w.infos starts w.ends (λ other. absurd (other breadth)) w.writes)
+      (by_chooser objects rows old (Simple m by) shown tips hidden Answers IsWalkFault walk chooser is w)
 
   -- by time, by a checked walk
-  checked_so : (new : Option (List ℕ)) (walk : Walk) → by ≢ sorting.BreadthFirst → StartsFrom objects rows m by tips hidden walk → (infos : List Info) → Appends old new (lines_of infos) → {result : Result (Unit {0}) Fault} → IsChecked objects rows walk limit infos result → Serves objects rows old (Commits (Simple m by) limit tips hidden) result new
+  checked_so : (new : Option (List ℕ)) (walk : Walk) → by ≢ sorting.BreadthFirst → StartsFrom objects rows m by tips hidden walk → (infos : List Info) {result : Result (Unit {0}) Fault} → Writes shown.form result (kept_in objects shown infos) old new
+      → IsChecked objects rows (kept_in objects shown) walk shown.limit infos result → Serves objects rows old (Commits (Simple m by) shown tips hidden) result new
   checked_so new walk other starts infos written (well ends whole) = walked walk infos starts ends (λ _. whole) written
   checked_so new walk other starts infos written (lacking at h more l) = run.lost walk at infos other starts h more l written
 
-  pub serves_checked : (new : Option (List ℕ)) (walk : Walk) (checked : CheckedWalk) → checked ≡ record { walk = walk; objects = objects; rows = rows; lost = None } → by ≢ sorting.BreadthFirst → StartsFrom objects rows m by tips hidden walk
-      → (result : Result (Unit {0}) Fault) → WritesBegun Checks IsItself limit checked old result new → Serves objects rows old (Commits (Simple m by) limit tips hidden) result new
-  serves_checked _ walk checked is other starts _ = serves_drawn objects rows old (Simple m by) limit tips hidden Checks IsItself checked
-      (λ result new w. checked_so new walk other starts w.infos w.appends (from_by objects rows walk limit w.infos result (subst (λ c. EndsBy Checks IsItself limit c w.infos result) is w.ends)))
+  pub serves_checked : (new : Option (List ℕ)) (walk : Walk) (checked : CheckedWalk) (chooser : Choosing) → chooser ≡ fresh_choosing objects shown → checked ≡ record { walk = walk; objects = objects; rows = rows; lost = None } → by ≢ sorting.BreadthFirst → StartsFrom objects rows m by tips hidden walk
+      → (result : Result (Unit {0}) Fault) → WritesBegun Checks IsItself (kept_in chooser.objects chooser.shown) chooser.shown.limit chooser.shown.form checked old result new → Serves objects rows old (Commits (Simple m by) shown tips hidden) result new
+  serves_checked new walk checked chooser fresh is other starts result w = serves_drawn objects rows old (Simple m by) shown tips hidden Checks IsItself checked
+      (λ result new w. checked_so new walk other starts w.infos w.writes (from_by objects rows (kept_in objects shown) walk shown.limit w.infos result (subst (λ c. EndsBy Checks IsItself (kept_in objects shown) shown.limit c w.infos result) is w.ends)))
+      (by_chooser objects rows old (Simple m by) shown tips hidden Checks IsItself checked chooser fresh w)
 
-  not_started : (e : Fault) → (why : Error) × FailsAtStart objects by tips why × (e ≡ fault_of_walk why) → Serves objects rows old (Commits (Simple m by) limit tips hidden) (Err e) old
-  not_started e h = subst (λ (f : Fault). Serves objects rows old (Commits (Simple m by) limit tips hidden) (Err f) old) (sym h.2) (not_walked h.0 h.1)
+  not_started : (e : Fault) → (why : Error) × FailsAtStart objects by tips why × (e ≡ fault_of_walk why) → Serves objects rows old (Commits (Simple m by) shown tips hidden) (Err e) old
+  not_started e h = subst (λ (f : Fault). Serves objects rows old (Commits (Simple m by) shown tips hidden) (Err f) old) (sym h.2) (not_walked h.0 h.1)
 
   -- the walk couldn't start
-  pub serves_no_walk : (result : Result (Unit {0}) Fault) (e : Fault) → result ≡ Err e → IsStartFault objects by tips e → Serves objects rows old (Commits (Simple m by) limit tips hidden) result old
-  serves_no_walk result e same h = failed_so (λ r. Serves objects rows old (Commits (Simple m by) limit tips hidden) r old) unserved result e same (λ other. not_started e (h other))
+  pub serves_no_walk : (result : Result (Unit {0}) Fault) (e : Fault) → result ≡ Err e → IsStartFault objects by tips e → Serves objects rows old (Commits (Simple m by) shown tips hidden) result old
+  serves_no_walk result e same h = failed_so (λ r. Serves objects rows old (Commits (Simple m by) shown tips hidden) r old) unserved result e same (λ other. not_started e (h other))
 
-module _ (objects : Objects) (rows : List GraphRow) (old : Option (List ℕ)) (by : TopoSorting) (limit : Option ℕ) (tips ends : List ObjectId) where
-  pub serves_topo : (new : Option (List ℕ)) (walk : topo.Walk) → topo.IsBuiltFrom objects rows by tips ends (Ok walk) → (result : Result (Unit {0}) Fault) → WritesBegun topo.Answers topo.IsWalkFault limit walk old result new → Serves objects rows old (Commits (Topo by) limit tips ends) result new
-  serves_topo new walk built result = serves_drawn objects rows old (Topo by) limit tips ends topo.Answers topo.IsWalkFault walk (λ _ _ w. walked_down walk w.infos built w.ends w.appends)
+module _ (objects : Objects) (rows : List GraphRow) (old : Option (List ℕ)) (by : TopoSorting) (shown : Shown) (tips ends : List ObjectId) where
+  pub serves_topo : (new : Option (List ℕ)) (walk : topo.Walk) (chooser : Choosing) → chooser ≡ fresh_choosing objects shown → topo.IsBuiltFrom objects rows by tips ends (Ok walk) → (result : Result (Unit {0}) Fault)
+      → WritesBegun topo.Answers topo.IsWalkFault (kept_in chooser.objects chooser.shown) chooser.shown.limit chooser.shown.form walk old result new → Serves objects rows old (Commits (Topo by) shown tips ends) result new
+  serves_topo new walk chooser fresh built result w =
+      serves_drawn objects rows old (Topo by) shown tips ends topo.Answers topo.IsWalkFault walk (λ _ _ w. walked_down walk w.infos built w.ends w.writes)
+      (by_chooser objects rows old (Topo by) shown tips ends topo.Answers topo.IsWalkFault walk chooser fresh w)
 
-  topo_not_built : (e : Fault) → (why : TopoError) × topo.IsBuiltFrom objects rows by tips ends (Err why) × (e ≡ fault_of_topo_walk why) → Serves objects rows old (Commits (Topo by) limit tips ends) (Err e) old
-  topo_not_built e h = subst (λ (f : Fault). Serves objects rows old (Commits (Topo by) limit tips ends) (Err f) old) (sym h.2) (not_built h.0 h.1)
+  topo_not_built : (e : Fault) → (why : TopoError) × topo.IsBuiltFrom objects rows by tips ends (Err why) × (e ≡ fault_of_topo_walk why) → Serves objects rows old (Commits (Topo by) shown tips ends) (Err e) old
+  topo_not_built e h = subst (λ (f : Fault). Serves objects rows old (Commits (Topo by) shown tips ends) (Err f) old) (sym h.2) (not_built h.0 h.1)
 
   -- the walk couldn't be built
-  pub serves_no_topo : (result : Result (Unit {0}) Fault) (e : Fault) → result ≡ Err e → topo.IsStartFault objects rows by tips ends e → Serves objects rows old (Commits (Topo by) limit tips ends) result old
-  serves_no_topo result e same h = failed_so (λ r. Serves objects rows old (Commits (Topo by) limit tips ends) r old) unserved result e same (λ other. topo_not_built e (h other))
+  pub serves_no_topo : (result : Result (Unit {0}) Fault) (e : Fault) → result ≡ Err e → topo.IsStartFault objects rows by tips ends e → Serves objects rows old (Commits (Topo by) shown tips ends) result old
+  serves_no_topo result e same h = failed_so (λ r. Serves objects rows old (Commits (Topo by) shown tips ends) r old) unserved result e same (λ other. topo_not_built e (h other))
 
 -- words that are a command aren't rejected
 pub no_rejection : {command : Result Request Fault} {request : Request} {A : Type 0} → command ≡ Ok request → (e : Fault) → command ≡ Err e → A

@@ -1,7 +1,7 @@
 -- What is right of objects and rows is right of others that have all of their commits and trees.
 use Rattle.std.proofs.Common.{Bool, List, ◌∷◌, Option, All, ℕ, ℤ, ◌⊎◌, ⊎_elim, inl, inr}
 use Rattle.gix_hash.specs.declared.ObjectId.{ObjectId}
-use Rattle.gix_statement.specs.WholeStatement.{Objects, Row, Entry, IsCommit, IsThere, IsHistory, InEach, IsTree, Unfolds, whole, other, tree, Lists, lists, Serves, commits, ahead, contains, bases, files, HasBegun, IsCutOff}
+use Rattle.gix_statement.specs.WholeStatement.{Objects, Row, Entry, IsCommit, IsThere, IsHistory, InEach, IsTree, Unfolds, whole, other, tree, Lists, lists, Serves, commits, ahead, contains, containing, bases, files, HasBegun, IsCutOff}
 
 module _ (objects others : Objects) (rows those : List Row) (commit_on : (r : Row) → IsCommit objects rows r → IsCommit others those r)
     (tree_on : (i : ObjectId) (entries : List Entry) → IsTree objects i entries → IsTree others i entries) where
@@ -20,13 +20,14 @@ module _ (objects others : Objects) (rows those : List Row) (commit_on : (r : Ro
   history_on parents time h r c = h r (commit_on r c)
 
   module _ (parents : ObjectId → List ObjectId) (time : ObjectId → ℤ) where
-    pub lists_on : (ids : List ObjectId) (ended : Bool) (words : List (List ℕ)) → Lists objects rows parents time ids ended words → Lists others those parents time ids ended words
-    lists_on ids ended words (lists option limit tips named are some follows there begins allows all) = lists option limit tips named are some follows (all_on ids there) begins allows all
+    pub lists_on : (bytes : List ℕ) (ended : Bool) (words : List (List ℕ)) → Lists objects rows parents time bytes ended words → Lists others those parents time bytes ended words
+    lists_on bytes ended words (lists option more c ids named chooses some follows there begins allows all may is_written) = lists option more c ids named chooses some follows (all_on ids there) begins allows all may is_written
 
     serves_on : (old new : Option (List ℕ)) (words : List (List ℕ)) → Serves objects rows parents time old new words → Serves others those parents time old new words
     serves_on old new words (commits {words = those_words} ids l appends) = commits ids (lists_on ids _ those_words l) appends
     serves_on old new words (ahead {one = one} {other = two} n m a b one_there other_there ns ms appends) = ahead n m a b (there_on one one_there) (there_on two other_there) ns ms appends
     serves_on old new words (contains {tip = tip} {ids = ids} are some there keeps appends) = contains are some (all_on (tip ∷ ids) there) keeps appends
+    serves_on old new words (containing {target = target} {tips = tips} are some there keeps appends) = containing are some (all_on (target ∷ tips) there) keeps appends
     serves_on old new words (bases {one = one} {others = ids} those are some there exact rising appends) = bases those are some (all_on (one ∷ ids) there) exact rising appends
     serves_on old new words (files option a {tree = i} {entries = entries} ends spells is unfolds appends) = files option a ends spells (tree_on i entries is) (unfolds_on unfolds) appends
 

@@ -1,17 +1,22 @@
 -- What words ask for is what the statement says that they ask for.
-use Rattle.std.proofs.Common.{◌≡◌, ◌≢◌, ◌⊎◌, ◌+◌, ◌==◌, ◌||◌, ◌&&◌, nat_lt, nat_le, length, ℕ, ℤ, pos, List, [], ◌∷◌, ◌++◌, Bool, true, false, cond, Option, Some, None, Result, Ok, Err, codes, bytes_eq, refl, sym, ap, subst, ◌∙◌, inl}
+use Rattle.std.proofs.Common.{arith, int_le, ◌<◌, ◌≤◌, ◌≡◌, ◌≢◌, ◌⊎◌, ◌+◌, ◌==◌, ◌||◌, ◌&&◌, nat_lt, nat_le, length, ℕ, ℤ, pos, List, [], ◌∷◌, ◌++◌, Bool, true, false, cond, Option, Some, None, Result, Ok, Err, codes, bytes_eq, refl, sym, ap, subst, ◌∙◌, inl}
 use Rattle.std.proofs.Common.{inr, eqb-true, ltb-true, leb-true}
 use Rattle.std.specs.List.{list_all}
-use Rattle.gix_commands.proofs.Common.{false≢true, ObjectId, HexError, id_from_hex, Fault, Order, Simple, Topo, Request, Commits, Files, Ahead, Contained, Bases, Ranked, Ids, begins_with_caret, without_caret, is_shown, with_id, with_word, ids_from}
-use Rattle.gix_commands.proofs.Common.{number_in, order_named, commits_from, commits_of, limited_of, listed_of, chosen_of, since_of, by_first_parents, in_order_of, file_of, files_from, files_of, ahead_from, ahead_of, asked, several_among}
-use Rattle.gix_commands.proofs.Common.{several_from, several_of, request_named, request_of, recent_of, by_cutoff, IsNumber, Spells, AreTips, digits_in}
+use Rattle.gix_commands.proofs.Common.{false≢true, ObjectId, HexError, id_from_hex, Fault, Order, Simple, Topo, Request, Commits, Files, Ahead, Contained, Containing, Bases, Ranked, Ids, begins_with_caret, begins_with_sign, without_caret, is_shown, with_id, with_word, ids_from, number_in, order_named, limited_of, listed_of, chosen_of, since_of, by_first_parents, in_order_of, file_of, files_from, files_of, ahead_from, ahead_of, asked, several_among, several_from, several_of, request_named, request_of, recent_of, by_cutoff, IsNumber, Spells, AreTips, digits_in, Asked, Shown, chosen_from, commits_in, formed_of, limit_by, merges_of, plain_of, skip_by, until_by, until_of, with_form, with_limit, with_merges, with_skip, with_until, page_choice}
 use Rattle.std.proofs.lemmas.Slice.Eq.{bytes_eq-Decides}
 use Rattle.gix_records.specs.Decimal.{digits_behind}
 use Rattle.gix_revwalk.specs.declared.CommitTimeOrder.TheVariants as order
 use Rattle.gix_revwalk.specs.declared.Parents.TheVariants as mode
 use Rattle.gix_simple.specs.declared.Sorting.TheVariants as sorting
 use Rattle.gix_topo.specs.declared.Sorting.TheVariants as topo
+use Rattle.gix_statement.specs.WholeStatement as page
+use Rattle.gix_statement.specs.WholeStatement.{Chooses}
+use Rattle.gix_words.specs.Words.{limit_from, skip_from, skipped_of, until_from}
 use Rattle.gix_words.specs.declared.fault.Fault.TheVariants as fault
+use Rattle.gix_words.specs.declared.words.Form.TheVariants as form
+use Rattle.gix_words.specs.declared.words.Merges.{Merges}
+use Rattle.gix_words.specs.declared.words.Merges.TheVariants as merges
+use Rattle.gix_commands.specs.Chosen.{kept_of, kept_until, page_form}
 use Rattle.gix_commands.proofs.SameNumbers.{decimal_digits, hex_spelled}
 
 -- the name of an order
@@ -124,11 +129,6 @@ all_hidden [] tips hidden h e = refl
 all_hidden (word ∷ words) tips hidden (inl (i, rest, is, s, h)) e = let no : [] ≡ i ∷ rest = sym e ∙ is in cc
 all_hidden (word ∷ words) tips hidden (inr (i, rest, is, id, begins, s, h)) e = ap (λ w. begins_with_caret w && list_all begins_with_caret words) begins ∙ all_hidden words tips rest h e
 
--- ids, or ids behind `-n` and a number
-abbrev pub AreBehind : Option ℕ → List (List ℕ) → List (List ℕ) → Type 0
-AreBehind None words ids = words ≡ ids
-AreBehind (Some n) words ids = (number : List ℕ) × IsNumber 10 9 number n × (words ≡ codes "-n" ∷ number ∷ ids)
-
 pub is_number : (most : ℕ) (text : List ℕ) (n : ℕ) → number_in most text ≡ Some n → IsNumber 10 most text n
 is_number most text n e = go (nat_lt 0 (length text)) (nat_le (length text) most) refl refl e
   where
@@ -144,43 +144,186 @@ IsEndedBy option ending = ((option ≡ []) × (ending ≡ 10)) ⊎ ((option ≡ 
 -- what the words of a request are
 abbrev pub AreWordsOf : List (List ℕ) → Result Request Fault → Type 0
 AreWordsOf words (Err e) = Unit {0}
-AreWordsOf words (Ok (Commits by limit tips hidden)) =
-    (name : List ℕ) × (option rest ids : List (List ℕ)) × (words ≡ name ∷ (option ++ rest)) × IsNameOf name by × IsOptionOf option by
-    × AreBehind limit rest ids × AreTips ids tips hidden × (tips ≢ [])
+AreWordsOf words (Ok (Commits by shown tips hidden)) =
+    (name : List ℕ) × (option rest : List (List ℕ)) × (words ≡ name ∷ (option ++ rest)) × IsNameOf name by × IsOptionOf option by
+    × (place : ℕ) × Chooses tips hidden place rest (page_choice shown) × (tips ≢ [])
 AreWordsOf words (Ok (Files ending tree)) =
     (option : List (List ℕ)) × (text : List ℕ) × IsEndedBy option ending × (words ≡ codes "files" ∷ (option ++ text ∷ [])) × Spells (digits_in tree) text tree
 AreWordsOf words (Ok (Ahead one other)) = (a b : List ℕ) × (words ≡ codes "ahead" ∷ a ∷ b ∷ []) × Spells (digits_in one) a one × Spells (digits_in other) b other
 AreWordsOf words (Ok (Contained tip ids)) = (rest : List (List ℕ)) × (words ≡ codes "contains" ∷ rest) × AreTips rest (tip ∷ ids) [] × (ids ≢ [])
+AreWordsOf words (Ok (Containing target tips)) = (rest : List (List ℕ)) × (words ≡ codes "containing" ∷ rest) × AreTips rest (target ∷ tips) [] × (tips ≢ [])
 AreWordsOf words (Ok (Bases one others)) = (rest : List (List ℕ)) × (words ≡ codes "merge-base" ∷ rest) × AreTips rest (one ∷ others) [] × (others ≢ [])
+
+-- what words choose, from a place on: nothing that has its place before
+abbrev AreChosen : ℕ → List (List ℕ) → Result Asked Fault → Type 0
+AreChosen lowest words (Err e) = Unit {0}
+AreChosen lowest words (Ok a) =
+    (place : ℕ) × Chooses a.tips a.hidden place words (page_choice a.shown) × (lowest ≤ place) × (a.tips ≢ [])
+    × (0 < lowest → a.shown.until ≡ None) × (1 < lowest → a.shown.merges ≡ merges.Any)
+
+from_lower : (lowest lower : ℕ) → lower ≤ lowest → (words : List (List ℕ)) (r : Result Asked Fault) → AreChosen lowest words r → AreChosen lower words r
+from_lower lowest lower l words (Err e) h = tt
+from_lower lowest lower l words (Ok a) (place, chooses, late, some, ever, all) = (place, chooses, omega (arith, l, late), some, (λ k. ever (omega (arith, k, l))), λ k. all (omega (arith, k, l)))
+
+is_word : (word other : List ℕ) → bytes_eq word other ≡ true → word ≡ other
+is_word word other e = (bytes_eq-Decides word other).0 e
+
+plain_are : (n : ℕ) (words : List (List ℕ)) → AreChosen 5 words (plain_of n words)
+plain_are n words = go (list_all begins_with_caret words) refl
+  where
+    from : (r : Result Ids Fault) → list_all begins_with_caret words ≡ false → AreIdsOf words r → AreChosen 5 words (chosen_from r)
+    from (Err e) some h = tt
+    from (Ok ids) some h = (5, page.everything h, omega arith, (λ e. false≢true (sym some ∙ all_hidden words ids.0 ids.1 h e)), (λ k. refl), λ k. refl)
+
+    go : (t : Bool) → list_all begins_with_caret words ≡ t → AreChosen 5 words (cond t (Err fault.Usage) (chosen_from (ids_from n words)))
+    go true e = tt
+    go false e = from (ids_from n words) e (ids_are n words)
+
+formed_are : (n : ℕ) (words : List (List ℕ)) → AreChosen 4 words (formed_of n words)
+formed_are n [] = tt
+formed_are n (option ∷ words) = first (bytes_eq option (codes "--count")) refl
+  where
+    counts : (r : Result Asked Fault) → AreChosen 5 words r → AreChosen 4 (codes "--count" ∷ words) (with_form form.Count r)
+    counts (Err e) h = tt
+    counts (Ok a) (place, chooses, late, some, ever, all) = (4, page.counted (omega (arith, late)) chooses, omega arith, some, (λ k. ever (omega arith)), λ k. all (omega arith))
+
+    turns : (r : Result Asked Fault) → AreChosen 5 words r → AreChosen 4 (codes "--reverse" ∷ words) (with_form form.Reverse r)
+    turns (Err e) h = tt
+    turns (Ok a) (place, chooses, late, some, ever, all) = (4, page.reversed (omega (arith, late)) chooses, omega arith, some, (λ k. ever (omega arith)), λ k. all (omega arith))
+
+    second : (t : Bool) → bytes_eq option (codes "--reverse") ≡ t → AreChosen 4 (option ∷ words) (cond t (with_form form.Reverse (plain_of (n + 1) words)) (plain_of n (option ∷ words)))
+    second true e = subst (λ w. AreChosen 4 (w ∷ words) (with_form form.Reverse (plain_of (n + 1) words))) (sym (is_word option (codes "--reverse") e)) (turns (plain_of (n + 1) words) (plain_are (n + 1) words))
+    second false e = from_lower 5 4 (omega arith) (option ∷ words) (plain_of n (option ∷ words)) (plain_are n (option ∷ words))
+
+    first : (t : Bool) → bytes_eq option (codes "--count") ≡ t → AreChosen 4 (option ∷ words) (cond t (with_form form.Count (plain_of (n + 1) words)) (cond (bytes_eq option (codes "--reverse")) (with_form form.Reverse (plain_of (n + 1) words)) (plain_of n (option ∷ words))))
+    first true e = subst (λ w. AreChosen 4 (w ∷ words) (with_form form.Count (plain_of (n + 1) words))) (sym (is_word option (codes "--count") e)) (counts (plain_of (n + 1) words) (plain_are (n + 1) words))
+    first false e = second (bytes_eq option (codes "--reverse")) refl
+
+limited_are : (n : ℕ) (words : List (List ℕ)) → AreChosen 3 words (limited_of n words)
+limited_are n [] = tt
+limited_are n (option ∷ words) = first (bytes_eq option (codes "-n")) refl
+  where
+    one_more : (number : List ℕ) (rest : List (List ℕ)) (most : ℕ) → IsNumber 10 9 number most → (r : Result Asked Fault) → AreChosen 4 rest r → AreChosen 3 (codes "-n" ∷ number ∷ rest) (with_limit most r)
+    one_more number rest most is (Err e) h = tt
+    one_more number rest most is (Ok a) (place, chooses, late, some, ever, all) = (3, page.at_most most is (omega (arith, late)) chooses, omega arith, some, (λ k. ever (omega arith)), λ k. all (omega arith))
+
+    by_number : (number : List ℕ) (rest : List (List ℕ)) (o : Option ℕ) → number_in 9 number ≡ o → AreChosen 3 (codes "-n" ∷ number ∷ rest) (limit_by o (n + 2) rest)
+    by_number number rest None e = tt
+    by_number number rest (Some most) e = one_more number rest most (is_number 9 number most e) (formed_of (n + 2) rest) (formed_are (n + 2) rest)
+
+    behind : (words : List (List ℕ)) → AreChosen 3 (codes "-n" ∷ words) (limit_from n words)
+    behind [] = tt
+    behind (number ∷ rest) = by_number number rest (number_in 9 number) refl
+
+    first : (t : Bool) → bytes_eq option (codes "-n") ≡ t → AreChosen 3 (option ∷ words) (cond t (limit_from n words) (formed_of n (option ∷ words)))
+    first true e = subst (λ w. AreChosen 3 (w ∷ words) (limit_from n words)) (sym (is_word option (codes "-n") e)) (behind words)
+    first false e = from_lower 4 3 (omega arith) (option ∷ words) (formed_of n (option ∷ words)) (formed_are n (option ∷ words))
+
+skipped_are : (n : ℕ) (words : List (List ℕ)) → AreChosen 2 words (skipped_of n words)
+unfolding skipped_of
+skipped_are n [] = tt
+skipped_are n (option ∷ words) = first (bytes_eq option (codes "--skip")) refl
+  where
+    one_more : (number : List ℕ) (rest : List (List ℕ)) (least : ℕ) → IsNumber 10 9 number least → (r : Result Asked Fault) → AreChosen 3 rest r → AreChosen 2 (codes "--skip" ∷ number ∷ rest) (with_skip least r)
+    one_more number rest least is (Err e) h = tt
+    one_more number rest least is (Ok a) (place, chooses, late, some, ever, all) = (2, page.skip least is (omega (arith, late)) chooses, omega arith, some, (λ k. ever (omega arith)), λ k. all (omega arith))
+
+    by_number : (number : List ℕ) (rest : List (List ℕ)) (o : Option ℕ) → number_in 9 number ≡ o → AreChosen 2 (codes "--skip" ∷ number ∷ rest) (skip_by o (n + 2) rest)
+    by_number number rest None e = tt
+    by_number number rest (Some least) e = one_more number rest least (is_number 9 number least e) (limited_of (n + 2) rest) (limited_are (n + 2) rest)
+
+    behind : (words : List (List ℕ)) → AreChosen 2 (codes "--skip" ∷ words) (skip_from n words)
+    behind [] = tt
+    behind (number ∷ rest) = by_number number rest (number_in 9 number) refl
+
+    first : (t : Bool) → bytes_eq option (codes "--skip") ≡ t → AreChosen 2 (option ∷ words) (cond t (skip_from n words) (limited_of n (option ∷ words)))
+    first true e = subst (λ w. AreChosen 2 (w ∷ words) (skip_from n words)) (sym (is_word option (codes "--skip") e)) (behind words)
+    first false e = from_lower 3 2 (omega arith) (option ∷ words) (limited_of n (option ∷ words)) (limited_are n (option ∷ words))
+
+merges_are : (n : ℕ) (words : List (List ℕ)) → AreChosen 1 words (merges_of n words)
+merges_are n [] = tt
+merges_are n (option ∷ words) = first (bytes_eq option (codes "--merges")) refl
+  where
+    kept_by : Shown → (ℕ → Bool) → Option ℤ → Merges → page.Choice
+    kept_by shown test ever all = record { keeps = λ parents time. test parents && kept_until ever time (kept_of all parents true); skip = shown.skip; limit = shown.limit; form = page_form shown.form }
+
+    kept_so : Shown → (ℕ → Bool) → Option ℤ → page.Choice
+    kept_so shown test ever = record { keeps = λ parents time. kept_until ever time (test parents && true); skip = shown.skip; limit = shown.limit; form = page_form shown.form }
+
+    same : (shown : Shown) (test : ℕ → Bool) → shown.until ≡ None → shown.merges ≡ merges.Any → kept_by shown test shown.until shown.merges ≡ kept_so shown test shown.until
+    same shown test ever all = (λ k. kept_by shown test (ever k) (all k)) ∙ sym (λ k. kept_so shown test (ever k))
+
+    only : (r : Result Asked Fault) → AreChosen 2 words r → AreChosen 1 (codes "--merges" ∷ words) (with_merges merges.Only r)
+    only (Err e) h = tt
+    only (Ok a) (place, chooses, late, some, ever, all) = (
+      1,
+      subst (Chooses a.tips a.hidden 1 (codes "--merges" ∷ words)) (same a.shown (λ parents. nat_lt 1 parents) (ever (omega arith)) (all (omega arith))) (page.merges (omega (arith, late)) chooses),
+      omega arith,
+      some,
+      (λ k. ever (omega arith)),
+      λ k. absurd (omega (arith, k)),
+    )
+
+    none : (r : Result Asked Fault) → AreChosen 2 words r → AreChosen 1 (codes "--no-merges" ∷ words) (with_merges merges.No r)
+    none (Err e) h = tt
+    none (Ok a) (place, chooses, late, some, ever, all) = (
+      1,
+      subst (Chooses a.tips a.hidden 1 (codes "--no-merges" ∷ words)) (same a.shown (λ parents. nat_le parents 1) (ever (omega arith)) (all (omega arith))) (page.no_merges (omega (arith, late)) chooses),
+      omega arith,
+      some,
+      (λ k. ever (omega arith)),
+      λ k. absurd (omega (arith, k)),
+    )
+
+    second : (t : Bool) → bytes_eq option (codes "--no-merges") ≡ t → AreChosen 1 (option ∷ words) (cond t (with_merges merges.No (skipped_of (n + 1) words)) (skipped_of n (option ∷ words)))
+    second true e = subst (λ w. AreChosen 1 (w ∷ words) (with_merges merges.No (skipped_of (n + 1) words))) (sym (is_word option (codes "--no-merges") e)) (none (skipped_of (n + 1) words) (skipped_are (n + 1) words))
+    second false e = from_lower 2 1 (omega arith) (option ∷ words) (skipped_of n (option ∷ words)) (skipped_are n (option ∷ words))
+
+    first : (t : Bool) → bytes_eq option (codes "--merges") ≡ t → AreChosen 1 (option ∷ words) (cond t (with_merges merges.Only (skipped_of (n + 1) words)) (cond (bytes_eq option (codes "--no-merges")) (with_merges merges.No (skipped_of (n + 1) words)) (skipped_of n (option ∷ words))))
+    first true e = subst (λ w. AreChosen 1 (w ∷ words) (with_merges merges.Only (skipped_of (n + 1) words))) (sym (is_word option (codes "--merges") e)) (only (skipped_of (n + 1) words) (skipped_are (n + 1) words))
+    first false e = second (bytes_eq option (codes "--no-merges")) refl
+
+until_are : (n : ℕ) (words : List (List ℕ)) → AreChosen 0 words (until_of n words)
+until_are n [] = tt
+until_are n (option ∷ words) = first (bytes_eq option (codes "--until")) refl
+  where
+    kept_by : Shown → ℕ → Option ℤ → page.Choice
+    kept_by shown seconds ever = record { keeps = λ parents time. int_le time (pos seconds) && kept_until ever time (kept_of shown.merges parents true); skip = shown.skip; limit = shown.limit; form = page_form shown.form }
+
+    one_more : (number : List ℕ) (rest : List (List ℕ)) (seconds : ℕ) → IsNumber 10 10 number seconds → (r : Result Asked Fault) → AreChosen 1 rest r → AreChosen 0 (codes "--until" ∷ number ∷ rest) (with_until (pos seconds) r)
+    one_more number rest seconds is (Err e) h = tt
+    one_more number rest seconds is (Ok a) (place, chooses, late, some, ever, all) = (
+      0,
+      subst (Chooses a.tips a.hidden 0 (codes "--until" ∷ number ∷ rest)) (λ k. kept_by a.shown seconds (ever (omega arith) k)) (page.until seconds is (omega (arith, late)) chooses),
+      omega arith,
+      some,
+      (λ k. absurd (omega (arith, k))),
+      λ k. absurd (omega (arith, k)),
+    )
+
+    by_number : (number : List ℕ) (rest : List (List ℕ)) (o : Option ℕ) → number_in 10 number ≡ o → AreChosen 0 (codes "--until" ∷ number ∷ rest) (until_by o (n + 2) rest)
+    by_number number rest None e = tt
+    by_number number rest (Some seconds) e = one_more number rest seconds (is_number 10 number seconds e) (merges_of (n + 2) rest) (merges_are (n + 2) rest)
+
+    behind : (words : List (List ℕ)) → AreChosen 0 (codes "--until" ∷ words) (until_from n words)
+    behind [] = tt
+    behind (number ∷ rest) = by_number number rest (number_in 10 number) refl
+
+    first : (t : Bool) → bytes_eq option (codes "--until") ≡ t → AreChosen 0 (option ∷ words) (cond t (until_from n words) (merges_of n (option ∷ words)))
+    first true e = subst (λ w. AreChosen 0 (w ∷ words) (until_from n words)) (sym (is_word option (codes "--until") e)) (behind words)
+    first false e = from_lower 1 0 (omega arith) (option ∷ words) (merges_of n (option ∷ words)) (merges_are n (option ∷ words))
 
 -- what is so of words behind a name and an option
 module _ (name : List ℕ) (option : List (List ℕ)) where
   abbrev AreWordsBehind : List (List ℕ) → Result Request Fault → Type 0
   AreWordsBehind words = AreWordsOf (name ∷ (option ++ words))
 
-  commits_are : (by : Order) (limit : Option ℕ) (n : ℕ) (words rest : List (List ℕ)) → IsNameOf name by → IsOptionOf option by → AreBehind limit words rest → AreWordsBehind words (commits_of by limit n rest)
-  commits_are by limit n words rest named chosen behind = go (list_all begins_with_caret rest) refl
-    where
-      from : (r : Result Ids Fault) → list_all begins_with_caret rest ≡ false → AreIdsOf rest r → AreWordsBehind words (commits_from by limit r)
-      from (Err e) some h = tt
-      from (Ok ids) some h = (name, option, words, rest, refl, named, chosen, behind, h, λ e. false≢true (sym some ∙ all_hidden rest ids.0 ids.1 h e))
-
-      go : (t : Bool) → list_all begins_with_caret rest ≡ t → AreWordsBehind words (cond t (Err fault.Usage) (commits_from by limit (ids_from n rest)))
-      go true e = tt
-      go false e = from (ids_from n rest) e (ids_are n rest)
-
   listed_are : (by : Order) (n : ℕ) (words : List (List ℕ)) → IsNameOf name by → IsOptionOf option by → AreWordsBehind words (listed_of by n words)
-  listed_are by n [] named chosen = commits_are by None n [] [] named chosen refl
-  listed_are by n (id ∷ []) named chosen = commits_are by None n (id ∷ []) (id ∷ []) named chosen refl
-  listed_are by n (word ∷ number ∷ ids) named chosen = go (bytes_eq word (codes "-n")) refl
+  listed_are by n words named chosen = go (until_of n words) (until_are n words)
     where
-      from : (limit : Option ℕ) → number_in 9 number ≡ limit → word ≡ codes "-n" → AreWordsBehind (word ∷ number ∷ ids) (limited_of by limit (n + 2) ids)
-      from (Some most) e is = commits_are by (Some most) (n + 2) (word ∷ number ∷ ids) ids named chosen (number, is_number 9 number most e, ap (λ w. w ∷ number ∷ ids) is)
-      from None e is = tt
-
-      go : (t : Bool) → bytes_eq word (codes "-n") ≡ t → AreWordsBehind (word ∷ number ∷ ids) (cond t (limited_of by (number_in 9 number) (n + 2) ids) (commits_of by None n (word ∷ number ∷ ids)))
-      go true e = from (number_in 9 number) refl ((bytes_eq-Decides word (codes "-n")).0 e)
-      go false e = commits_are by None n (word ∷ number ∷ ids) (word ∷ number ∷ ids) named chosen refl
+      go : (r : Result Asked Fault) → AreChosen 0 words r → AreWordsBehind words (commits_in by r)
+      go (Err e) h = tt
+      go (Ok a) (place, chooses, late, some, ever, all) = (name, option, words, refl, named, chosen, place, chooses, some)
 
   chosen_are : (o : Option Order) (n : ℕ) (words : List (List ℕ)) → IsChosenWith name option o → AreWordsBehind words (chosen_of o n words)
   chosen_are (Some by) n words h = listed_are by n words h.0 h.1
@@ -210,7 +353,7 @@ in_order_are name by (option ∷ words) named plain = first (bytes_eq option (co
     first false e = second (bytes_eq option (codes "--since")) refl
 
 file_is : (option : List (List ℕ)) (ending n : ℕ) (text : List ℕ) → IsEndedBy option ending → AreWordsOf (codes "files" ∷ (option ++ text ∷ [])) (file_of ending n text)
-file_is option ending n text ends = go (begins_with_caret text)
+file_is option ending n text ends = go (begins_with_sign text)
   where
     from : (r : Result ObjectId HexError) → id_from_hex text ≡ r → AreWordsOf (codes "files" ∷ (option ++ text ∷ [])) (files_from ending n r)
     from (Ok i) e = (option, text, ends, refl, hex_spelled text i e)
@@ -234,7 +377,7 @@ ahead_are : (rest : List (List ℕ)) → AreWordsOf (codes "ahead" ∷ rest) (ah
 ahead_are [] = tt
 ahead_are (a ∷ []) = tt
 ahead_are (a ∷ b ∷ next ∷ rest) = tt
-ahead_are (a ∷ b ∷ []) = go (begins_with_caret a || begins_with_caret b)
+ahead_are (a ∷ b ∷ []) = go (begins_with_sign a || begins_with_sign b)
   where
     from : (r s : Result ObjectId HexError) → id_from_hex a ≡ r → id_from_hex b ≡ s → AreWordsOf (codes "ahead" ∷ a ∷ b ∷ []) (ahead_from r s)
     from (Ok i) (Ok j) e f = (a, b, refl, hex_spelled a i e, hex_spelled b j f)
@@ -293,6 +436,9 @@ asked_are words rest asks each (Err e) h = tt
 contained_are : (rest : List (List ℕ)) → AreWordsOf (codes "contains" ∷ rest) (asked Contained (several_of rest))
 contained_are rest = asked_are (codes "contains" ∷ rest) rest Contained (λ i ids are some. (rest, refl, are, some)) (several_of rest) (several_are rest)
 
+containing_are : (rest : List (List ℕ)) → AreWordsOf (codes "containing" ∷ rest) (asked Containing (several_of rest))
+containing_are rest = asked_are (codes "containing" ∷ rest) rest Containing (λ i ids are some. (rest, refl, are, some)) (several_of rest) (several_are rest)
+
 bases_are : (rest : List (List ℕ)) → AreWordsOf (codes "merge-base" ∷ rest) (asked Bases (several_of rest))
 bases_are rest = asked_are (codes "merge-base" ∷ rest) rest Bases (λ i ids are some. (rest, refl, are, some)) (several_of rest) (several_are rest)
 
@@ -300,8 +446,11 @@ bases_are rest = asked_are (codes "merge-base" ∷ rest) rest Bases (λ i ids ar
 abbrev asked_jointly : List ℕ → List (List ℕ) → Result Request Fault
 asked_jointly name rest = cond (bytes_eq name (codes "merge-base")) (asked Bases (several_of rest)) (Err fault.Usage)
 
+abbrev asked_above : List ℕ → List (List ℕ) → Result Request Fault
+asked_above name rest = cond (bytes_eq name (codes "containing")) (asked Containing (several_of rest)) (asked_jointly name rest)
+
 abbrev asked_about : List ℕ → List (List ℕ) → Result Request Fault
-asked_about name rest = cond (bytes_eq name (codes "contains")) (asked Contained (several_of rest)) (asked_jointly name rest)
+asked_about name rest = cond (bytes_eq name (codes "contains")) (asked Contained (several_of rest)) (asked_above name rest)
 
 named_are : (name : List ℕ) (o : Option Order) (rest : List (List ℕ)) → IsChosenBy name o → AreWordsOf (name ∷ rest) (request_named name o rest)
 named_are name (Some by) rest h = in_order_are name by rest h.0 h.1
@@ -311,9 +460,13 @@ named_are name None rest h = files (bytes_eq name (codes "files")) refl
     bases true e = subst (λ word. AreWordsOf (word ∷ rest) (asked Bases (several_of rest))) (sym ((bytes_eq-Decides name (codes "merge-base")).0 e)) (bases_are rest)
     bases false e = tt
 
-    contained : (t : Bool) → bytes_eq name (codes "contains") ≡ t → AreWordsOf (name ∷ rest) (cond t (asked Contained (several_of rest)) (asked_jointly name rest))
+    containing : (t : Bool) → bytes_eq name (codes "containing") ≡ t → AreWordsOf (name ∷ rest) (cond t (asked Containing (several_of rest)) (asked_jointly name rest))
+    containing true e = subst (λ word. AreWordsOf (word ∷ rest) (asked Containing (several_of rest))) (sym ((bytes_eq-Decides name (codes "containing")).0 e)) (containing_are rest)
+    containing false e = bases (bytes_eq name (codes "merge-base")) refl
+
+    contained : (t : Bool) → bytes_eq name (codes "contains") ≡ t → AreWordsOf (name ∷ rest) (cond t (asked Contained (several_of rest)) (asked_above name rest))
     contained true e = subst (λ word. AreWordsOf (word ∷ rest) (asked Contained (several_of rest))) (sym ((bytes_eq-Decides name (codes "contains")).0 e)) (contained_are rest)
-    contained false e = bases (bytes_eq name (codes "merge-base")) refl
+    contained false e = containing (bytes_eq name (codes "containing")) refl
 
     ahead : (t : Bool) → bytes_eq name (codes "ahead") ≡ t → AreWordsOf (name ∷ rest) (cond t (ahead_of rest) (asked_about name rest))
     ahead true e = subst (λ word. AreWordsOf (word ∷ rest) (ahead_of rest)) (sym ((bytes_eq-Decides name (codes "ahead")).0 e)) (ahead_are rest)

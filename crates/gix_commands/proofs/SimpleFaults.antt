@@ -1,6 +1,6 @@
 -- A simple walk that reaches whole commits alone fails for memory alone.
 use Rattle.std.proofs.Common.{◌≡◌, ◌≢◌, ℕ, ℤ, List, [], ◌∷◌, ◌++◌, ◌⊎◌, Bool, false, true, Option, Some, None, Result, Ok, Err, Contains, refl, sym, ap, subst, ◌∙◌, ⊎_elim}
-use Rattle.gix_commands.proofs.Common.{Yields, Contains-append_left, Contains-append_right, Contains-append_cases, ObjectId, read_commit, IsExistingFault, kind_of, Objects, GraphRow, row_of, IsAgreeing, among_is, Contains-here}
+use Rattle.gix_commands.proofs.Common.{kept_in, Shown, EndsBy, Yields, Contains-append_left, Contains-append_right, Contains-append_cases, ObjectId, read_commit, IsExistingFault, kind_of, Objects, GraphRow, row_of, IsAgreeing, among_is, Contains-here}
 use Rattle.gix_commands.proofs.Common.{by_mode, Contains-there, Contains-cons_cases, no_member, Info, Parents, Pending, ReadsWhole, commit_at, commit_of_object, parents_in, parents_of, step, Treated, Enqueues, dropped, enqueued}
 use Rattle.gix_commands.proofs.Common.{Treats, hidden, known, accepted, store_fails, no_memory_after, TreatsAll, none, more, stops, Concludes, broken, Takes, by_row, by_store, Chooses, Steps, took, FirstStep, unhidden, paints}
 use Rattle.gix_commands.proofs.Common.{faulty_history, initial, later, unrowed, ids_of, scan_is, no_fault, row_parents, walked_within, none_agree, kept_either, Fault, Simple, fault_of_walk, AreWhole, EndsWell, IsOutside, SimpleSucceeds}
@@ -203,16 +203,19 @@ module _ (objects : Objects) (tips hiders : List ObjectId) (whole : AreWhole obj
       go error.Memory h = tt
 
 module _ (objects : Objects) (rows : List GraphRow) (agreeing : IsAgreeing objects rows) (old : Option (List ℕ)) where
-  pub well : (ms : Parents) (by : Sorting) (limit : Option ℕ) (tips hiders : List ObjectId) → AreWhole objects (tips ++ hiders) → (answer : Result (Unit {0}) Fault) (new : Option (List ℕ)) → Serves objects rows old (Commits (Simple ms by) limit tips hiders) answer new → EndsWell answer
-  well ms by None tips hiders whole answer new (walked walk infos starts ends parents written) = drawn_well objects tips hiders whole rows agreeing ms by walk starts infos answer ends
-  well ms by (Some n) tips hiders whole answer new (walked walk infos starts (enough at h e) parents written) = tt
-  well ms by (Some n) tips hiders whole answer new (walked walk infos starts (before ends less) parents written) = drawn_well objects tips hiders whole rows agreeing ms by walk starts infos answer ends
-  well ms by limit tips hiders whole answer new (run.lost walk at infos {why = why} other starts h less l written) =
+  pub well : (ms : Parents) (by : Sorting) (shown : Shown) (tips hiders : List ObjectId) → AreWhole objects (tips ++ hiders) → (answer : Result (Unit {0}) Fault) (new : Option (List ℕ)) → Serves objects rows old (Commits (Simple ms by) shown tips hiders) answer new → EndsWell answer
+  well ms by shown tips hiders whole answer new (walked walk infos starts ends parents written) = go shown.limit answer ends
+    where
+      go : (limit : Option ℕ) (answer : Result (Unit {0}) Fault) → EndsBy Answers IsWalkFault (kept_in objects shown) limit walk infos answer → EndsWell answer
+      go None answer ends = drawn_well objects tips hiders whole rows agreeing ms by walk starts infos answer ends
+      go (Some n) answer (enough at h e) = tt
+      go (Some n) answer (before ends less) = drawn_well objects tips hiders whole rows agreeing ms by walk starts infos answer ends
+  well ms by shown tips hiders whole answer new (run.lost walk at infos {why = why} other starts h less l written) =
       let last : Contains infos l.last = subst (λ xs. Contains xs l.last) (sym l.place) (Contains-append_right l.before (l.last ∷ []) l.last (Contains-here l.last [])) in
       failed_so EndsWell tt (Err why) why refl (λ not_memory. let no : None ≡ Some why = sym (none_lost objects tips hiders whole rows agreeing ms by walk starts infos at h l.last last) ∙ l.lacks not_memory in cc)
-  well ms by limit tips hiders whole answer new (not_walked e f) = started_well objects tips hiders whole by e f
-  well ms by limit tips hiders whole answer new unserved = tt
-  well ms by limit tips hiders whole answer new (cut_off some behind s a b) = tt
+  well ms by shown tips hiders whole answer new (not_walked e f) = started_well objects tips hiders whole by e f
+  well ms by shown tips hiders whole answer new unserved = tt
+  well ms by shown tips hiders whole answer new (cut_off some behind s a b) = tt
 
   pub ahead_well : (one other : ObjectId) → AreWhole objects (one ∷ other ∷ []) → (answer : Result (Unit {0}) Fault) (new : Option (List ℕ)) → Serves objects rows old (Ahead one other) answer new → EndsWell answer
   ahead_well one other whole answer new (counted ahead behind a b written) = tt
@@ -225,8 +228,8 @@ module _ (objects : Objects) (rows : List GraphRow) (agreeing : IsAgreeing objec
   ahead_well one other whole answer new (cut_off some behind s a b) = tt
 
 pub simple_succeeds : SimpleSucceeds
-simple_succeeds words input records ms by limit tips hiders answer old new asked are whole runs =
-    ends_well words input records (Commits (Simple ms by) limit tips hiders) answer old new asked are (well (readable (is_first ms) (stored records)) [] (none_agree (readable (is_first ms) (stored records)) [] refl) old ms by limit tips hiders (readable_whole (is_first ms) (stored records) (tips ++ hiders) whole)) runs
+simple_succeeds words input records ms by shown tips hiders answer old new asked are whole runs =
+    ends_well words input records (Commits (Simple ms by) shown tips hiders) answer old new asked are (well (readable (is_first ms) (stored records)) [] (none_agree (readable (is_first ms) (stored records)) [] refl) old ms by shown tips hiders (readable_whole (is_first ms) (stored records) (tips ++ hiders) whole)) runs
 
 pub ahead_succeeds : AheadSucceeds
 ahead_succeeds words input records one other answer old new asked are whole runs = ends_well words input records (Ahead one other) answer old new asked are (ahead_well (readable false (stored records)) [] (none_agree (readable false (stored records)) [] refl) old one other (readable_whole false (stored records) (one ∷ other ∷ []) whole)) runs

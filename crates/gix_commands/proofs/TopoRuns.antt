@@ -1,6 +1,6 @@
 -- What a run of `topo` or `date` writes, by what commits reach.
 use Rattle.std.proofs.Common.{◌≡◌, ℕ, List, [], ◌∷◌, ◌++◌, map, filter, false, true, Option, Some, None, Result, Ok, Err, Contains, IsSome, refl, sym, ap, subst, ⊎_elim, ◌∙◌}
-use Rattle.gix_commands.proofs.Common.{Yields, Contains-append_left, Contains-append_right, ObjectId, IsExistingFault, id_cmp, Objects, GraphRow, Info, Commit, commit_at}
+use Rattle.gix_commands.proofs.Common.{kept_in, Shown, EndsBy, Yields, Contains-append_left, Contains-append_right, ObjectId, IsExistingFault, id_cmp, Objects, GraphRow, Info, Commit, commit_at}
 use Rattle.gix_commands.proofs.Common.{parents_in, parents_of, text_next, step, no_member, Contains-cons_cases, TopoPlan, IsCommitRead, IsReached, IsFault, IsFirstReady, IsNextReady, IsAgreeing, none_agree, Fault, Topo}
 use Rattle.gix_commands.proofs.Common.{fault_of_topo_walk, AreWhole, TopoSucceeds, EndsWell, IsOutside, stored, walked_down, not_built, unserved, IsBuiltFrom}
 use Rattle.gix_commands.proofs.Common.{plan_from, Ends, finished, cut_short, enough, before, objects_of, never_faulty, accepts_all, Commits, whole_from, reach_more}
@@ -101,13 +101,16 @@ module _ (objects : Objects) (rows : List GraphRow) (agree : IsAgreeing objects 
     drawn_outside infos answer (cut_short info new h) = tt
 
   module _ (old : Option (List ℕ)) where
-    pub well : (limit : Option ℕ) (answer : Result (Unit {0}) Fault) (new : Option (List ℕ)) → Serves objects rows old (Commits (Topo by) limit tips ends) answer new → EndsWell answer
-    well None answer new (walked_down walk infos built ends written) = drawn_outside walk built infos answer ends
-    well (Some n) answer new (walked_down walk infos built (enough at h e) written) = tt
-    well (Some n) answer new (walked_down walk infos built (before ends less) written) = drawn_outside walk built infos answer ends
-    well limit answer new (not_built e h) = outside (IsFirstReady objects_of (plan_from objects rows by tips ends)) e h.1
-    well limit answer new unserved = tt
-    well limit answer new (cut_off some more s a b) = tt
+    pub well : (shown : Shown) (answer : Result (Unit {0}) Fault) (new : Option (List ℕ)) → Serves objects rows old (Commits (Topo by) shown tips ends) answer new → EndsWell answer
+    well shown answer new (walked_down walk infos built drawn written) = go shown.limit answer drawn
+      where
+        go : (limit : Option ℕ) (answer : Result (Unit {0}) Fault) → EndsBy Answers IsWalkFault (kept_in objects shown) limit walk infos answer → EndsWell answer
+        go None answer drawn = drawn_outside walk built infos answer drawn
+        go (Some n) answer (enough at h e) = tt
+        go (Some n) answer (before drawn less) = drawn_outside walk built infos answer drawn
+    well shown answer new (not_built e h) = outside (IsFirstReady objects_of (plan_from objects rows by tips ends)) e h.1
+    well shown answer new unserved = tt
+    well shown answer new (cut_off some more s a b) = tt
 
 pub named_whole : (objects : Objects) (c i : ObjectId) → Contains (parents_of objects c) i → IsSome (commit_at objects c)
 named_whole objects c i n = go (commit_at objects c) n
@@ -122,5 +125,5 @@ module _ (objects : Objects) (by : Sorting) (tips ends : List ObjectId) where
   was_read walk built = subst (λ plan. plan.rows ≡ [] → (i : ObjectId) → IsReached objects_of plan i → IsCommitRead plan.store i) built.0.plan built.1.read refl
 
 pub topo_succeeds : TopoSucceeds
-topo_succeeds words input records by limit tips ends answer old new asked are whole runs =
-    ends_well words input records (Commits (Topo by) limit tips ends) answer old new asked are (well (readable false (stored records)) [] (none_agree (readable false (stored records)) [] refl) by tips ends (readable_whole false (stored records) (tips ++ ends) whole) old limit) runs
+topo_succeeds words input records by shown tips ends answer old new asked are whole runs =
+    ends_well words input records (Commits (Topo by) shown tips ends) answer old new asked are (well (readable false (stored records)) [] (none_agree (readable false (stored records)) [] refl) by tips ends (readable_whole false (stored records) (tips ++ ends) whole) old shown) runs

@@ -1,7 +1,6 @@
 -- Which faults walks may have, and commands that are served.
 use Rattle.std.proofs.Common.{◌≡◌, ◌≢◌, ℕ, List, Option, None, Some, Result, Ok, Err, refl, sym, ap, subst, inl, inr, ◌∙◌}
-use Rattle.gix_commands.proofs.Common.{ObjectId, GraphRow, Objects, Info, Fault, fault_of_find, fault_of_walk, fault_of_topo_walk, fault_of_bases, fault_of_contained, fault_of_tree_walk, walked, not_walked, walked_down, not_built, not_listed, counted, not_ahead}
-use Rattle.gix_commands.proofs.Common.{not_behind, selected, not_selected, joined, not_joined, unserved, Ends, EndsBy, finished, cut_short, enough, before, Request}
+use Rattle.gix_commands.proofs.Common.{ObjectId, GraphRow, Objects, Info, Fault, fault_of_find, fault_of_walk, fault_of_topo_walk, fault_of_bases, fault_of_contained, fault_of_tree_walk, walked, not_walked, walked_down, not_built, not_listed, counted, not_ahead, not_behind, selected, not_selected, reaching, not_reaching, joined, not_joined, unserved, Ends, EndsBy, finished, cut_short, enough, before, Request, kept_in}
 use Rattle.gix_contained.specs.declared.Error.{Error as ContainedError}
 use Rattle.gix_contained.specs.declared.Error.TheVariants as contained_error
 use Rattle.gix_merge_base.specs.declared.Error.{Error as BasesError}
@@ -90,11 +89,11 @@ ends_of_walk tells (finished new h) = tt
 ends_of_walk tells (failed e f new h is) = tells e f is
 ends_of_walk tells (cut_short info new h) = tt
 
-by_of_walk : {W E : Type 0} (Steps : W → Option (Result Info E) → W → Type 0) (Tells : E → Fault → Type 0) (limit : Option ℕ) (walk : W) (infos : List Info) (answer : Result (Unit {0}) Fault)
-    → ((e : E) (f : Fault) → Tells e f → IsOfWalk f) → EndsBy Steps Tells limit walk infos answer → OfWalk answer
-by_of_walk Steps Tells None walk infos answer tells ends = ends_of_walk tells ends
-by_of_walk Steps Tells (Some n) walk infos _ tells (enough at h e) = tt
-by_of_walk Steps Tells (Some n) walk infos answer tells (before ends less) = ends_of_walk tells ends
+by_of_walk : {W E : Type 0} (Steps : W → Option (Result Info E) → W → Type 0) (Tells : E → Fault → Type 0) (those : List Info → List ObjectId) (limit : Option ℕ) (walk : W) (infos : List Info) (answer : Result (Unit {0}) Fault)
+    → ((e : E) (f : Fault) → Tells e f → IsOfWalk f) → EndsBy Steps Tells those limit walk infos answer → OfWalk answer
+by_of_walk Steps Tells those None walk infos answer tells ends = ends_of_walk tells ends
+by_of_walk Steps Tells those (Some n) walk infos _ tells (enough at h e) = tt
+by_of_walk Steps Tells those (Some n) walk infos answer tells (before ends less) = ends_of_walk tells ends
 
 simple_tells : (e : Error) (f : Fault) → IsWalkFault e f → IsOfWalk f
 simple_tells e f is = subst IsOfWalk (sym is) (simple_of_walk e)
@@ -106,10 +105,10 @@ lost_of_walk : (objects : Objects) (rows : List GraphRow) (ids : List ObjectId) 
 lost_of_walk objects rows ids why h = failed_so OfWalk tt (Err why) why refl (λ other. lost_so IsOfWalk (λ i. tt) (λ i. tt) tt objects rows ids why (h other))
 
 pub serves_of_walk : {objects : Objects} {rows : List GraphRow} {old new : Option (List ℕ)} {request : Request} {answer : Result (Unit {0}) Fault} → Serves objects rows old request answer new → OfWalk answer
-serves_of_walk (walked {limit = limit} walk infos s ends whole a) = by_of_walk Answers IsWalkFault limit walk infos _ simple_tells ends
+serves_of_walk {objects} (walked {shown = shown} walk infos s ends whole a) = by_of_walk Answers IsWalkFault (kept_in objects shown) shown.limit walk infos _ simple_tells ends
 serves_of_walk {objects} {rows} (run.lost walk at infos {why = why} by s h more l a) = lost_of_walk objects rows l.last.parent_ids.items why l.lacks
 serves_of_walk (not_walked why f) = simple_of_walk why
-serves_of_walk (walked_down {limit = limit} walk infos built ends a) = by_of_walk topo.Answers topo.IsWalkFault limit walk infos _ topo_tells ends
+serves_of_walk {objects} (walked_down {shown = shown} walk infos built ends a) = by_of_walk topo.Answers topo.IsWalkFault (kept_in objects shown) shown.limit walk infos _ topo_tells ends
 serves_of_walk (not_built why h) = topo_of_walk why
 serves_of_walk (listed recorder r n a) = tt
 serves_of_walk (not_listed recorder why r) = tree_of_walk why
@@ -119,6 +118,8 @@ serves_of_walk (not_ahead f) = ends_of_walk simple_tells f.1.ends
 serves_of_walk (not_behind n a f) = ends_of_walk simple_tells f.1.ends
 serves_of_walk (selected those s a) = tt
 serves_of_walk (not_selected why f) = contained_of_walk why
+serves_of_walk (reaching those f a) = tt
+serves_of_walk (not_reaching why f) = bases_of_walk why
 serves_of_walk (joined bases f a) = tt
 serves_of_walk (not_joined why f) = bases_of_walk why
 serves_of_walk unserved = tt

@@ -1,10 +1,12 @@
 -- What is so of each request that words spell, and which faults words may have.
 use Rattle.std.proofs.Common.{ℕ, ◌+◌, pos, List, [], ◌∷◌, Bool, true, false, ◌||◌, Option, Some, None, Result, Ok, Err, codes, bytes_eq, cond}
 use Rattle.std.specs.List.{list_all}
-use Rattle.gix_commands.proofs.Common.{ObjectId, HexError, id_from_hex, Fault, Order, Request, Files, Ahead, Contained, Bases, Ranked, Ids, begins_with_caret, without_caret, is_shown, with_id, with_word, ids_from, number_in, order_named, commits_from}
-use Rattle.gix_commands.proofs.Common.{commits_of, limited_of, listed_of, chosen_of, recent_of, since_of, by_cutoff, in_order_of, file_of, files_from, files_of, ahead_from, ahead_of, asked, several_among, several_from, several_of}
+use Rattle.gix_commands.proofs.Common.{ObjectId, HexError, id_from_hex, Fault, Order, Request, Files, Ahead, Contained, Containing, Bases, Ids, begins_with_caret, begins_with_sign, without_caret, is_shown, with_id, with_word, ids_from, number_in, order_named, limited_of, listed_of, chosen_of, recent_of, since_of, by_cutoff, in_order_of, file_of, files_from, files_of, ahead_from, ahead_of, asked, several_among, several_from, several_of, Asked, chosen_from, commits_in, formed_of, limit_by, merges_of, plain_of, skip_by, until_by, until_of, with_form, with_limit, with_merges, with_skip, with_until}
 use Rattle.gix_commands.proofs.Common.{request_named, request_of, by_first_parents}
+use Rattle.gix_words.specs.Words.{limit_from, skip_from, skipped_of, until_from}
 use Rattle.gix_words.specs.declared.fault.Fault.TheVariants as fault
+use Rattle.gix_words.specs.declared.words.Form.TheVariants as form
+use Rattle.gix_words.specs.declared.words.Merges.TheVariants as merges
 
 -- what is so of ids, and of a word that spells none, is so of what words spell
 with_each : (Q : Result Ids Fault → Type 0) (ids_so : (ids : Ids) → Q (Ok ids)) (no_id : (n : ℕ) → Q (Err (fault.Id n))) (hidden : Bool) (n : ℕ) (r : Result ObjectId HexError) (rest : Result Ids Fault) → Q rest → Q (with_word hidden n r rest)
@@ -17,8 +19,8 @@ each_ids Q ids_so no_id n [] = ids_so ([], [])
 each_ids Q ids_so no_id n (word ∷ words) =
     with_each Q ids_so no_id (begins_with_caret word) n (id_from_hex (without_caret word)) (ids_from (n + 1) words) (each_ids Q ids_so no_id (n + 1) words)
 
--- what is so of a wrong use, of a word that spells no id, of a tree, of two commits to compare, of a tip and ids behind it and of what an order's words ask for
-module _ (P : Result Request Fault → Type 0) (usage : P (Err fault.Usage)) (no_id : (n : ℕ) → P (Err (fault.Id n))) (tree : (ending : ℕ) (i : ObjectId) → P (Ok (Files ending i))) (pair : (i j : ObjectId) → P (Ok (Ahead i j))) (some : (i : ObjectId) (ids : List ObjectId) → P (Ok (Contained i ids))) (joint : (i : ObjectId) (ids : List ObjectId) → P (Ok (Bases i ids))) where
+-- what is so of a wrong use, of a word that spells no id, of a tree, of two commits to compare, of an id and ids behind it and of what an order's words ask for
+module _ (P : Result Request Fault → Type 0) (usage : P (Err fault.Usage)) (no_id : (n : ℕ) → P (Err (fault.Id n))) (tree : (ending : ℕ) (i : ObjectId) → P (Ok (Files ending i))) (pair : (i j : ObjectId) → P (Ok (Ahead i j))) (some : (i : ObjectId) (ids : List ObjectId) → P (Ok (Contained i ids))) (above : (i : ObjectId) (ids : List ObjectId) → P (Ok (Containing i ids))) (joint : (i : ObjectId) (ids : List ObjectId) → P (Ok (Bases i ids))) where
   either : (t : Bool) (a b : Result Request Fault) → P a → P b → P (cond t a b)
   either true a b h k = h
   either false a b h k = k
@@ -28,7 +30,7 @@ module _ (P : Result Request Fault → Type 0) (usage : P (Err fault.Usage)) (no
   from_id ending n (Err e) = no_id n
 
   from_tree : (ending n : ℕ) (id : List ℕ) → P (file_of ending n id)
-  from_tree ending n id = either (begins_with_caret id) (Err fault.Usage) (files_from ending n (id_from_hex id)) usage (from_id ending n (id_from_hex id))
+  from_tree ending n id = either (begins_with_sign id) (Err fault.Usage) (files_from ending n (id_from_hex id)) usage (from_id ending n (id_from_hex id))
 
   from_trees : (ids : List (List ℕ)) → P (files_of ids)
   from_trees [] = usage
@@ -44,7 +46,7 @@ module _ (P : Result Request Fault → Type 0) (usage : P (Err fault.Usage)) (no
   from_pairs : (ids : List (List ℕ)) → P (ahead_of ids)
   from_pairs [] = usage
   from_pairs (one ∷ []) = usage
-  from_pairs (one ∷ other ∷ []) = either (begins_with_caret one || begins_with_caret other) (Err fault.Usage) (ahead_from (id_from_hex one) (id_from_hex other)) usage (from_pair (id_from_hex one) (id_from_hex other))
+  from_pairs (one ∷ other ∷ []) = either (begins_with_sign one || begins_with_sign other) (Err fault.Usage) (ahead_from (id_from_hex one) (id_from_hex other)) usage (from_pair (id_from_hex one) (id_from_hex other))
   from_pairs (one ∷ other ∷ next ∷ ids) = usage
 
   module _ (asks : ObjectId → List ObjectId → Request) (each : (i : ObjectId) (ids : List ObjectId) → P (Ok (asks i ids))) where
@@ -62,20 +64,7 @@ module _ (P : Result Request Fault → Type 0) (usage : P (Err fault.Usage)) (no
     from_somes (i ∷ next ∷ ids) =
         from_several (list_all is_shown (i ∷ next ∷ ids)) (ids_from 2 (i ∷ next ∷ ids)) (each_ids (λ r. P (asked asks (several_from r))) (λ those. from_some those.0) no_id 2 (i ∷ next ∷ ids))
 
-  module _ (h : (by : Order) (limit : Option ℕ) (n : ℕ) (ids : List (List ℕ)) → P (commits_from by limit (ids_from n ids))) where
-    from_ids : (by : Order) (limit : Option ℕ) (n : ℕ) (ids : List (List ℕ)) → P (commits_of by limit n ids)
-    from_ids by limit n ids = either (list_all begins_with_caret ids) (Err fault.Usage) (commits_from by limit (ids_from n ids)) usage (h by limit n ids)
-
-    from_limit : (by : Order) (limit : Option ℕ) (n : ℕ) (ids : List (List ℕ)) → P (limited_of by limit n ids)
-    from_limit by (Some limit) n ids = from_ids by (Some limit) n ids
-    from_limit by None n ids = usage
-
-    from_list : (by : Order) (n : ℕ) (words : List (List ℕ)) → P (listed_of by n words)
-    from_list by n [] = from_ids by None n []
-    from_list by n (id ∷ []) = from_ids by None n (id ∷ [])
-    from_list by n (option ∷ limit ∷ ids) =
-        either (bytes_eq option (codes "-n")) (limited_of by (number_in 9 limit) (n + 2) ids) (commits_of by None n (option ∷ limit ∷ ids)) (from_limit by (number_in 9 limit) (n + 2) ids) (from_ids by None n (option ∷ limit ∷ ids))
-
+  module _ (from_list : (by : Order) (n : ℕ) (words : List (List ℕ)) → P (listed_of by n words)) where
     from_choice : (o : Option Order) (n : ℕ) (words : List (List ℕ)) → P (chosen_of o n words)
     from_choice (Some by) n words = from_list by n words
     from_choice None n words = usage
@@ -97,7 +86,8 @@ module _ (P : Result Request Fault → Type 0) (usage : P (Err fault.Usage)) (no
     from_name : (name : List ℕ) (o : Option Order) (ids : List (List ℕ)) → P (request_named name o ids)
     from_name name (Some by) ids = from_order by ids
     from_name name None ids = either (bytes_eq name (codes "files")) (files_of ids) _ (from_trees ids) (either (bytes_eq name (codes "ahead")) (ahead_of ids) _ (from_pairs ids) (either (bytes_eq name (codes "contains")) (asked Contained (several_of ids)) _ (from_somes Contained some ids)
-        (either (bytes_eq name (codes "merge-base")) (asked Bases (several_of ids)) (Err fault.Usage) (from_somes Bases joint ids) usage)))
+        (either (bytes_eq name (codes "containing")) (asked Containing (several_of ids)) _ (from_somes Containing above ids)
+        (either (bytes_eq name (codes "merge-base")) (asked Bases (several_of ids)) (Err fault.Usage) (from_somes Bases joint ids) usage))))
 
     -- is so of each request
     pub each_request : (words : List (List ℕ)) → P (request_of words)
@@ -134,9 +124,77 @@ ids_words : (n : ℕ) (words : List (List ℕ)) → OfWords (ids_from n words)
 ids_words n [] = tt
 ids_words n (word ∷ words) = with_words (begins_with_caret word) n (id_from_hex (without_caret word)) (ids_from (n + 1) words) (ids_words (n + 1) words)
 
-commits_words : (by : Order) (limit : Option ℕ) (r : Result Ids Fault) → OfWords r → OfWords (commits_from by limit r)
-commits_words by limit (Ok ids) h = tt
-commits_words by limit (Err e) h = h
+-- what words choose
+either_words : {X : Type 0} (t : Bool) (a b : Result X Fault) → OfWords a → OfWords b → OfWords (cond t a b)
+either_words true a b h k = h
+either_words false a b h k = k
+
+with_words_of : (f : Result Asked Fault → Result Asked Fault) → ((a : Asked) → OfWords (f (Ok a))) → ((e : Fault) → IsOfWords e → OfWords (f (Err e))) → (r : Result Asked Fault) → OfWords r → OfWords (f r)
+with_words_of f ok err (Ok a) h = ok a
+with_words_of f ok err (Err e) h = err e h
+
+chosen_words : (r : Result Ids Fault) → OfWords r → OfWords (chosen_from r)
+chosen_words (Ok ids) h = tt
+chosen_words (Err e) h = h
+
+plain_words : (n : ℕ) (words : List (List ℕ)) → OfWords (plain_of n words)
+plain_words n words = either_words (list_all begins_with_caret words) (Err fault.Usage) (chosen_from (ids_from n words)) tt (chosen_words (ids_from n words) (ids_words n words))
+
+formed_words : (n : ℕ) (words : List (List ℕ)) → OfWords (formed_of n words)
+formed_words n [] = tt
+formed_words n (option ∷ words) =
+    either_words (bytes_eq option (codes "--count")) (with_form form.Count (plain_of (n + 1) words)) _ (with_words_of (with_form form.Count) (λ a. tt) (λ e h. h) (plain_of (n + 1) words) (plain_words (n + 1) words))
+    (either_words (bytes_eq option (codes "--reverse")) (with_form form.Reverse (plain_of (n + 1) words)) (plain_of n (option ∷ words)) (with_words_of (with_form form.Reverse) (λ a. tt) (λ e h. h) (plain_of (n + 1) words) (plain_words (n + 1) words)) (plain_words n (option ∷ words)))
+
+limited_words : (n : ℕ) (words : List (List ℕ)) → OfWords (limited_of n words)
+limited_words n [] = tt
+limited_words n (option ∷ words) = either_words (bytes_eq option (codes "-n")) (limit_from n words) (formed_of n (option ∷ words)) (behind words) (formed_words n (option ∷ words))
+  where
+    by_number : (o : Option ℕ) (words : List (List ℕ)) → OfWords (limit_by o (n + 2) words)
+    by_number None words = tt
+    by_number (Some most) words = with_words_of (with_limit most) (λ a. tt) (λ e h. h) (formed_of (n + 2) words) (formed_words (n + 2) words)
+
+    behind : (words : List (List ℕ)) → OfWords (limit_from n words)
+    behind [] = tt
+    behind (number ∷ words) = by_number (number_in 9 number) words
+
+skipped_words : (n : ℕ) (words : List (List ℕ)) → OfWords (skipped_of n words)
+unfolding skipped_of
+skipped_words n [] = tt
+skipped_words n (option ∷ words) = either_words (bytes_eq option (codes "--skip")) (skip_from n words) (limited_of n (option ∷ words)) (behind words) (limited_words n (option ∷ words))
+  where
+    by_number : (o : Option ℕ) (words : List (List ℕ)) → OfWords (skip_by o (n + 2) words)
+    by_number None words = tt
+    by_number (Some least) words = with_words_of (with_skip least) (λ a. tt) (λ e h. h) (limited_of (n + 2) words) (limited_words (n + 2) words)
+
+    behind : (words : List (List ℕ)) → OfWords (skip_from n words)
+    behind [] = tt
+    behind (number ∷ words) = by_number (number_in 9 number) words
+
+merges_words : (n : ℕ) (words : List (List ℕ)) → OfWords (merges_of n words)
+merges_words n [] = tt
+merges_words n (option ∷ words) =
+    either_words (bytes_eq option (codes "--merges")) (with_merges merges.Only (skipped_of (n + 1) words)) _ (with_words_of (with_merges merges.Only) (λ a. tt) (λ e h. h) (skipped_of (n + 1) words) (skipped_words (n + 1) words))
+    (either_words (bytes_eq option (codes "--no-merges")) (with_merges merges.No (skipped_of (n + 1) words)) (skipped_of n (option ∷ words)) (with_words_of (with_merges merges.No) (λ a. tt) (λ e h. h) (skipped_of (n + 1) words) (skipped_words (n + 1) words)) (skipped_words n (option ∷ words)))
+
+until_words : (n : ℕ) (words : List (List ℕ)) → OfWords (until_of n words)
+until_words n [] = tt
+until_words n (option ∷ words) = either_words (bytes_eq option (codes "--until")) (until_from n words) (merges_of n (option ∷ words)) (behind words) (merges_words n (option ∷ words))
+  where
+    by_number : (o : Option ℕ) (words : List (List ℕ)) → OfWords (until_by o (n + 2) words)
+    by_number None words = tt
+    by_number (Some seconds) words = with_words_of (with_until (pos seconds)) (λ a. tt) (λ e h. h) (merges_of (n + 2) words) (merges_words (n + 2) words)
+
+    behind : (words : List (List ℕ)) → OfWords (until_from n words)
+    behind [] = tt
+    behind (number ∷ words) = by_number (number_in 10 number) words
+
+listed_words : (by : Order) (n : ℕ) (words : List (List ℕ)) → OfWords (listed_of by n words)
+listed_words by n words = go (until_of n words) (until_words n words)
+  where
+    go : (r : Result Asked Fault) → OfWords r → OfWords (commits_in by r)
+    go (Ok a) h = tt
+    go (Err e) h = h
 
 pub request_words : (words : List (List ℕ)) → OfWords (request_of words)
-request_words = each_request OfWords tt (λ n. tt) (λ ending i. tt) (λ i j. tt) (λ i ids. tt) (λ i ids. tt) (λ by limit n ids. commits_words by limit (ids_from n ids) (ids_words n ids))
+request_words = each_request OfWords tt (λ n. tt) (λ ending i. tt) (λ i j. tt) (λ i ids. tt) (λ i ids. tt) (λ i ids. tt) listed_words

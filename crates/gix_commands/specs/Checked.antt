@@ -1,5 +1,5 @@
 -- A walk by time that goes on only where the parents of each commit that it gave are there.
-use Rattle.std.specs.Prelude.{◌≡◌, ◌≢◌, ◌⊎◌, ◌+◌, ◌-◌, ◌*◌, ◌<◌, ℕ, List, [], ◌∷◌, ◌++◌, length, take, Contains, Option, Some, None, Result, Ok, Err}
+use Rattle.std.specs.Prelude.{◌≡◌, ◌≢◌, ◌⊎◌, ◌+◌, ◌-◌, ◌*◌, ℕ, List, [], ◌∷◌, ◌++◌, length, take, Contains, Option, Some, None, Result, Ok, Err, nat_lt, if◌then◌else◌}
 use Rattle.std.specs.FinMap.{get}
 use Rattle.std.specs.Option.{option_or}
 use Rattle.gix_hash.specs.declared.ObjectId.{ObjectId}
@@ -55,19 +55,14 @@ HasParents objects rows info = first_lost objects rows info.parent_ids.items ≡
 abbrev pub HaveParents : Objects → List GraphRow → List Info → Type 0
 HaveParents objects rows infos = (info : Info) → Contains infos info → HasParents objects rows info
 
--- of the commits that a walk gave, those behind which it was asked for another
-abbrev pub gone_on : Option ℕ → List Info → List Info
-gone_on None infos = infos
-gone_on (Some limit) infos = take (limit - 1) infos
+-- of the commits that a walk gave, those behind which it was asked for another: all but the last if as many were written as the limit says
+abbrev pub gone_on : Option ℕ → ℕ → List Info → List Info
+gone_on None written infos = infos
+gone_on (Some limit) written infos = if nat_lt written limit then infos else take (length infos - 1) infos
 
 -- by time a walk goes on only behind commits whose parents are there
-abbrev pub GoesOnWhole : Objects → List GraphRow → Sorting → Option ℕ → List Info → Type 0
-GoesOnWhole objects rows by limit infos = by ≢ sorting.BreadthFirst → HaveParents objects rows (gone_on limit infos)
-
--- a limit asks for more than these commits
-abbrev pub AsksForMore : Option ℕ → List Info → Type 0
-AsksForMore None infos = Unit {0}
-AsksForMore (Some limit) infos = length infos < limit
+abbrev pub GoesOnWhole : Objects → List GraphRow → Sorting → Option ℕ → ℕ → List Info → Type 0
+GoesOnWhole objects rows by limit written infos = by ≢ sorting.BreadthFirst → HaveParents objects rows (gone_on limit written infos)
 
 -- a parent of the last of these commits isn't there, and this says why; or memory ran out before that was known
 pub record LacksParent (objects : Objects) (rows : List GraphRow) (infos : List Info) (why : Fault) : Type 0 where

@@ -10,9 +10,10 @@ use Rattle.gix_hash.specs.Reach.{Reaches}
 use Rattle.gix_words.specs.declared.fault.Fault.{Fault}
 use Rattle.gix_words.specs.declared.fault.Fault.TheVariants as fault
 use Rattle.gix_words.specs.declared.words.Order.TheVariants.{Simple, Topo}
+use Rattle.gix_words.specs.declared.words.Shown.{Shown}
 use Rattle.gix_records.specs.Records.{Record, AreRecords, stored}
 use Rattle.gix_commands.specs.Run.{Runs}
-use Rattle.gix_words.specs.Words.{Ahead, Bases, Commits, Contained, request_of}
+use Rattle.gix_words.specs.Words.{Ahead, Bases, Commits, Contained, Containing, request_of}
 
 -- all that the ids reach are whole commits
 abbrev pub AreWhole : Objects → List ObjectId → Type 0
@@ -41,12 +42,12 @@ abbrev pub EndsWell : Result (Unit {0}) Fault → Type 0
 EndsWell (Ok done) = Unit {0}
 EndsWell (Err e) = IsOutside e
 
--- A run of `breadth`, `newest` or `oldest` over whole commits ends well, with a limit or without.
+-- A run of `breadth`, `newest` or `oldest` over whole commits ends well, whatever is written of it.
 abbrev pub SimpleSucceeds : Type 0
 SimpleSucceeds =
-    (words : List (List ℕ)) (input : List ℕ) (records : List Record) (parents : Parents) (by : Sorting) (limit : Option ℕ)
+    (words : List (List ℕ)) (input : List ℕ) (records : List Record) (parents : Parents) (by : Sorting) (shown : Shown)
     (tips hidden : List ObjectId) (answer : Result (Unit {0}) Fault) (old new : Option (List ℕ)) →
-    request_of words ≡ Ok (Commits (Simple parents by) limit tips hidden) → AreRecords records input → AreWhole (stored records) (tips ++ hidden) →
+    request_of words ≡ Ok (Commits (Simple parents by) shown tips hidden) → AreRecords records input → AreWhole (stored records) (tips ++ hidden) →
     Runs words (Some input) old answer new → EndsWell answer
 
 -- The same of `ahead`.
@@ -56,12 +57,12 @@ AheadSucceeds =
     request_of words ≡ Ok (Ahead one other) → AreRecords records input → AreWhole (stored records) (one ∷ other ∷ []) →
     Runs words (Some input) old answer new → EndsWell answer
 
--- A run of `topo` or `date` over whole commits ends well, with a limit or without.
+-- A run of `topo` or `date` over whole commits ends well, whatever is written of it.
 abbrev pub TopoSucceeds : Type 0
 TopoSucceeds =
-    (words : List (List ℕ)) (input : List ℕ) (records : List Record) (by : TopoSorting) (limit : Option ℕ) (tips ends : List ObjectId)
+    (words : List (List ℕ)) (input : List ℕ) (records : List Record) (by : TopoSorting) (shown : Shown) (tips ends : List ObjectId)
     (answer : Result (Unit {0}) Fault) (old new : Option (List ℕ)) →
-    request_of words ≡ Ok (Commits (Topo by) limit tips ends) → AreRecords records input → AreWhole (stored records) (tips ++ ends) →
+    request_of words ≡ Ok (Commits (Topo by) shown tips ends) → AreRecords records input → AreWhole (stored records) (tips ++ ends) →
     Runs words (Some input) old answer new → EndsWell answer
 
 -- A run of `contains` over whole commits ends well.
@@ -70,6 +71,14 @@ ContainsSucceeds =
     (words : List (List ℕ)) (input : List ℕ) (records : List Record) (tip : ObjectId) (ids : List ObjectId) (answer : Result (Unit {0}) Fault)
     (old new : Option (List ℕ)) →
     request_of words ≡ Ok (Contained tip ids) → AreRecords records input → AreWhole (stored records) (tip ∷ ids) →
+    Runs words (Some input) old answer new → EndsWell answer
+
+-- A run of `containing` over whole commits ends well.
+abbrev pub ContainingSucceeds : Type 0
+ContainingSucceeds =
+    (words : List (List ℕ)) (input : List ℕ) (records : List Record) (target : ObjectId) (tips : List ObjectId)
+    (answer : Result (Unit {0}) Fault) (old new : Option (List ℕ)) →
+    request_of words ≡ Ok (Containing target tips) → AreRecords records input → AreWhole (stored records) (target ∷ tips) →
     Runs words (Some input) old answer new → EndsWell answer
 
 -- A run of `merge-base` over whole commits ends well.

@@ -1,4 +1,5 @@
 pub mod Walked
+pub mod Chosen
 pub mod Checked
 pub mod TopoWalked
 pub mod Opening

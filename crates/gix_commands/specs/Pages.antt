@@ -1,5 +1,5 @@
 -- The objects of a store and the rows of a commit-graph, as the page of what a run promises has them.
-use Rattle.std.specs.Prelude.{◌≡◌, ◌≢◌, ℕ, List, [], map, Contains, Option, Some, None, codes}
+use Rattle.std.specs.Prelude.{◌≡◌, ◌≢◌, ℕ, List, [], map, Contains, Some, None, codes}
 use Rattle.std.specs.FinMap.{get}
 use Rattle.std.specs.Option.{option_map}
 use Rattle.gix_commitgraph.specs.declared.ParentPlace.TheVariants.{Fault}
@@ -16,6 +16,7 @@ use Rattle.gix_simple.specs.declared.Sorting.{Sorting}
 use Rattle.gix_statement.specs.WholeStatement as page
 use Rattle.gix_words.specs.Words.{Commits, Request}
 use Rattle.gix_words.specs.declared.words.Order.TheVariants.{Simple}
+use Rattle.gix_words.specs.declared.words.Shown.{Shown}
 
 -- an object, with the word of its kind
 abbrev pub as_page : Object → page.Object
@@ -44,5 +45,5 @@ AreCommits objects = (i : ObjectId) (bytes : List ℕ) → objects i ≡ Some (r
 abbrev pub HaveTexts : Request → page.Objects → Type 0
 HaveTexts request objects =
     ((i : ObjectId) → objects i ≢ Some (record { kind = codes "commit"; bytes = [] }))
-    × ((by : Sorting) (limit : Option ℕ) (tips hidden : List ObjectId) → request ≡ Commits (Simple mode.First by) limit tips hidden
+    × ((by : Sorting) (shown : Shown) (tips hidden : List ObjectId) → request ≡ Commits (Simple mode.First by) shown tips hidden
     → AreCommits objects)

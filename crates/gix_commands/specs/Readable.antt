@@ -12,7 +12,7 @@ use Rattle.gix_object.specs.Object.{Object, Objects}
 use Rattle.gix_revwalk.specs.declared.Parents.{Parents}
 use Rattle.gix_revwalk.specs.declared.Parents.TheVariants as mode
 use Rattle.gix_revwalk.specs.Texts.{scanned}
-use Rattle.gix_words.specs.Words.{Request, Commits, Files, Ahead, Contained, Bases}
+use Rattle.gix_words.specs.Words.{Request, Commits, Files, Ahead, Contained, Containing, Bases}
 use Rattle.gix_words.specs.declared.words.Order.TheVariants.{Simple, Topo}
 
 abbrev pub is_faultless : Option DecodeError → Bool
@@ -50,9 +50,10 @@ is_first mode.First = true
 
 -- Whether a command asks for all lines. By first parents alone a walk reads no line behind that of the first parent, so this is tested.
 abbrev pub reads_all_lines : Request → Bool
-reads_all_lines (Commits (Simple parents by) limit tips hidden) = is_first parents
-reads_all_lines (Commits (Topo by) limit tips hidden) = false
+reads_all_lines (Commits (Simple parents by) shown tips hidden) = is_first parents
+reads_all_lines (Commits (Topo by) shown tips hidden) = false
 reads_all_lines (Files ending tree) = false
 reads_all_lines (Ahead one other) = false
 reads_all_lines (Contained tip ids) = false
+reads_all_lines (Containing target tips) = false
 reads_all_lines (Bases one others) = false

@@ -1,5 +1,5 @@
 -- What a run of the program may answer and write.
-use Rattle.std.specs.Prelude.{◌≡◌, ◌≢◌, ℕ, List, [], ◌∷◌, Option, Result, Ok, Err}
+use Rattle.std.specs.Prelude.{◌≡◌, ◌≢◌, ℕ, List, [], ◌∷◌, length, Option, Result, Ok, Err}
 use Rattle.std.specs.Io.KnownBytes.{Appends}
 use Rattle.std.specs.Iterator.{Yields}
 use Rattle.std.specs.List.{flat_map}
@@ -8,6 +8,7 @@ use Rattle.gix_object.specs.Object.{Objects}
 use Rattle.gix_commitgraph.specs.Rows.{GraphRow}
 use Rattle.gix_contained.specs.declared.Error.{Error as ContainedError}
 use Rattle.gix_contained.specs.Contained.{Selects, FailsBy}
+use Rattle.gix_containing.specs.Containing.{FindsContaining}
 use Rattle.gix_merge_base.specs.declared.Error.{Error as BasesError}
 use Rattle.gix_merge_base.specs.Bases as base
 use Rattle.gix_merge_base.specs.Bases.{FindsBases}
@@ -24,9 +25,11 @@ use Rattle.gix_tree.specs.Tracked.{Tracked}
 use Rattle.gix_words.specs.declared.fault.Fault.{Fault}
 use Rattle.gix_words.specs.declared.fault.Fault.TheVariants as fault
 use Rattle.gix_words.specs.declared.words.Order.TheVariants.{Simple, Topo}
+use Rattle.gix_words.specs.declared.words.Shown.{Shown}
 use Rattle.gix_commands.specs.Ahead.{Counts, FailsToCount, ahead_line}
 use Rattle.gix_words.specs.Faults.{fault_of_walk, fault_of_topo_walk, fault_of_bases, fault_of_contained, fault_of_tree_walk}
-use Rattle.gix_commands.specs.Checked.{AsksForMore, GoesOnWhole, LacksParent}
+use Rattle.gix_commands.specs.Checked.{GoesOnWhole, LacksParent}
+use Rattle.gix_commands.specs.Chosen.{Writes, kept_in}
 use Rattle.gix_commands.specs.Files.{IsMisnamed, RecordsTree, file_lines}
 use Rattle.gix_graph_check.specs.declared.Disagreement.TheVariants.{Row}
 use Rattle.gix_graph_store.specs.Laws.{StoredAgree}
@@ -37,32 +40,34 @@ use Rattle.gix_records.specs.Records.{Record, AreRecords, IsBadRecord, stored}
 use Rattle.gix_commands.specs.Opening.{Opens, FailsToOpen}
 use Rattle.gix_commands.specs.Readable.{readable, reads_all_lines}
 use Rattle.gix_commands.specs.TopoWalked as topo
-use Rattle.gix_commands.specs.Walked.{Walk, Answers, IsWalkFault, StartsFrom, FailsAtStart, EndsBy, given, line_of, lines_of, never_faulty}
-use Rattle.gix_words.specs.Words.{Request, Commits, Files, Ahead, Contained, Bases, request_of}
+use Rattle.gix_commands.specs.Walked.{Walk, Answers, IsWalkFault, StartsFrom, FailsAtStart, EndsBy, given, line_of, never_faulty, AsksForMore}
+use Rattle.gix_words.specs.Words.{Request, Commits, Files, Ahead, Contained, Containing, Bases, request_of}
 
 -- Over objects, rows for the walks of commits and a writer that has the bytes `old`: which answers a request may get, and which bytes the writer then has.
 pub data Serves (objects : Objects) (rows : List GraphRow) (old : Option (List ℕ)) : Request → Result (Unit {0}) Fault → Option (List ℕ) → Type 0 where
-  -- the lines of the commits before a fault are written
-  walked : {parents : Parents} {by : Sorting} {limit : Option ℕ} {tips hidden : List ObjectId} (walk : Walk) (infos : List Info)
+  -- lines of the commits before a fault are written
+  walked : {parents : Parents} {by : Sorting} {shown : Shown} {tips hidden : List ObjectId} (walk : Walk) (infos : List Info)
       {answer : Result (Unit {0}) Fault} {new : Option (List ℕ)}
-      → StartsFrom objects rows parents by tips hidden walk → EndsBy Answers IsWalkFault limit walk infos answer
-      → GoesOnWhole objects rows by limit infos → Appends old new (lines_of infos)
-      → Serves objects rows old (Commits (Simple parents by) limit tips hidden) answer new
+      → StartsFrom objects rows parents by tips hidden walk → EndsBy Answers IsWalkFault (kept_in objects shown) shown.limit walk infos answer
+      → GoesOnWhole objects rows by shown.limit (length (kept_in objects shown infos)) infos
+      → Writes shown.form answer (kept_in objects shown infos) old new
+      → Serves objects rows old (Commits (Simple parents by) shown tips hidden) answer new
   -- by time it ends behind a commit one of whose parents isn't there
-  lost : {parents : Parents} {by : Sorting} {limit : Option ℕ} {tips hidden : List ObjectId} (walk at : Walk) (infos : List Info) {why : Fault}
+  lost : {parents : Parents} {by : Sorting} {shown : Shown} {tips hidden : List ObjectId} (walk at : Walk) (infos : List Info) {why : Fault}
       {new : Option (List ℕ)} → by ≢ sorting.BreadthFirst
-      → StartsFrom objects rows parents by tips hidden walk → Yields Answers walk (given infos) at → AsksForMore limit infos
-      → LacksParent objects rows infos why → Appends old new (lines_of infos)
-      → Serves objects rows old (Commits (Simple parents by) limit tips hidden) (Err why) new
-  not_walked : {parents : Parents} {by : Sorting} {limit : Option ℕ} {tips hidden : List ObjectId} (e : Error) → FailsAtStart objects by tips e
-      → Serves objects rows old (Commits (Simple parents by) limit tips hidden) (Err (fault_of_walk e)) old
-  walked_down : {by : TopoSorting} {limit : Option ℕ} {tips ends : List ObjectId} (walk : topo.Walk) (infos : List Info)
+      → StartsFrom objects rows parents by tips hidden walk → Yields Answers walk (given infos) at
+      → AsksForMore shown.limit (length (kept_in objects shown infos)) → LacksParent objects rows infos why
+      → Writes shown.form (Err why) (kept_in objects shown infos) old new
+      → Serves objects rows old (Commits (Simple parents by) shown tips hidden) (Err why) new
+  not_walked : {parents : Parents} {by : Sorting} {shown : Shown} {tips hidden : List ObjectId} (e : Error) → FailsAtStart objects by tips e
+      → Serves objects rows old (Commits (Simple parents by) shown tips hidden) (Err (fault_of_walk e)) old
+  walked_down : {by : TopoSorting} {shown : Shown} {tips ends : List ObjectId} (walk : topo.Walk) (infos : List Info)
       {answer : Result (Unit {0}) Fault} {new : Option (List ℕ)}
-      → topo.IsBuiltFrom objects rows by tips ends (Ok walk) → EndsBy topo.Answers topo.IsWalkFault limit walk infos answer
-      → Appends old new (lines_of infos)
-      → Serves objects rows old (Commits (Topo by) limit tips ends) answer new
-  not_built : {by : TopoSorting} {limit : Option ℕ} {tips ends : List ObjectId} (e : TopoError) → topo.IsBuiltFrom objects rows by tips ends (Err e)
-      → Serves objects rows old (Commits (Topo by) limit tips ends) (Err (fault_of_topo_walk e)) old
+      → topo.IsBuiltFrom objects rows by tips ends (Ok walk) → EndsBy topo.Answers topo.IsWalkFault (kept_in objects shown) shown.limit walk infos answer
+      → Writes shown.form answer (kept_in objects shown infos) old new
+      → Serves objects rows old (Commits (Topo by) shown tips ends) answer new
+  not_built : {by : TopoSorting} {shown : Shown} {tips ends : List ObjectId} (e : TopoError) → topo.IsBuiltFrom objects rows by tips ends (Err e)
+      → Serves objects rows old (Commits (Topo by) shown tips ends) (Err (fault_of_topo_walk e)) old
   listed : {ending : ℕ} {tree : ObjectId} (recorder : Tracked) (walk : RecordsTree objects tree recorder (Ok tt)) {new : Option (List ℕ)}
       → HaveNames walk.visits → Appends old new (file_lines ending recorder.held.records) → Serves objects rows old (Files ending tree) (Ok tt) new
   -- of a tree whose walk failed no line is written
@@ -82,6 +87,11 @@ pub data Serves (objects : Objects) (rows : List GraphRow) (old : Option (List �
       → Selects objects rows (tip ∷ []) ids those → Appends old new (flat_map line_of those) → Serves objects rows old (Contained tip ids) (Ok tt) new
   not_selected : {tip : ObjectId} {ids : List ObjectId} (e : ContainedError) → FailsBy objects (never_faulty objects) rows (tip ∷ []) ids e
       → Serves objects rows old (Contained tip ids) (Err (fault_of_contained e)) old
+  reaching : {target : ObjectId} {tips : List ObjectId} (those : List ObjectId) {new : Option (List ℕ)}
+      → FindsContaining objects rows target tips those → Appends old new (flat_map line_of those)
+      → Serves objects rows old (Containing target tips) (Ok tt) new
+  not_reaching : {target : ObjectId} {tips : List ObjectId} (e : BasesError) → base.FailsBy objects (never_faulty objects) rows target tips e
+      → Serves objects rows old (Containing target tips) (Err (fault_of_bases e)) old
   joined : {one : ObjectId} {others : List ObjectId} (bases : List ObjectId) {new : Option (List ℕ)}
       → FindsBases objects rows one others bases → Appends old new (flat_map line_of bases) → Serves objects rows old (Bases one others) (Ok tt) new
   not_joined : {one : ObjectId} {others : List ObjectId} (e : BasesError) → base.FailsBy objects (never_faulty objects) rows one others e

@@ -80,17 +80,25 @@ pub data Ends {W E : Type 0} (Steps : W → Option (Result Info E) → W → Typ
   failed : (e : E) (f : Fault) (new : W) → YieldsThen Steps walk (given infos) (Some (Err e)) new → Tells e f → Ends Steps Tells walk infos (Err f)
   cut_short : (info : Info) (new : W) → YieldsThen Steps walk (given infos) (Some (Ok info)) new → Ends Steps Tells walk infos (Err fault.Memory)
 
--- How a walk ended that was to give so many commits at most: it gave as many, and nothing was drawn behind them, or it ended before.
-pub data EndsWithin {W E : Type 0} (Steps : W → Option (Result Info E) → W → Type 0) (Tells : E → Fault → Type 0) (limit : ℕ) (walk : W)
-    (infos : List Info) : Result (Unit {0}) Fault → Type 0 where
-  enough : (at : W) → Yields Steps walk (given infos) at → length infos ≡ limit → EndsWithin Steps Tells limit walk infos (Ok tt)
-  before : {answer : Result (Unit {0}) Fault} → Ends Steps Tells walk infos answer → length infos < limit → EndsWithin Steps Tells limit walk infos answer
+-- How a walk ended of which so many commits at most were to be written: it gave as many, and nothing was drawn behind them, or it ended
+-- before.
+pub data EndsWithin {W E : Type 0} (Steps : W → Option (Result Info E) → W → Type 0) (Tells : E → Fault → Type 0) (those : List Info → List ObjectId)
+    (limit : ℕ) (walk : W) (infos : List Info) : Result (Unit {0}) Fault → Type 0 where
+  enough : (at : W) → Yields Steps walk (given infos) at → length (those infos) ≡ limit → EndsWithin Steps Tells those limit walk infos (Ok tt)
+  before : {answer : Result (Unit {0}) Fault} → Ends Steps Tells walk infos answer → length (those infos) < limit
+      → EndsWithin Steps Tells those limit walk infos answer
 
--- how a walk ended, with a limit or without
+-- how a walk ended, with a limit of those that are written or without
 abbrev pub EndsBy :
-    {W E : Type 0} → (W → Option (Result Info E) → W → Type 0) → (E → Fault → Type 0) → Option ℕ → W → List Info → Result (Unit {0}) Fault → Type 0
-EndsBy Steps Tells None walk infos answer = Ends Steps Tells walk infos answer
-EndsBy Steps Tells (Some limit) walk infos answer = EndsWithin Steps Tells limit walk infos answer
+    {W E : Type 0} → (W → Option (Result Info E) → W → Type 0) → (E → Fault → Type 0) → (List Info → List ObjectId) → Option ℕ → W → List Info
+    → Result (Unit {0}) Fault → Type 0
+EndsBy Steps Tells those None walk infos answer = Ends Steps Tells walk infos answer
+EndsBy Steps Tells those (Some limit) walk infos answer = EndsWithin Steps Tells those limit walk infos answer
+
+-- a limit asks for more than so many commits
+abbrev pub AsksForMore : Option ℕ → ℕ → Type 0
+AsksForMore None n = Unit {0}
+AsksForMore (Some limit) n = n < limit
 
 -- an id and a newline
 abbrev pub line_of : ObjectId → List ℕ

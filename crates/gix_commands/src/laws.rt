@@ -1,15 +1,15 @@
 //! What a run of the program writes, as laws over the definitions: functions that do nothing, and whose contracts are proved.
 
-ghost use Rattle.gix_commands.specs.Histories.{AheadSucceeds, BasesSucceeds, ContainsSucceeds, SimpleSucceeds, TopoSucceeds};
+ghost use Rattle.gix_commands.specs.Histories.{AheadSucceeds, BasesSucceeds, ContainingSucceeds, ContainsSucceeds, SimpleSucceeds, TopoSucceeds};
 ghost use Rattle.gix_commands.specs.Listings.{FilesReportNames, FilesSucceeds};
 
-/// Where all that is reached are whole commits, `breadth`, `newest` and `oldest` fail for memory, reading or writing alone, with a limit or
-/// without.
+/// Where all that is reached are whole commits, `breadth`, `newest` and `oldest` fail for memory, reading or writing alone, whatever is
+/// written of it.
 pub fn simple_succeeds()
     ensures { SimpleSucceeds }
 {}
 
-/// Where all that is reached are whole commits, `topo` and `date` fail for memory, reading or writing alone, with a limit or without.
+/// Where all that is reached are whole commits, `topo` and `date` fail for memory, reading or writing alone, whatever is written of it.
 pub fn topo_succeeds()
     ensures { TopoSucceeds }
 {}
@@ -34,6 +34,11 @@ pub fn ahead_succeeds()
 /// Where all that the ids reach are whole commits, `contains` fails for memory, reading or writing alone.
 pub fn contains_succeeds()
     ensures { ContainsSucceeds }
+{}
+
+/// Where all that the ids reach are whole commits, `containing` fails for memory, reading or writing alone.
+pub fn containing_succeeds()
+    ensures { ContainingSucceeds }
 {}
 
 /// Where all that the ids reach are whole commits, `merge-base` fails for memory, reading or writing alone.

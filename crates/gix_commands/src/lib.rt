@@ -18,7 +18,9 @@ ghost use Rattle.gix_revwalk.specs.Agreeing.{rows_in};
 mod ahead;
 mod bases;
 pub mod checked;
+mod chosen;
 pub mod commits;
+mod containing;
 mod contains;
 mod digits;
 mod files;
@@ -33,7 +35,9 @@ mod texts;
 use ahead::write_ahead;
 use bases::write_bases;
 use checked::Checked;
+use chosen::Chooser;
 use commits::{topo_walk_from, walk_from};
+use containing::write_containing;
 use contains::write_contained;
 use files::write_files;
 pub use given::run_in;
@@ -41,9 +45,10 @@ use given::serve_records;
 use gix_parts::graph::Graph;
 use gix_parts::hash::{Keys, ObjectId};
 use gix_parts::records::{self, LentStore};
+use gix_traverse::commit::Parents;
 use gix_traverse::commit::simple::Sorting;
 pub use gix_words::Fault;
-use gix_words::{Command, Order, read_command};
+use gix_words::{Command, Order, Shown, read_command};
 use output::write_commits;
 pub use over::run_over;
 use std::alloc::Global;
@@ -54,21 +59,25 @@ pub use stored::{run_named, run_stored};
 /// whole, then the walk runs.
 ///
 /// `breadth`, `newest` and `oldest` write the id of each commit that the tips reach and the hidden tips don't, one a line: in the order
-/// in which commits are met, or in one by time. `topo` and `date` do this in an order in which no commit comes before its children. With
-/// `-n` and a number behind the order's name, they write the first of these lines, as many at most, and read no further. `breadth` with
-/// `--first-parent` behind it goes from each commit to its first parent alone, and `newest` and `oldest` with `--since` and a number leave
-/// out tips and parents whose committer's seconds are below it, and what they would meet by these alone.
+/// in which commits are met, or in one by time. `topo` and `date` do this in an order in which no commit comes before its children.
+/// Options come behind the order's name, in the order in which they are here. `breadth` with `--first-parent` goes from each commit to its
+/// first parent alone, and `newest` and `oldest` with `--since` and a number leave out tips and parents whose committer's seconds are below
+/// it, and what they would meet by these alone. `--until` and a number leave out the lines of commits whose committer's seconds are above
+/// it, `--merges` those of commits with fewer than two parents, and `--no-merges` those of commits with more than one. `--skip` and a number
+/// leave out the first lines of these, and `-n` and a number those behind as many; behind the last nothing is read. With `--reverse` the last
+/// of these lines comes first, and with `--count` one line says how many they are.
 /// `files` writes the mode, the id and the path of each entry of the tree and of the trees in it, one a line. `ahead` writes how many
 /// commits the first id reaches and the second doesn't, a space, and how many the second reaches and the first doesn't. `contains` writes
-/// those of its further ids that the first reaches, in the order given, one a line. `merge-base` writes the best common ancestors of the
-/// first id and of any of the others, in rising order: what these reach, and no other such commit reaches.
+/// those of its further ids that the first reaches, in the order given, one a line, and `containing` those that reach the first.
+/// `merge-base` writes the best common ancestors of the first id and of any of the others, in rising order: what these reach, and no other
+/// such commit reaches.
 ///
 /// # Errors
 /// `Usage` and `Id` where the words are no command, `Read` where the reader fails or gives no end when it is asked for the last time,
 /// `Record` where the input isn't records: nothing is written. `Missing`, `WrongKind` and `Broken` where the walk meets such an object,
-/// or in an order by time such a parent of the commit that it wrote last, `Cycle` where it meets a tree that is under itself, and
-/// `Memory`: the lines of the commits before are written, and nothing of `files`, `ahead`, `contains` and `merge-base`. `Name` where a tree has a name
-/// that is empty or holds `/`: nothing is written. `Write` where the writer fails, or takes nothing: a beginning of the lines is written,
+/// or in an order by time such a parent of the commit that it gave last, `Cycle` where it meets a tree that is under itself, and
+/// `Memory`: the lines of the commits before are written, and nothing with `--reverse` and `--count`, and of `files`, `ahead`, `contains`,
+/// `containing` and `merge-base`. `Name` where a tree has a name that is empty or holds `/`: nothing is written. `Write` where the writer fails, or takes nothing: a beginning of the lines is written,
 /// which may end within a line.
 ///
 /// A commit without a byte is `Broken`, and with `--first-parent` one is of which a line of a parent isn't sound, be it of another parent.
@@ -106,43 +115,48 @@ fn serve<W: Write>(
     match command {
         Command::Commits {
             order,
-            limit,
+            shown,
             tips,
             hidden,
-        } => serve_commits(alloc, order, limit, tips, hidden, store, graph, writer),
+        } => serve_commits(alloc, order, shown, tips, hidden, store, graph, writer),
         Command::Files { ending, tree } => write_files(alloc, ending, tree, store, graph, writer),
         Command::Ahead { one, other } => write_ahead(alloc, one, other, store, graph, writer),
         Command::Contained { tip, ids } => write_contained(alloc, tip, ids, store, graph, writer),
+        Command::Containing { target, tips } => {
+            write_containing(alloc, target, tips, store, graph, writer)
+        }
         Command::Bases { one, others } => write_bases(alloc, one, others, store, graph, writer),
     }
 }
 
-/// Writes the commits that the tips reach and the hidden tips don't, or as many of them as the limit says. By time, each of them behind
-/// which more is asked for has to have its parents.
+/// Writes what is chosen of the commits that the tips reach and the hidden tips don't. By time, each of them behind which more is asked for
+/// has to have its parents.
 fn serve_commits<W: Write>(
     alloc: Global,
     order: Order,
-    limit: Option<u64>,
+    shown: Shown,
     tips: Vec<ObjectId>,
     hidden: Vec<ObjectId>,
     store: &LentStore<'_>,
     graph: Option<&Graph>,
     writer: &mut W,
 ) -> Result<(), Fault>
-    ensures { Serves (readable (reads_all_lines (Commits order limit tips.items hidden.items)) (with_rows (rows_in graph.entry) store.now)) (rows_in graph.entry) (W.contents writer.old) (Commits order limit tips.items hidden.items) result (W.contents writer.new) }
+    ensures { Serves (readable (reads_all_lines (Commits order shown tips.items hidden.items)) (with_rows (rows_in graph.entry) store.now)) (rows_in graph.entry) (W.contents writer.old) (Commits order shown tips.items hidden.items) result (W.contents writer.new) }
 {
     match order {
         Order::Simple { parents, sorting } => {
             let walk = walk_from(alloc, parents, sorting, tips, hidden, store, graph)?;
+            let chooser = Chooser::new(alloc, shown, parents, store, graph);
             if let Sorting::BreadthFirst = sorting {
-                return write_commits(alloc, walk, limit, writer);
+                return write_commits(alloc, walk, chooser, writer);
             }
             let checked = Checked::new(alloc, walk, parents, store, graph);
-            write_commits(alloc, checked, limit, writer)
+            write_commits(alloc, checked, chooser, writer)
         }
         Order::Topo(sorting) => {
             let walk = topo_walk_from(alloc, sorting, tips, hidden, store, graph)?;
-            write_commits(alloc, walk, limit, writer)
+            let chooser = Chooser::new(alloc, shown, Parents::All, store, graph);
+            write_commits(alloc, walk, chooser, writer)
         }
     }
 }

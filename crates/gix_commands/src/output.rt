@@ -1,15 +1,20 @@
 //! The lines of a walk over commits.
-ghost use Rattle.std.specs.Prelude.{◌≡◌, ◌≤◌, [], Some, None, take, length, OnOk, IfOk, IfErr};
+ghost use Rattle.std.specs.Prelude.{◌≡◌, ◌≤◌, ◌++◌, ◌∷◌, [], false, take, length, reverse, OnOk, IfOk, IfErr};
+ghost use Rattle.std.specs.Fmt.{digits};
 ghost use Rattle.std.specs.Io.KnownBytes.{Appends, Keeps};
 ghost use Rattle.std.specs.Iterator.{IsFinite};
-ghost use Rattle.gix_commands.specs.Output.{Grows, AddsBegun, AddsNone, StopsWithin, BreaksOff, WritesBegun};
+ghost use Rattle.std.specs.List.{flat_map};
+ghost use Rattle.gix_commands.specs.Chosen.{fresh_choosing, kept_in};
+ghost use Rattle.gix_commands.specs.Output.{Grows, AddsBegun, AddsNone, StopsWithin, BreaksOff, Takes, TakesNone, WritesBegun, WritesWhole, held_in};
 ghost use Rattle.gix_commands.specs.Walked.{line_of};
 
+use crate::chosen::Chooser;
+use crate::contains::lines_of;
 use crate::digits::add_id;
 use gix_parts::hash::ObjectId;
 use gix_traverse::commit::Info;
-use gix_words::Fault;
-use std::alloc::Global;
+use gix_words::{Fault, Form};
+use std::alloc::{AllocError, Global};
 use std::io::{ErrorKind, Write};
 
 /// How many bytes are buffered before they are written.
@@ -18,16 +23,26 @@ const MANY: usize = 1 << 16;
 /// How often a writer is asked at the most to take the bytes that are buffered.
 const WRITES: u32 = 1 << 31;
 
-/// Draws a walk to its end or to its first fault, and writes the id of each commit that it gives, one a line. Where there is a limit, it
-/// draws no answer behind that many commits.
+/// Where the commits that are written go: lines are buffered, and written when they are many; for a list with the last first the ids are
+/// held; for their number nothing is.
+#[derive(Drop)]
+struct Sink {
+    form: Form,
+    lines: Vec<u8>,
+    ids: Vec<ObjectId>,
+    number: usize,
+}
+
+/// Draws a walk to its end or to its first fault, and writes what is chosen of the commits that it gives: the id of each, one a line, or
+/// these lines with the last first, or how many there are. Where there is a limit, it draws no answer behind that many.
 ///
 /// # Errors
-/// The fault of the walk; the lines of the commits before it are written. `Write` where the writer failed: a beginning of these lines is
-/// written. `Memory`.
+/// The fault of the walk: the lines of the commits before it are written, and nothing if the last is to come first or if they are counted.
+/// `Write` where the writer failed: a beginning is written. `Memory`.
 pub fn write_commits<I, E, W>(
     alloc: Global,
-    walk: I,
-    limit: Option<u64>,
+    mut walk: I,
+    mut chooser: Chooser<'_>,
     writer: &mut W,
 ) -> Result<(), Fault>
 where
@@ -36,12 +51,66 @@ where
     W: Write,
     requires can { I.can_next walk }
     requires finite { IsFinite (I.remaining walk) }
-    ensures { WritesBegun I.next_gives E.converts limit walk (W.contents writer.old) result (W.contents writer.new) }
+    requires fresh { chooser ≡ fresh_choosing chooser.objects chooser.shown }
+    ensures { WritesBegun I.next_gives E.converts (kept_in chooser.entry.objects chooser.entry.shown) chooser.entry.shown.limit chooser.entry.shown.form walk (W.contents writer.old) result (W.contents writer.new) }
 {
-    let mut lines = Vec::new(alloc);
-    let drawn = add_lines(walk, limit, &mut lines, writer);
-    write_out(&mut lines, writer)?;
-    drawn
+    let form = chooser.form();
+    let mut sink = Sink {
+        form,
+        lines: Vec::new(alloc),
+        ids: Vec::new(alloc),
+        number: 0,
+    };
+    let drawn = draw(&mut walk, &mut chooser, &mut sink, writer);
+    match form {
+        Form::Lines => {
+            write_out(&mut sink.lines, writer)?;
+            drawn
+        }
+        Form::Count => {
+            drawn?;
+            write_number(alloc, sink.number, writer)
+        }
+        Form::Reverse => {
+            drawn?;
+            write_reversed(alloc, sink.ids, writer)
+        }
+    }
+}
+
+/// Writes a number, in a line.
+///
+/// # Errors
+/// `Memory`: nothing is written. `Write` where the writer failed: a beginning of the line is.
+fn write_number<W: Write>(alloc: Global, number: usize, writer: &mut W) -> Result<(), Fault>
+    ensures { WritesWhole (W.contents writer.old) (digits 10 false number ++ 10 ∷ []) result (W.contents writer.new) }
+{
+    let mut line = number_line(alloc, number)?;
+    write_out(&mut line, writer)
+}
+
+/// A number, and a newline.
+fn number_line(alloc: Global, number: usize) -> Result<Vec<u8>, AllocError>
+    ensures { IfOk result (λ line. line.items ≡ digits 10 false number ++ 10 ∷ []) }
+{
+    let line = format!(in alloc; "{number}\n")?;
+    line.as_bytes().to_vec(alloc)
+}
+
+/// Writes ids, the last first, one a line.
+///
+/// # Errors
+/// `Memory`: nothing is written. `Write` where the writer failed: a beginning of the lines is.
+fn write_reversed<W: Write>(
+    alloc: Global,
+    mut ids: Vec<ObjectId>,
+    writer: &mut W,
+) -> Result<(), Fault>
+    ensures { WritesWhole (W.contents writer.old) (flat_map line_of (reverse ids.items)) result (W.contents writer.new) }
+{
+    ids.reverse();
+    let mut lines = lines_of(alloc, ids.as_slice())?;
+    write_out(&mut lines, writer)
 }
 
 /// Writes the buffered lines, and flushes the writer.
@@ -56,33 +125,11 @@ pub fn write_out<W: Write>(lines: &mut Vec<u8>, writer: &mut W) -> Result<(), Fa
     writer.flush().map_err(|_| Fault::Write)
 }
 
-/// Adds a line for each commit to the buffered lines, up to the walk's first fault, or to the limit.
-fn add_lines<I, E, W>(
-    mut walk: I,
-    limit: Option<u64>,
-    lines: &mut Vec<u8>,
-    writer: &mut W,
-) -> Result<(), Fault>
-where
-    I: Iterator<Item = Result<Info, E>> + Drop,
-    E: Into<Fault> + Drop,
-    W: Write,
-    requires can { I.can_next walk }
-    requires finite { IsFinite (I.remaining walk) }
-    ensures { AddsBegun I.next_gives E.converts limit walk (W.contents writer.old) lines.old.items result (W.contents writer.new) lines.new.items }
-{
-    match limit {
-        Some(limit) => add_first_commits(&mut walk, limit, lines, writer),
-        None => add_commits(walk, lines, writer),
-    }
-}
-
-/// Adds a line for each of the first commits to the buffered lines, up to the walk's first fault. Behind as many commits as the limit says
-/// nothing is drawn.
-fn add_first_commits<I, E, W>(
+/// Adds what is chosen of the commits that a walk gives, up to its first fault. Behind as many as the limit says nothing is drawn.
+fn draw<I, E, W>(
     walk: &mut I,
-    limit: u64,
-    lines: &mut Vec<u8>,
+    chooser: &mut Chooser<'_>,
+    sink: &mut Sink,
     writer: &mut W,
 ) -> Result<(), Fault>
 where
@@ -91,11 +138,11 @@ where
     W: Write,
     requires can { I.can_next walk.old }
     requires finite { IsFinite (I.remaining walk.old) }
-    ensures adds { AddsBegun I.next_gives E.converts (Some limit) walk.old (W.contents writer.old) lines.old.items result (W.contents writer.new) lines.new.items }
-    ensures within { OnOk result (StopsWithin I.next_gives limit walk.old walk.new) }
+    requires fresh { chooser.old ≡ fresh_choosing chooser.old.objects chooser.old.shown }
+    ensures adds { AddsBegun I.next_gives E.converts (kept_in chooser.old.objects chooser.old.shown) chooser.old.shown.limit sink.old.form walk.old (W.contents writer.old) (held_in sink.old) result (W.contents writer.new) (held_in sink.new) }
+    ensures within { OnOk result (StopsWithin I.next_gives (kept_in chooser.old.objects chooser.old.shown) chooser.old.shown.limit walk.old walk.new) }
 {
-    let mut left = limit;
-    while left > 0 {
+    'draws: while !chooser.is_done() {
         let Some(answer) = walk.next() else {
             return Ok(());
         };
@@ -103,30 +150,36 @@ where
             Ok(info) => info,
             Err(fault) => return Err(fault.into()),
         };
-        add_line(lines, writer, info.id)?;
-        left -= 1;
+        if chooser.takes(&info.id)? {
+            sink.take(info.id, writer)?;
+        }
     }
     Ok(())
 }
 
-/// Adds a line for each commit to the buffered lines, up to the walk's first fault.
-fn add_commits<I, E, W>(walk: I, lines: &mut Vec<u8>, writer: &mut W) -> Result<(), Fault>
-where
-    I: Iterator<Item = Result<Info, E>> + Drop,
-    E: Into<Fault> + Drop,
-    W: Write,
-    requires can { I.can_next walk }
-    requires finite { IsFinite (I.remaining walk) }
-    ensures { AddsBegun I.next_gives E.converts None walk (W.contents writer.old) lines.old.items result (W.contents writer.new) lines.new.items }
-{
-    for answer in walk {
-        let info = match answer {
-            Ok(info) => info,
-            Err(fault) => return Err(fault.into()),
-        };
-        add_line(lines, writer, info.id)?;
+impl Sink {
+    /// Adds a commit. After a failure of the writer no line is buffered.
+    fn take<W: Write>(&mut self, id: ObjectId, writer: &mut W) -> Result<(), Fault>
+        ensures form { self.new.form ≡ self.old.form }
+        ensures ok { OnOk result (Takes self.old.form (W.contents writer.old) (held_in self.old) (id ∷ []) (W.contents writer.new) (held_in self.new)) }
+        ensures err { IfErr result (TakesNone self.old.form (W.contents writer.old) (held_in self.old) (W.contents writer.new) (held_in self.new)) }
+    {
+        match self.form {
+            Form::Lines => add_line(&mut self.lines, writer, id),
+            Form::Count => {
+                // No memory holds more commits than there are numbers.
+                let Some(number) = self.number.checked_add(1) else {
+                    return Err(Fault::Memory);
+                };
+                self.number = number;
+                Ok(())
+            }
+            Form::Reverse => {
+                self.ids.push(id).map_err(AllocError::from)?;
+                Ok(())
+            }
+        }
     }
-    Ok(())
 }
 
 /// Adds a line to the buffered lines. After a failure of the writer none is buffered.

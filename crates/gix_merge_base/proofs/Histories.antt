@@ -23,11 +23,11 @@ module _ (objects history : Objects) (part : (i : ObjectId) (commit : Commit) �
   same_parents i r = let w = whole i r in ap parents_in w.stored ∙ sym (ap parents_in (part i w.commit w.stored))
 
   module _ (tips : List ObjectId) (met : (i : ObjectId) → Contains tips i → Met i) where
-    there : (i : ObjectId) → Reaches (parents_of objects) tips i → Reaches (parents_of history) tips i
+    pub there : (i : ObjectId) → Reaches (parents_of objects) tips i → Reaches (parents_of history) tips i
     there i (start m) = start m
     there i (step {c = c} r n) = step (there c r) (subst (λ xs. Contains xs i) (same_parents c (reaches_from (parents_of objects) tips (one ∷ others) met c r)) n)
 
-    back : (i : ObjectId) → Reaches (parents_of history) tips i → Reaches (parents_of objects) tips i
+    pub back : (i : ObjectId) → Reaches (parents_of history) tips i → Reaches (parents_of objects) tips i
     back i (start m) = start m
     back i (step {c = c} r n) =
         let s : Reaches (parents_of objects) tips c = back c r in

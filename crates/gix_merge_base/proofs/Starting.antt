@@ -99,10 +99,10 @@ module _ {F P : Type 0} (objects : F → Objects) (faulty : F → ObjectId → T
     exact : (i : ObjectId) → Contains (given_by infos) i ↔ (Reaches parents others i × (Reaches parents (one ∷ []) i → ⊥))
     exact i = subst (λ xs. Contains xs i ↔ (Reaches parents others i × (Reaches parents (one ∷ []) i → ⊥))) (ids_are infos) (difference.exact i)
 
-    have : (info : Info) → Contains infos info → info.parent_ids.items ≡ parents info.id
+    pub have : (info : Info) → Contains infos info → info.parent_ids.items ≡ parents info.id
     have = have_parents objects faulty answers store one others opened drawn_opened.1.0 (ready agreeing) infos drawn_opened.1.1
 
-    read_whole : others ≢ [] → (i : ObjectId) → Reaches parents (one ∷ others) i → ReadsWhole (objects store) i
+    pub read_whole : others ≢ [] → (i : ObjectId) → Reaches parents (one ∷ others) i → ReadsWhole (objects store) i
     read_whole some i r =
         let t = first_tip others some in
         let pends : starts.made.pending ≢ [] = λ e. no_member t.0 (subst (λ ps. Contains (ids_of ps) t.0) e ((ready agreeing).tips t.0 t.1)) in

@@ -28,7 +28,7 @@ use Rattle.gix_revwalk.specs.Ids.{new_ids}
 use Rattle.gix_revwalk.proofs.Reached.{reach_more, reaches_from}
 
 -- the error of a fault is the same by both ways
-by_contained : (why : Hidden) → error_of_contained (contained_error_of why) ≡ error_of why
+pub by_contained : (why : Hidden) → error_of_contained (contained_error_of why) ≡ error_of why
 by_contained (hidden_by.Find existing.Memory) = refl
 by_contained (hidden_by.Find existing.Store) = refl
 by_contained (hidden_by.Find (existing.NotFound oid)) = refl

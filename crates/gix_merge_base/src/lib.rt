@@ -191,8 +191,13 @@ fn copy_of(graph: Option<&Graph>) -> Result<Option<Graph>, AllocError>
     }
 }
 
-/// A walk over what the others reach and `one` doesn't.
-fn walk_from<'a, F: Find>(
+/// A walk over what the others reach and `one` doesn't, through all parents and breadth first. Its first step reads all that `one` and the
+/// others reach, as far as rows don't decide before.
+///
+/// # Errors
+///
+/// `Memory` when out of memory.
+pub fn walk_from<'a, F: Find>(
     alloc: Global,
     one: ObjectId,
     others: &[ObjectId],

@@ -21,6 +21,7 @@ pub const VERSION: &str = "0.1.0";
 pub const USAGE: &[&str] = &[
     "usage: gix_walk -C FOLDER [OPTION..] COMMAND REVISION..",
     "       gix_walk -C FOLDER check-graph",
+    "       gix_walk -C FOLDER verify-certificate FILE",
     "       gix_walk [--commit-graph FILE..] COMMAND ID.. < RECORDS",
 ];
 
@@ -89,6 +90,15 @@ pub const COMMANDS: &[Command] = &[
         example: "contains HEAD HEAD~3 HEAD~9",
     },
     Command {
+        name: Name::Containing,
+        arguments: "A B..",
+        what: &[
+            "those of the further revisions that reach the first, as ids, in the order given, as",
+            "git tag --contains finds tags",
+        ],
+        example: "containing HEAD~3 HEAD HEAD~9",
+    },
+    Command {
         name: Name::MergeBase,
         arguments: "A B..",
         what: &[
@@ -126,6 +136,15 @@ pub const COMMANDS: &[Command] = &[
         ],
         example: "check-graph",
     },
+    Command {
+        name: Name::VerifyCertificate,
+        arguments: "FILE",
+        what: &[
+            "runs the words of a certificate again, from its ids, and says what agrees with it and what",
+            "differs, a line each",
+        ],
+        example: "verify-certificate FILE",
+    },
 ];
 
 /// What the help says behind the commands.
@@ -135,16 +154,23 @@ A revision is an id, the first 4 digits of one or more, a ref by git's rules, HE
 A...B for A and B without what both reach. For ahead A...B stands for A B.
 
 All objects are compared with their ids. An object that is damaged is a fault, and nothing is listed. Where one is missing, or no commit,
-the first five commands have listed the commits before it, and the others nothing. newest and oldest look whether each parent of a commit
-that they have listed is there, except behind the last line that -n allows. files refuses a tree with a name that is empty or holds a
-slash.
+the first five commands have listed the commits before it, and nothing with --reverse and --count, and the others nothing. newest and
+oldest look whether each parent of a commit that they have met is there, except behind the last line that -n allows. files refuses a tree
+with a name that is empty or holds a slash.
 
   -C FOLDER    takes the repository of this folder, or of the nearest one above it that has one; no variable names another
   --git-dir FOLDER
                takes the folder that is called .git elsewhere
   -n NUMBER    ends after so many lines, in the first five commands; a number has 1 to 9 digits. -n2, --max-count 2 and
                --max-count=2 are the same as -n 2
-  --names      writes behind each id of contains a space and the revision as it was given, or the name of the ref
+  --skip NUMBER
+               leaves out so many lines first, in the first five commands, and -n counts those behind them
+  --merges     takes the commits of two parents and more alone, in the first five commands; --no-merges takes those of one and none
+  --until TIME leaves out the commits of a later time, in the first five commands, and goes on from them. --before TIME is the same
+  --reverse    writes the lines of the first five commands with the last first, as --skip and -n have chosen them
+  --count      writes the number of these lines and not the lines
+  --names      writes behind each id of contains and containing a space and the revision as it was given, or the name of
+               the ref
   --first-parent
                goes from each commit to its first parent alone, in breadth; what ^A excludes is reached by all parents
   --since TIME leaves out the commits of an earlier time and what it would meet by them alone, in newest and oldest. The time
@@ -158,11 +184,15 @@ slash.
   --no-graph   reads all commits themselves. Otherwise git's commit-graph is used where check-graph has found it right
   --trust-graph
                uses git's commit-graph although nobody has checked it, as git does
+  --certificate FILE
+               writes into a new file what was asked, the ids, the SHA-256 of the lines, and which program ran, as JSON;
+               not with check-graph
   --verbose    says on standard error what each revision stands for
   --version    says which program this is, and whether it was proved
 
 The status is 0 where everything was listed, or the commit-graph is right, 1 after a fault, 2 where the words are no such command, and
-3 where contains found that some revisions aren't contained, or is-ancestor that the first isn't reached. A line on standard error says why.
+3 where contains found that some revisions aren't contained, containing that some don't reach the first, is-ancestor that the first
+isn't reached, or verify-certificate that other lines are written. A line on standard error says why.
 ";
 
 /// What the help says of a command.

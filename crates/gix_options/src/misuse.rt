@@ -21,9 +21,18 @@ pub enum Misuse {
     /// Behind `-n` there is no number.
     #[error("-n needs a number of 1 to 9 digits")]
     Limit,
+    /// Behind `--skip` there is no number.
+    #[error("--skip needs a number of 1 to 9 digits")]
+    Skip,
     /// Behind this option there is no time that can be used.
     #[error("{0} needs seconds of 1 to 10 digits, or a date from 1970 on, as 2024-05-01 or 2024-05-01T12:00:00Z")]
     Time(&'static str),
+    /// No commit has one parent at most and two at least.
+    #[error("--merges and --no-merges don't go together")]
+    Merges,
+    /// A number of lines has no last line.
+    #[error("--count and --reverse don't go together")]
+    Count,
     /// `--` would separate revisions from paths.
     #[error("paths aren't known: what follows the command are revisions")]
     Paths,
@@ -51,7 +60,7 @@ pub enum Misuse {
     /// A list of commits begins nowhere.
     #[error("{0} needs a revision without ^")]
     NoTip(&'static str),
-    /// The revisions that `contains` or `merge-base` asks about are missing or hidden, or the first isn't named.
+    /// The revisions that `contains`, `containing` or `merge-base` asks about are missing or hidden, or the first isn't named.
     #[error("{0} needs two revisions at least, the first of them by its name, and none with ^ or a range A..B")]
     Several(&'static str),
     /// `ahead`, `is-ancestor` and `files` take so many revisions.
@@ -60,6 +69,12 @@ pub enum Misuse {
     /// `check-graph` takes no revisions.
     #[error("check-graph takes no revisions, and no option but -C")]
     CheckGraph,
+    /// `verify-certificate` takes one file.
+    #[error("verify-certificate takes one file, and no option but -C and --no-graph")]
+    Certificate,
+    /// Behind `--certificate` its file is missing.
+    #[error("--certificate needs a file")]
+    NoFile,
     /// An argument isn't UTF-8.
     #[error("an argument isn't UTF-8")]
     Arguments,

@@ -17,6 +17,8 @@ pub enum Name {
     Ahead,
     /// Which of some revisions another one reaches.
     Contains,
+    /// Which of some revisions reach another one.
+    Containing,
     /// The best common ancestors of a revision and of any of some others.
     MergeBase,
     /// Whether a revision is reached by another one.
@@ -27,6 +29,8 @@ pub enum Name {
     Resolve,
     /// Whether git's commit-graph says what the commits say.
     CheckGraph,
+    /// Whether what a certificate says was written is written now.
+    VerifyCertificate,
 }
 
 impl Name {
@@ -40,11 +44,13 @@ impl Name {
             "date" => Some(Name::Date),
             "ahead" => Some(Name::Ahead),
             "contains" => Some(Name::Contains),
+            "containing" => Some(Name::Containing),
             "merge-base" => Some(Name::MergeBase),
             "is-ancestor" => Some(Name::IsAncestor),
             "files" => Some(Name::Files),
             "resolve" => Some(Name::Resolve),
             "check-graph" => Some(Name::CheckGraph),
+            "verify-certificate" => Some(Name::VerifyCertificate),
             _ => None,
         }
     }
@@ -59,11 +65,13 @@ impl Name {
             Name::Date => "date",
             Name::Ahead => "ahead",
             Name::Contains => "contains",
+            Name::Containing => "containing",
             Name::MergeBase => "merge-base",
             Name::IsAncestor => "is-ancestor",
             Name::Files => "files",
             Name::Resolve => "resolve",
             Name::CheckGraph => "check-graph",
+            Name::VerifyCertificate => "verify-certificate",
         }
     }
 

@@ -55,12 +55,47 @@ pub struct Options {
     pub by_first_parents: bool,
     /// The digits of the least time, in seconds since 1970.
     pub since: Option<String>,
+    /// The digits of the greatest time of a commit that is listed.
+    pub until: Option<String>,
+    /// Whether only commits of two parents at least are listed.
+    pub merges: bool,
+    /// Whether only commits of one parent at most are listed.
+    pub no_merges: bool,
+    /// The digits of the number of lines that are left out first.
+    pub skip: Option<String>,
     /// The digits of the most lines.
     pub limit: Option<String>,
+    /// Whether only the number of lines is written.
+    pub counts: bool,
+    /// Whether the last line comes first.
+    pub is_reversed: bool,
     /// Whether a byte 0 ends each line.
     pub ends_in_zero: bool,
     /// Whether each line says how its revision was called.
     pub gives_names: bool,
+    /// The new file in which it is kept what was written.
+    pub certificate: Option<String>,
+}
+
+impl Options {
+    /// An option that goes with lists of commits alone, if there is one.
+    fn of_list(&self) -> Option<&'static str> {
+        let given = [
+            (self.limit.is_some(), "-n"),
+            (self.skip.is_some(), "--skip"),
+            (self.until.is_some(), "--until"),
+            (self.merges, "--merges"),
+            (self.no_merges, "--no-merges"),
+            (self.counts, "--count"),
+            (self.is_reversed, "--reverse"),
+        ];
+        for (is_given, option) in given {
+            if is_given {
+                return Some(option);
+            }
+        }
+        None
+    }
 }
 
 /// What is asked of a repository.
@@ -70,7 +105,7 @@ pub struct Question {
     pub place: Place,
     /// The command.
     pub name: Name,
-    /// The revisions, in the order in which they were given.
+    /// The revisions, in the order in which they were given. For `verify-certificate` the file alone.
     pub asked: Vec<Asked>,
     /// What the options say.
     pub options: Options,
@@ -174,9 +209,16 @@ impl Arguments {
                 is_verbose: false,
                 by_first_parents: false,
                 since: None,
+                until: None,
+                merges: false,
+                no_merges: false,
+                skip: None,
                 limit: None,
+                counts: false,
+                is_reversed: false,
                 ends_in_zero: false,
                 gives_names: false,
+                certificate: None,
             },
         }
     }
@@ -189,6 +231,10 @@ impl Arguments {
         }
         match word {
             "-C" | "--git-dir" => return self.read_place(word, behind),
+            "--merges" => self.options.merges = true,
+            "--no-merges" => self.options.no_merges = true,
+            "--count" => self.options.counts = true,
+            "--reverse" => self.options.is_reversed = true,
             "--help" | "-h" => self.needs_help = true,
             "--no-graph" => self.options.rows = Rows::Unused,
             "--trust-graph" => self.options.rows = Rows::Trusted,
@@ -261,8 +307,22 @@ impl Arguments {
                 }
                 self.options.limit = Some(String::from_str(self.alloc, value)?);
             }
+            "--skip" => {
+                if !is_number(value, 9) {
+                    return Err(Misuse::Skip);
+                }
+                self.options.skip = Some(String::from_str(self.alloc, value)?);
+            }
+            "--certificate" => {
+                if value.is_empty() {
+                    return Err(Misuse::NoFile);
+                }
+                self.options.certificate = Some(String::from_str(self.alloc, value)?);
+            }
             "--since" => self.options.since = Some(self.digits_of("--since", value)?),
-            _ => self.options.since = Some(self.digits_of("--after", value)?),
+            "--after" => self.options.since = Some(self.digits_of("--after", value)?),
+            "--until" => self.options.until = Some(self.digits_of("--until", value)?),
+            _ => self.options.until = Some(self.digits_of("--before", value)?),
         }
         Ok(())
     }
@@ -328,8 +388,16 @@ impl Arguments {
 
     /// Whether each option goes with the command.
     fn check_options(&self, name: Name) -> Result<(), Misuse> {
-        if self.options.limit.is_some() && !name.is_list() {
-            return Err(Misuse::option("-n", name));
+        if !name.is_list() {
+            if let Some(option) = self.options.of_list() {
+                return Err(Misuse::option(option, name));
+            }
+        }
+        if self.options.merges && self.options.no_merges {
+            return Err(Misuse::Merges);
+        }
+        if self.options.counts && self.options.is_reversed {
+            return Err(Misuse::Count);
         }
         if self.options.by_first_parents && name != Name::Breadth {
             return Err(Misuse::option("--first-parent", name));
@@ -340,8 +408,18 @@ impl Arguments {
         if self.options.ends_in_zero && name != Name::Files {
             return Err(Misuse::option("-z", name));
         }
-        if self.options.gives_names && name != Name::Contains {
+        if self.options.gives_names && !matches!(name, Name::Contains | Name::Containing) {
             return Err(Misuse::option("--names", name));
+        }
+        if self.options.certificate.is_some() && name == Name::CheckGraph {
+            return Err(Misuse::option("--certificate", name));
+        }
+        if name == Name::VerifyCertificate
+            && (self.options.certificate.is_some()
+                || self.options.takes_border
+                || self.options.rows == Rows::Trusted)
+        {
+            return Err(Misuse::Certificate);
         }
         if name == Name::CheckGraph
             && (!self.asked.is_empty()
@@ -359,6 +437,10 @@ impl Arguments {
         let tips = self.asked.iter().filter(|word| may_be_tip(word)).count();
         match name {
             Name::CheckGraph => Ok(()),
+            Name::VerifyCertificate => match self.asked.as_slice() {
+                [Asked::Word(_)] => Ok(()),
+                _ => Err(Misuse::Certificate),
+            },
             Name::Ahead => {
                 if words == 2 && tips == 2 || words == 1 && self.has_symmetric() {
                     Ok(())
@@ -380,7 +462,7 @@ impl Arguments {
                     Err(Misuse::Number(name.word(), 1))
                 }
             }
-            Name::Contains | Name::MergeBase => {
+            Name::Contains | Name::Containing | Name::MergeBase => {
                 let begins = matches!(self.asked.first(), Some(Asked::Word(_)));
                 if begins && words > 1 && tips == words {
                     Ok(())
@@ -431,7 +513,16 @@ fn with_value(word: &str) -> (&str, Option<&str>) {
 
 /// Whether an option has a value.
 fn takes_value(option: &str) -> bool {
-    matches!(option, "-n" | "--max-count" | "--since" | "--after")
+    matches!(
+        option,
+        "-n" | "--max-count"
+            | "--skip"
+            | "--since"
+            | "--after"
+            | "--until"
+            | "--before"
+            | "--certificate"
+    )
 }
 
 /// Whether a word is 1 to so many decimal digits.

@@ -25,7 +25,39 @@ const CASES: &[(&str, &str)] = &[
         "-C . newest --after 2023-02-29 HEAD",
         "--after needs seconds of 1 to 10 digits, or a date from 1970 on, as 2024-05-01 or 2024-05-01T12:00:00Z",
     ),
-    ("-C . topo HEAD --max-count=2 -n3 --max-count 4", ""),
+    (
+        "-C . newest --before 2023-02-29 HEAD",
+        "--before needs seconds of 1 to 10 digits, or a date from 1970 on, as 2024-05-01 or 2024-05-01T12:00:00Z",
+    ),
+    ("-C . topo HEAD --max-count=2 -n3 --skip 4", ""),
+    (
+        "-C . topo HEAD --skip=",
+        "--skip needs a number of 1 to 9 digits",
+    ),
+    (
+        "-C . topo --merges HEAD --no-merges",
+        "--merges and --no-merges don't go together",
+    ),
+    (
+        "-C . topo --count HEAD --reverse",
+        "--count and --reverse don't go together",
+    ),
+    ("-C . ahead a b --count", "--count doesn't go with ahead"),
+    (
+        "-C . contains --no-merges a b",
+        "--no-merges doesn't go with contains",
+    ),
+    ("-C . files a --until 1", "--until doesn't go with files"),
+    (
+        "-C . merge-base --skip=1 a b",
+        "--skip doesn't go with merge-base",
+    ),
+    (
+        "-C . resolve --reverse a",
+        "--reverse doesn't go with resolve",
+    ),
+    ("-C . date --before=1 --merges --skip 2 --count a", ""),
+    ("-C . oldest --until=2024-02-29 --no-merges --reverse a", ""),
     ("-C . topo --since 1 HEAD", "--since doesn't go with topo"),
     (
         "-C . newest HEAD --first-parent",
@@ -59,6 +91,15 @@ const CASES: &[(&str, &str)] = &[
         "contains needs two revisions at least, the first of them by its name, and none with ^ or a range A..B",
     ),
     ("-C . contains HEAD --tags", ""),
+    (
+        "-C . containing HEAD",
+        "containing needs two revisions at least, the first of them by its name, and none with ^ or a range A..B",
+    ),
+    (
+        "-C . containing --count HEAD a",
+        "--count doesn't go with containing",
+    ),
+    ("-C . containing HEAD --names --tags", ""),
     ("-C . contains HEAD --names --tags", ""),
     (
         "-C . merge-base HEAD --names a",

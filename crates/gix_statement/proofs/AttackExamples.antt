@@ -1,7 +1,6 @@
 -- Attacks, as theorems: what is refused because there is one right output, and what is admitted and harmless.
-use Rattle.std.proofs.Common.{◌≡◌, ℕ, ℤ, List, [], ◌∷◌, ◌++◌, length, Some, None, Ok, Err, codes, refl, sym, ap, ◌∙◌, arith, inl, inr}
+use Rattle.std.proofs.Common.{◌≡◌, ℕ, ℤ, List, [], ◌∷◌, ◌++◌, length, Some, None, Ok, Err, codes, refl, ap, arith, inl, inr}
 use Rattle.std.proofs.lemmas.List.Elements.{All-nil}
-use Rattle.std.specs.Str.Parse.{digits_value}
 use Rattle.gix_hash.specs.declared.ObjectId.{ObjectId}
 use Rattle.gix_hash.proofs.Ids.Membership.{no_member}
 use Rattle.gix_statement.specs.WholeStatement as page
@@ -38,19 +37,15 @@ module _ (objects : Objects) (rows : List Row) (parents : ObjectId → List Obje
   nothing_begun hidden = (All-nil _, (λ i j d l below. absurd (omega (arith, below))), λ taken rest i e. absurd (not_cut taken rest i e))
 
   no_lines : Serves objects rows parents time (Some []) (Some []) (codes "breadth" ∷ codes "-n" ∷ codes "0" ∷ tip ∷ [])
-  no_lines = commits [] (lists [] (codes "-n" ∷ codes "0" ∷ []) (tip ∷ []) {hidden = []} (0, omega arith, refl) (inl (child, [], refl, spelled, (refl, refl))) (λ e. cc) page.all (All-nil _) (nothing_begun [])
-      (inr (codes "0", 0, (omega arith, omega arith, all_digits 10 (codes "0") refl, refl), refl, omega arith)) (λ ended more. absurd (none_more more))) refl
-    where
-      none_more : Allows (codes "-n" ∷ codes "0" ∷ []) 1 → ⊥
-      none_more (inl e) = cc
-      none_more (inr (number, most, is, e, few)) =
-          let same : codes "0" ≡ number = cc in
-          let value : most ≡ 0 = is.3 ∙ ap (digits_value 10) (sym same) in
-          omega (arith, few, value)
+  no_lines = commits []
+      (lists [] (codes "-n" ∷ codes "0" ∷ tip ∷ []) _ [] {hidden = []} (0, omega arith, refl)
+      (page.at_most 0 (omega arith, omega arith, all_digits 10 (codes "0") refl, refl) (omega arith) (page.everything (inl (child, [], refl, spelled, (refl, refl))))) (λ e. cc) page.all (All-nil _) (nothing_begun [])
+      (omega arith) (λ ended more. absurd (omega (arith, more))) (inl refl) refl) refl
 
   tip_hidden : Serves objects rows parents time (Some []) (Some []) (codes "breadth" ∷ tip ∷ (94 ∷ tip) ∷ [])
-  tip_hidden = commits [] (lists [] [] (tip ∷ (94 ∷ tip) ∷ []) {hidden = child ∷ []} (0, omega arith, refl) (inl (child, [], refl, spelled, inr (child, [], refl, tip, refl, spelled, (refl, refl)))) (λ e. cc) page.all (All-nil _)
-      (nothing_begun (child ∷ [])) (inl refl) (λ ended more. (none_next, λ acyclic i s. absurd (s.1 (up i s.0))))) refl
+  tip_hidden = commits []
+      (lists [] (tip ∷ (94 ∷ tip) ∷ []) _ [] {hidden = child ∷ []} (0, omega arith, refl) (page.everything (inl (child, [], refl, spelled, inr (child, [], refl, tip, refl, spelled, (refl, refl))))) (λ e. cc) page.all (All-nil _)
+      (nothing_begun (child ∷ [])) tt (λ ended more. (none_next, λ acyclic i s. absurd (s.1 (up i s.0)))) (inl refl) refl) refl
     where
       up : (i : ObjectId) → Reaches parents (child ∷ []) i → Reaches parents (child ∷ []) i
       up i r = r

@@ -1,7 +1,7 @@
 -- What is right of the objects that were read is right of all objects that have them.
 use Rattle.std.proofs.Common.{◌≡◌, ◌≢◌, ◌⊎◌, ℕ, ℤ, List, [], ◌∷◌, Option, Some, None, All, Contains, refl, sym, ap, ◌∙◌, inl, inr, ⊎_elim, zero, suc, true}
 use Rattle.gix_hash.specs.declared.ObjectId.{ObjectId}
-use Rattle.gix_statement.specs.WholeStatement.{Object, Objects, Row, IsText, IsCommit, IsThere, IsHistory, Clash, Carries, Lists, lists, Serves, commits, ahead, contains, bases, files, IsTree, Unfolds, whole, other, tree, Entry}
+use Rattle.gix_statement.specs.WholeStatement.{Object, Objects, Row, IsText, IsCommit, IsThere, IsHistory, Clash, Carries, Lists, lists, Serves, commits, ahead, contains, containing, bases, files, IsTree, Unfolds, whole, other, tree, Entry}
 
 module _ (read objects : Objects) (rows others : List Row) (all : (i : ObjectId) (o : Object) → read i ≡ Some o → objects i ≡ Some o) (agree : (r : Row) → Contains rows r → IsCommit objects others r) where
   text_too : (r : Row) → IsText read r → IsText objects r
@@ -29,13 +29,14 @@ module _ (read objects : Objects) (rows others : List Row) (all : (i : ObjectId)
   history_too parents time h r c = h r (commit_too r c)
 
   module _ (parents : ObjectId → List ObjectId) (time : ObjectId → ℤ) where
-    lists_too : (ids : List ObjectId) (words : List (List ℕ)) → Lists read rows parents time ids true words → Lists objects others parents time ids true words
-    lists_too ids words (lists option limit tips named are some follows there begins allows ended) = lists option limit tips named are some follows (all_there ids there) begins allows ended
+    lists_too : (bytes : List ℕ) (words : List (List ℕ)) → Lists read rows parents time bytes true words → Lists objects others parents time bytes true words
+    lists_too bytes words (lists option more c ids named chooses some follows there begins allows ended may is_written) = lists option more c ids named chooses some follows (all_there ids there) begins allows ended may is_written
 
     serves_too : (old new : Option (List ℕ)) (words : List (List ℕ)) → Serves read rows parents time old new words → Serves objects others parents time old new words
     serves_too old new words (commits ids l appends) = commits ids (lists_too ids words l) appends
     serves_too old new words (ahead {one = one} {other = two} n m a b one_there other_there ns ms appends) = ahead n m a b (there_too one one_there) (there_too two other_there) ns ms appends
     serves_too old new words (contains {tip = tip} {ids = ids} are some there keeps appends) = contains are some (all_there (tip ∷ ids) there) keeps appends
+    serves_too old new words (containing {target = target} {tips = tips} are some there keeps appends) = containing are some (all_there (target ∷ tips) there) keeps appends
     serves_too old new words (bases {one = one} {others = ids} those are some there exact rising appends) = bases those are some (all_there (one ∷ ids) there) exact rising appends
     serves_too old new words (files option a {tree = i} {entries = entries} ends spells is unfolds appends) = files option a ends spells (tree_too i entries is) (unfolds_too unfolds) appends
 

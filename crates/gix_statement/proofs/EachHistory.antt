@@ -59,6 +59,25 @@ module _ (objects : Objects) (rows : List Row) (parents other : ObjectId → Lis
     kept_there before ids those (kept {i = i} r k) = kept (reach_there i r) (kept_there _ _ _ k)
     kept_there before ids those (passed {i = i} n k) = passed (λ r. n (reach_back i r)) (kept_there _ _ _ k)
 
+  -- `containing`
+  module _ (target : ObjectId) (tips : List ObjectId) (there : (i : ObjectId) → Reaches parents tips i → IsThere objects rows i) where
+    below_tip : (i : ObjectId) → Contains tips i → (j : ObjectId) → Reaches parents (i ∷ []) j → IsThere objects rows j
+    below_tip i m j r = there j (from_tip r)
+      where
+        from_tip : {k : ObjectId} → Reaches parents (i ∷ []) k → Reaches parents tips k
+        from_tip (start {i = k} s) = start (⊎_elim (λ e. subst (Contains tips) e m) (λ n. absurd (no_member k n)) (Contains-cons_cases k i [] s))
+        from_tip (parent s n) = parent (from_tip s) n
+
+    pub containing_there : (those : List ObjectId) → Keeps (λ before i after. Reaches parents (i ∷ []) target) [] tips those → Keeps (λ before i after. Reaches other (i ∷ []) target) [] tips those
+    containing_there those keeps = go [] tips those (λ i m. m) keeps
+      where
+        go : (before ids those : List ObjectId) → ((i : ObjectId) → Contains ids i → Contains tips i) → Keeps (λ before i after. Reaches parents (i ∷ []) target) before ids those → Keeps (λ before i after. Reaches other (i ∷ []) target) before ids those
+        go before ids those among empty = empty
+        go before ids those among (kept {i = i} {after = more} r k) =
+            kept (reach_there (i ∷ []) (below_tip i (among i (Contains-here i more))) target r) (go _ _ _ (λ j m. among j (Contains-there j i more m)) k)
+        go before ids those among (passed {i = i} {after = more} n k) =
+            passed (λ r. n (reach_back (i ∷ []) (below_tip i (among i (Contains-here i more))) target r)) (go _ _ _ (λ j m. among j (Contains-there j i more m)) k)
+
   -- `merge-base`
   onward : (starts : List ObjectId) (j i : ObjectId) → Reaches parents starts j → Reaches parents (j ∷ []) i → Reaches parents starts i
   onward starts j i r (start m) = ⊎_elim (λ e. subst (Reaches parents starts) e r) (λ n. absurd (no_member i n)) (Contains-cons_cases i j [] m)

@@ -1,9 +1,10 @@
 -- What the statement refuses: a run over empty input that ends well has written nothing of what isn't there.
-use Rattle.std.proofs.Common.{◌≡◌, ℕ, ℤ, pos, List, [], ◌∷◌, ◌++◌, Option, Some, None, Ok, All, Contains, codes, flat_map, refl, sym, ap, subst, ◌∙◌, arith, ⊎_elim, inl, inr}
+use Rattle.std.proofs.Common.{◌≡◌, ◌⊎◌, ℕ, zero, suc, drop, length, ℤ, pos, List, [], ◌∷◌, ◌++◌, Option, Some, None, Ok, All, Contains, codes, refl, sym, ap, subst, ◌∙◌, arith, ⊎_elim, inl, inr}
+use Rattle.std.specs.Fmt.{digits}
 use Rattle.gix_hash.proofs.Ids.Membership.{no_member}
 use Rattle.gix_hash.specs.declared.ObjectId.{ObjectId}
 use Rattle.gix_statement.proofs.Tests.{not_among}
-use Rattle.gix_statement.specs.WholeStatement.{Object, Objects, Row, AreRecords, AreFed, IsLast, IsCommit, IsThere, IsHistory, Promises, Serves, commits, ahead, contains, bases, files, lists, id_line}
+use Rattle.gix_statement.specs.WholeStatement.{Object, Objects, Row, AreRecords, AreFed, IsLast, IsCommit, IsThere, IsHistory, Promises, Serves, commits, ahead, contains, containing, bases, files, lists, Choice, Form, Lines, Reversed, Number, chosen, written}
 
 pub none : ObjectId → List ObjectId
 none i = []
@@ -31,6 +32,14 @@ fed_nothing objects (input, known, records, are, last) i = ⊎_elim (λ e. let n
     go None e empty l = e
     go (Some o) e empty (before, after, is, l) = absurd (no_record i o before after records empty is)
 
+pub none_chosen : {I : Type 0} (n : ℕ) → ◌≡◌ {A = List I} (drop n []) []
+none_chosen zero = refl
+none_chosen (suc n) = refl
+
+-- no byte, or the number 0
+abbrev pub IsNothing : List ℕ → Type 0
+IsNothing out = (out ≡ []) ⊎ (out ≡ codes "0\n")
+
 module _ (objects : Objects) (rows : List Row) (nothing : (i : ObjectId) → objects i ≡ None) (no_rows : rows ≡ []) where
   pub no_commit : (r : Row) → IsCommit objects rows r → ⊥
   no_commit r (inl (id, lines, rest, spells, parents, time, is)) = let no : None ≡ Some _ = sym (nothing r.id) ∙ is in cc
@@ -46,12 +55,23 @@ module _ (objects : Objects) (rows : List Row) (nothing : (i : ObjectId) → obj
   pub a_history : IsHistory objects rows none no_time
   a_history r c = absurd (no_commit r c)
 
-  -- so no word but the name of a list is served, and nothing is written
-  pub served_nothing : (words : List (List ℕ)) (out : List ℕ) → Serves objects rows none no_time (Some []) (Some out) words → out ≡ []
-  served_nothing words out (commits ids (lists {by = by} option limit more named are some follows there begins allows ended) appends) =
-      appends ∙ ap (λ is. flat_map id_line is) (none_there ids there)
+  -- what is written of no commits
+  of_none : (form : Form) → IsNothing (written form [])
+  unfolding digits
+  of_none Lines = inl refl
+  of_none Reversed = inl refl
+  of_none Number = inr refl
+
+  written_of_none : (c : Choice) (ids : List ObjectId) → ids ≡ [] → IsNothing (written c.form (chosen none no_time c ids))
+  written_of_none c ids is = subst (λ xs. IsNothing (written c.form xs)) (sym (none_chosen c.skip) ∙ ap (chosen none no_time c) (sym is)) (of_none c.form)
+
+  -- so no word but the name of a list is served, and of a list nothing is written, or that it has none
+  pub served_nothing : (words : List (List ℕ)) (out : List ℕ) → Serves objects rows none no_time (Some []) (Some out) words → IsNothing out
+  served_nothing words out (commits bytes (lists option more c ids named chooses some follows there begins allows ended may is_written) appends) =
+      subst IsNothing (sym (appends ∙ is_written)) (written_of_none c ids (none_there ids there))
   served_nothing words out (ahead {one = one} n m a b there other ns ms appends) = absurd (not_there one there)
   served_nothing words out (contains {tip = tip} {ids = ids} are some there keeps appends) = absurd (not_there tip (there 0 tip (omega arith)))
+  served_nothing words out (containing {target = target} are some there keeps appends) = absurd (not_there target (there 0 target (omega arith)))
   served_nothing words out (bases {one = one} those are some there exact rising appends) = absurd (not_there one (there 0 one (omega arith)))
   served_nothing words out (files option a {tree = t} ends spells (text, is, entries) unfolds appends) = let no : None ≡ Some _ = sym (nothing t) ∙ is in cc
 
@@ -62,11 +82,12 @@ module _ (objects : Objects) (rows : List Row) (nothing : (i : ObjectId) → obj
   none_of_five = not_among (codes "contains") (codes "breadth") (codes "newest" ∷ codes "oldest" ∷ codes "topo" ∷ codes "date" ∷ []) (λ e. cc) (not_among (codes "contains") (codes "newest") (codes "oldest" ∷ codes "topo" ∷ codes "date" ∷ []) (λ e. cc) (not_among (codes "contains") (codes "oldest") (codes "topo" ∷ codes "date" ∷ []) (λ e. cc) (not_among (codes "contains") (codes "topo") (codes "date" ∷ []) (λ e. cc) (not_among (codes "contains") (codes "date") ([]) (λ e. cc) (no_member (codes "contains"))))))
 
   not_contained : (words rest : List (List ℕ)) (out : List ℕ) → words ≡ codes "contains" ∷ rest → Serves objects rows none no_time (Some []) (Some out) words → ⊥
-  not_contained words rest out is (commits ids (lists {by = by} option limit more named are some follows there begins allows ended) appends) =
+  not_contained words rest out is (commits bytes (lists {by = by} option more c ids named chooses some follows there begins allows ended may is_written) appends) =
       let same : by ≡ codes "contains" = cc in
       none_of_five (subst (Contains five) same named)
   not_contained words rest out is (ahead {one = one} n m a b there other ns ms appends) = not_there one there
   not_contained words rest out is (contains {tip = tip} {ids = ids} are some there keeps appends) = not_there tip (there 0 tip (omega arith))
+  not_contained words rest out is (containing {target = target} are some there keeps appends) = not_there target (there 0 target (omega arith))
   not_contained words rest out is (bases {one = one} those are some there exact rising appends) = not_there one (there 0 one (omega arith))
   not_contained words rest out is (files option a {tree = t} ends spells (text, e, entries) unfolds appends) = let no : None ≡ Some _ = sym (nothing t) ∙ e in cc
 
@@ -74,14 +95,17 @@ module _ (objects : Objects) (rows : List Row) (nothing : (i : ObjectId) → obj
 abbrev pub Read : List ℕ → Objects → List Row → Type 0
 Read input objects rows = AreFed (Some input) objects × (rows ≡ [])
 
--- THE FIRST HOLE: `breadth 22..` over empty input writes `22..`. Whatever the words, nothing at all may be written.
-nothing_is_listed : {E : Type 0} (e : E) (words : List (List ℕ)) (out : List ℕ) → Promises e words (Read []) (Some []) (Ok tt) (Some out) → out ≡ []
+-- THE FIRST HOLE: `breadth 22..` over empty input writes `22..`. Whatever the words, nothing may be written but a number 0.
+nothing_is_listed : {E : Type 0} (e : E) (words : List (List ℕ)) (out : List ℕ) → Promises e words (Read []) (Some []) (Ok tt) (Some out) → IsNothing out
 nothing_is_listed e words out (objects, rows, (fed, no_rows), agree, right) =
     let nothing = fed_nothing objects fed in
     served_nothing objects rows nothing no_rows words out (right none no_time (a_history objects rows nothing no_rows))
 
 missing_tip_is_not_listed : {E : Type 0} (e : E) → Promises e (codes "breadth" ∷ codes "2222222222222222222222222222222222222222" ∷ []) (Read []) (Some []) (Ok tt) (Some (codes "2222222222222222222222222222222222222222\n")) → ⊥
-missing_tip_is_not_listed e p = let no : codes "2222222222222222222222222222222222222222\n" ≡ [] = nothing_is_listed e _ _ p in cc
+missing_tip_is_not_listed e p = ⊎_elim
+    (λ none. let l : 41 ≡ 0 = ap length none in omega (arith, l))
+    (λ zero_line. let l : 41 ≡ 2 = ap length zero_line in omega (arith, l))
+    (nothing_is_listed e _ _ p)
 
 -- THE SECOND HOLE: `contains RELEASE FIX` over empty input writes nothing, and ends well.
 missing_release_is_a_fault : {E : Type 0} (e : E) (out : List ℕ) → Promises e (codes "contains" ∷ codes "2222222222222222222222222222222222222222" ∷ codes "1111111111111111111111111111111111111111" ∷ []) (Read []) (Some []) (Ok tt) (Some out) → ⊥

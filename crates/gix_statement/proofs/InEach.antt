@@ -1,14 +1,14 @@
 -- What a proof of the statement has to bring for each command: the answer in one history, and that what was gone through is there.
-use Rattle.std.proofs.Common.{Bool, true, All, AllPairs, Contains, List, Option, [], arith, codes, false, flat_map, length, refl, subst, suc, sym, ℕ, ℤ, ◌++◌, ◌∷◌, ◌≡◌, ◌≢◌, ◌⊎◌, ◌↔◌}
+use Rattle.std.proofs.Common.{Bool, true, All, AllPairs, Contains, List, Option, [], arith, codes, false, flat_map, length, refl, subst, suc, sym, ℕ, ℤ, ◌++◌, ◌∷◌, ◌≡◌, ◌≢◌, ◌⊎◌, ◌↔◌, ap, drop, ◌∙◌}
 use Rattle.std.specs.declared.cmp.Ordering.TheVariants.{Less}
 use Rattle.std.specs.Fmt.{digits}
 use Rattle.std.specs.Io.KnownBytes.{Appends}
-use Rattle.std.proofs.lemmas.List.Elements.{All-nil}
+use Rattle.std.proofs.lemmas.List.Elements.{All-contains, All-nil}
 use Rattle.gix_hash.proofs.Ids.Membership.{no_member}
 use Rattle.gix_hash.specs.declared.ObjectId.{ObjectId}
-use Rattle.gix_statement.specs.WholeStatement.{Objects, Row, IsThere, IsHistory, InEach, Allows, AreTips, Begins, IsWhole, IsNext, breadth, newest, oldest, date, topo, parent, Follows, all, id_line, digits_in, Spells, Keeps, Lists, lists, HasBegun, Serves, commits, ahead, contains, bases, IsBase, by_bytes, files, Reaches, start, IsNumberShown, IsTree, Unfolds, Entry, entry_line}
+use Rattle.gix_statement.specs.WholeStatement.{Objects, Row, IsThere, IsHistory, InEach, Allows, AreTips, Begins, IsWhole, IsNext, breadth, newest, oldest, date, topo, parent, Follows, all, id_line, digits_in, Spells, Keeps, Lists, lists, Serves, ahead, contains, containing, bases, IsBase, by_bytes, files, Reaches, start, IsNumberShown, IsTree, Unfolds, Entry, entry_line, Choice, Chooses, Lines, chosen, written}
 use Rattle.gix_statement.proofs.Heart.{IsSimple}
-use Rattle.gix_statement.proofs.EachHistory.{base_back, base_there, counted_there, kept_there, moved, same_parents, same_time}
+use Rattle.gix_statement.proofs.EachHistory.{base_back, base_there, containing_there, counted_there, kept_there, moved, same_parents, same_time, filter_same}
 use Rattle.gix_statement.proofs.Descents.{IsDown, begins_down, whole_down}
 
 module _ (objects : Objects) (rows : List Row) (parents : ObjectId → List ObjectId) (time : ObjectId → ℤ) (one : IsHistory objects rows parents time) (old new : Option (List ℕ)) where
@@ -18,47 +18,61 @@ module _ (objects : Objects) (rows : List Row) (parents : ObjectId → List Obje
   abbrev AreThere : List ObjectId → Type 0
   AreThere starts = (i : ObjectId) → Reaches parents starts i → IsThere objects rows i
 
-  module _ (by : List ℕ) (option limit words : List (List ℕ)) (tips hidden ids : List ObjectId)
+  module _ (by : List ℕ) (option words : List (List ℕ)) (c : Choice) (place : ℕ) (tips hidden ids : List ObjectId)
       (named : Contains (codes "breadth" ∷ codes "newest" ∷ codes "oldest" ∷ codes "topo" ∷ codes "date" ∷ []) by)
-      (are : AreTips words tips hidden) (some : tips ≢ []) (there : All (IsThere objects rows) ids)
-      (allows : Allows limit (length ids)) (written : Appends old new (flat_map id_line ids)) where
+      (chooses : Chooses tips hidden place words c) (some : tips ≢ []) (there : All (IsThere objects rows) ids)
+      (allows : Allows c.limit (length (chosen parents time c ids))) (ended : Bool) (may : (ended ≡ true) ⊎ (c.form ≡ Lines))
+      (bytes : List ℕ) (is_written : bytes ≡ written c.form (chosen parents time c ids)) (appends : Appends old new bytes) where
     abbrev those : List (List ℕ)
-    those = by ∷ (option ++ (limit ++ words))
+    those = by ∷ (option ++ words)
 
     -- a list that has ended, or not yet
-    abbrev EachLists : Bool → Type 0
-    EachLists ended = InEach objects rows (λ ps ts. Lists objects rows ps ts ids ended those)
+    abbrev pub EachLists : Type 0
+    EachLists = InEach objects rows (λ ps ts. Lists objects rows ps ts bytes ended those)
 
-    abbrev pub HasEnded : Bool → Type 0
-    HasEnded ended = (ended ≡ true) × Allows limit (suc (length ids))
+    abbrev pub HasEnded : Type 0
+    HasEnded = (ended ≡ true) × Allows c.limit (suc (length (chosen parents time c ids)))
 
-    -- so it was written, or begun
-    pub served : EachLists true → Each those
-    served each other times another = commits ids (each other times another) written
+    -- what is chosen of what is there is the same in each history
+    module _ (other : ObjectId → List ObjectId) (times : ObjectId → ℤ) (another : IsHistory objects rows other times) where
+      same_chosen : chosen parents time c ids ≡ chosen other times c ids
+      same_chosen = ap (drop c.skip) (filter_same (λ i. c.keeps (length (parents i)) (time i)) (λ i. c.keeps (length (other i)) (times i)) ids kept)
+        where
+          kept : (i : ObjectId) → Contains ids i → c.keeps (length (parents i)) (time i) ≡ c.keeps (length (other i)) (times i)
+          kept i m =
+              let here : IsThere objects rows i = All-contains (IsThere objects rows) ids i there m in
+              let p = same_parents objects rows parents other time times one another i here in
+              let t = same_time objects rows parents other time times one another i here in
+              (λ k. c.keeps (length (p k)) (t k))
 
-    pub begun : EachLists false → InEach objects rows (λ ps ts. HasBegun objects rows ps ts old new those)
-    begun each other times another = (ids, each other times another, written)
+      -- a list in this history, by its own
+      listed : {followed : ObjectId → List ObjectId} {starts : List ObjectId} → Follows other times tips by option followed starts → Begins other followed times starts hidden by ids
+          → (HasEnded → IsWhole other followed times starts hidden by ids) → Lists objects rows other times bytes ended those
+      listed follows begins whole = lists option words c ids named chooses some follows there begins
+          (subst (λ xs. Allows c.limit (length xs)) same_chosen allows)
+          (λ e more. whole (e, subst (λ xs. Allows c.limit (suc (length xs))) (sym same_chosen) more))
+          may (is_written ∙ ap (written c.form) same_chosen)
 
     -- `breadth`, `newest`, `oldest`
-    pub simple_each : (ended : Bool) → IsSimple by → {followed : ObjectId → List ObjectId} {starts : List ObjectId} → Follows parents time tips by option followed starts
-        → Begins parents followed time starts hidden by ids → (HasEnded ended → IsWhole parents followed time starts hidden by ids)
+    pub simple_each : IsSimple by → {followed : ObjectId → List ObjectId} {starts : List ObjectId} → Follows parents time tips by option followed starts
+        → Begins parents followed time starts hidden by ids → (HasEnded → IsWhole parents followed time starts hidden by ids)
         → AreThere hidden → (by ≢ codes "breadth" → (i : ObjectId) → Contains tips i → IsThere objects rows i)
         → (by ≢ codes "breadth" → (taken rest : List ObjectId) (j : ObjectId) → ids ≡ taken ++ j ∷ rest → (c i : ObjectId) → Contains taken c → Contains (parents c) i → IsThere objects rows i)
-        → (HasEnded ended → by ≢ codes "breadth" → (c i : ObjectId) → Contains ids c → Contains (parents c) i → IsThere objects rows i) → EachLists ended
-    simple_each ended simple {followed} {starts} follows begins whole below first_judged judged every other times another =
+        → (HasEnded → by ≢ codes "breadth" → (c i : ObjectId) → Contains ids c → Contains (parents c) i → IsThere objects rows i) → EachLists
+    simple_each simple {followed} {starts} follows begins whole below first_judged judged every other times another =
         let m = moved objects rows parents other time times one another by simple tips hidden ids there below first_judged judged option followed starts follows in
-        lists option limit words named are some m.1 there (m.2 begins) allows (λ e more. m.3 (every (e, more)) begins (whole (e, more)))
+        listed other times another m.1 (m.2 begins) (λ h. m.3 (every h) begins (whole h))
 
     -- nothing listed: then hidden ids needn't have been read, if no start is left or the limit is 0
-    pub none_each : (ended : Bool) → IsSimple by → {followed : ObjectId → List ObjectId} {starts : List ObjectId} → Follows parents time tips by option followed starts → ids ≡ [] → (HasEnded ended → starts ≡ [])
-        → (by ≢ codes "breadth" → (i : ObjectId) → Contains tips i → IsThere objects rows i) → EachLists ended
-    none_each ended simple {followed} {starts} follows nothing unstarted judged other times another =
+    pub none_each : IsSimple by → {followed : ObjectId → List ObjectId} {starts : List ObjectId} → Follows parents time tips by option followed starts → ids ≡ [] → (HasEnded → starts ≡ [])
+        → (by ≢ codes "breadth" → (i : ObjectId) → Contains tips i → IsThere objects rows i) → EachLists
+    none_each simple {followed} {starts} follows nothing unstarted judged other times another =
         let m = moved objects rows parents other time times one another by simple tips [] [] (All-nil (IsThere objects rows)) (λ i r. absurd (unreached parents i r)) judged
         (λ late taken rest j is. absurd (not_cut taken rest j is)) option followed starts follows in
-        lists option limit words {hidden = hidden} named are some m.1 there
-        (subst (Begins other m.0 times starts hidden by) (sym nothing) (All-nil _, (λ i j d l below. absurd (omega (arith, below))), λ taken rest i is. absurd (not_cut taken rest i is))) allows
-        (λ e more. subst (IsWhole other m.0 times starts hidden by) (sym nothing)
-        (subst (λ from. IsWhole other m.0 times from hidden by []) (sym (unstarted (e, more))) (none_next m.0 times by simple, λ acyclic i s. absurd (unreached m.0 i s.0))))
+        listed other times another m.1
+        (subst (Begins other m.0 times starts hidden by) (sym nothing) (All-nil _, (λ i j d l below. absurd (omega (arith, below))), λ taken rest i is. absurd (not_cut taken rest i is)))
+        (λ h. subst (IsWhole other m.0 times starts hidden by) (sym nothing)
+        (subst (λ from. IsWhole other m.0 times from hidden by []) (sym (unstarted h)) (none_next m.0 times by simple, λ acyclic i s. absurd (unreached m.0 i s.0))))
       where
         unreached : (names : ObjectId → List ObjectId) (i : ObjectId) → Reaches names [] i → ⊥
         unreached names i (start s) = no_member i s
@@ -76,15 +90,15 @@ module _ (objects : Objects) (rows : List Row) (parents : ObjectId → List Obje
         none_next names ts name plain i (topo ready made f) = plain (0, omega arith, refl)
 
     -- `topo`, `date`
-    pub down_each : (ended : Bool) → IsDown by → option ≡ [] → Begins parents parents time tips hidden by ids → (HasEnded ended → IsWhole parents parents time tips hidden by ids)
-        → AreThere tips → AreThere hidden → EachLists ended
-    down_each ended falls plain begins whole above below other times another =
+    pub down_each : IsDown by → option ≡ [] → Begins parents parents time tips hidden by ids → (HasEnded → IsWhole parents parents time tips hidden by ids)
+        → AreThere tips → AreThere hidden → EachLists
+    down_each falls plain begins whole above below other times another =
         let up : (c : ObjectId) → Reaches parents tips c → parents c ≡ other c = (λ c r. same_parents objects rows parents other time times one another c (above c r)) in
         let down : (c : ObjectId) → Reaches parents hidden c → parents c ≡ other c = (λ c r. same_parents objects rows parents other time times one another c (below c r)) in
         let timed : (c : ObjectId) → Reaches parents tips c → time c ≡ times c = (λ c r. same_time objects rows parents other time times one another c (above c r)) in
-        lists option limit words named are some (subst (λ o. Follows other times tips by o other tips) (sym plain) all) there
-        (begins_down parents other time times tips hidden up down timed by falls ids begins) allows
-        (λ e more. whole_down parents other time times tips hidden up down timed by falls ids begins (whole (e, more)))
+        listed other times another (subst (λ o. Follows other times tips by o other tips) (sym plain) all)
+        (begins_down parents other time times tips hidden up down timed by falls ids begins)
+        (λ h. whole_down parents other time times tips hidden up down timed by falls ids begins (whole h))
 
   pub ahead_each : {a b : List ℕ} {left right : ObjectId} (n m : ℕ) → Spells (digits_in left) a left → Spells (digits_in right) b right
       → AreThere (left ∷ []) → AreThere (right ∷ []) → IsNumberShown parents parents time (left ∷ []) (right ∷ []) n → IsNumberShown parents parents time (right ∷ []) (left ∷ []) m
@@ -98,6 +112,11 @@ module _ (objects : Objects) (rows : List Row) (parents : ObjectId → List Obje
       → Keeps (λ before i after. Reaches parents (tip ∷ []) i) [] ids those → Appends old new (flat_map id_line those) → Each (codes "contains" ∷ words)
   contains_each {tip = tip} {ids = ids} {those = those} are some there all_there keeps written other times another =
       contains are some all_there (kept_there objects rows parents other time times one another (tip ∷ []) there [] ids those keeps) written
+
+  pub containing_each : {words : List (List ℕ)} {target : ObjectId} {tips those : List ObjectId} → AreTips words (target ∷ tips) [] → tips ≢ [] → AreThere tips → All (IsThere objects rows) (target ∷ tips)
+      → Keeps (λ before i after. Reaches parents (i ∷ []) target) [] tips those → Appends old new (flat_map id_line those) → Each (codes "containing" ∷ words)
+  containing_each {target = target} {tips = tips} {those = those} are some there all_there keeps written other times another =
+      containing are some all_there (containing_there objects rows parents other time times one another target tips there those keeps) written
 
   pub bases_each : {words : List (List ℕ)} {left : ObjectId} {others : List ObjectId} (those : List ObjectId) → AreTips words (left ∷ others) [] → others ≢ [] → AreThere (left ∷ []) → AreThere others → All (IsThere objects rows) (left ∷ others)
       → ((i : ObjectId) → Contains those i ↔ IsBase parents left others i) → AllPairs (λ i j. by_bytes i j ≡ Less) those → Appends old new (flat_map id_line those) → Each (codes "merge-base" ∷ words)

@@ -1,15 +1,16 @@
 -- The page leaves no choice: in one history there is one right answer.
-use Rattle.std.proofs.Common.{None, ◌≡◌, ◌≢◌, ◌⊎◌, ◌≤◌, ◌≤ℤ◌, ◌<◌, ◌+◌, ℕ, Bool, suc, ℤ, pos, List, [], ◌∷◌, ◌++◌, length, reverse, flat_map, filter, not, int_lt, Some, true, false, All, AllPairs, Contains, codes, refl, sym, ap, subst, ◌∙◌, arith, ⊎_elim, inl, inr, append_assoc, append-nil, length-append}
+use Rattle.std.proofs.Common.{None, ◌≡◌, ◌≢◌, ◌⊎◌, ◌≤◌, ◌≤ℤ◌, ◌<◌, ◌+◌, ℕ, Bool, suc, ℤ, pos, List, [], ◌∷◌, ◌++◌, length, drop, zero, Option, int_le, nat_lt, nat_le, ◌&&◌, cond, reverse, flat_map, filter, not, int_lt, Some, true, false, All, AllPairs, Contains, codes, refl, sym, ap, subst, ◌∙◌, arith, ⊎_elim, inl, inr, append_assoc, append-nil, length-append}
 use Rattle.std.proofs.lemmas.List.Elements.{All-cons, All-nil, Contains-append_cases, Contains-append_left, Contains-append_right}
 use Rattle.std.specs.Cmp.{IsTotalOrder, on_total, tied_itself}
 use Rattle.std.specs.Cmp.Lexicographic.{nat_list_cmp_total}
 use Rattle.std.specs.declared.cmp.Ordering.{Ordering}
 use Rattle.std.specs.declared.cmp.Ordering.TheVariants.{Less, Equal}
+use Rattle.std.proofs.Math.ListN.{get_or}
 use Rattle.std.specs.Str.Parse.{AllDigits, digits_value}
 use Rattle.gix_hash.proofs.Ids.Membership.{Contains-here, Contains-there, Contains-cons_cases, no_member}
 use Rattle.gix_hash.specs.declared.ObjectId.{ObjectId}
 use Rattle.gix_hash.specs.declared.ObjectId.TheVariants.{Sha1, Sha256}
-use Rattle.gix_statement.specs.WholeStatement.{Objects, Row, IsPending, IsReady, IsFirst, IsBest, Keeps, empty, kept, passed, IsNext, breadth, newest, oldest, date, topo, AreMadeReady, by_time, Begins, IsWhole, Allows, AreTips, Follows, all, first, since, Spells, digits_in, bytes_in, Lists, lists, HasBegun, IsCutOff, OneAnswer, Serves, commits, ahead, contains, bases, IsBase, by_bytes, files, Entry, Object, AreEntries, IsTree, Unfolds, whole, other, tree, Clash, Reaches, id_line, entry_line, IsNumberShown}
+use Rattle.gix_statement.specs.WholeStatement.{Objects, Row, IsPending, IsReady, IsFirst, IsBest, Keeps, empty, kept, passed, IsNext, breadth, newest, oldest, date, topo, AreMadeReady, by_time, Begins, IsWhole, Allows, AreTips, Follows, all, first, since, Spells, digits_in, bytes_in, Lists, lists, HasBegun, IsCutOff, OneAnswer, Serves, commits, ahead, contains, containing, bases, IsBase, by_bytes, files, Entry, Object, AreEntries, IsTree, Unfolds, whole, other, tree, Clash, Reaches, id_line, entry_line, IsNumberShown, Form, Choice, Chooses, everything, until, merges, no_merges, skip, at_most, reversed, counted, chosen, written, Lines, Reversed, Number}
 use Rattle.gix_statement.proofs.OneCommit.{spelled_same, append_same, first_same, id_same}
 use Rattle.gix_statement.proofs.Carried.{same_object}
 use Rattle.gix_statement.proofs.Tests.{not_among, other_head}
@@ -42,6 +43,23 @@ keeps_once P (kept p k) (passed n l) = absurd (n p)
 keeps_once P (passed n k) (kept p l) = absurd (n p)
 keeps_once P (passed n k) (passed m l) = keeps_once P k l
 
+filter_more : {I : Type 0} (p : I → Bool) (xs ys : List I) → filter p (xs ++ ys) ≡ filter p xs ++ filter p ys
+filter_more p [] ys = refl
+filter_more p (x ∷ xs) ys = go (p x) (filter_more p xs ys)
+  where
+    go : (b : Bool) → filter p (xs ++ ys) ≡ filter p xs ++ filter p ys → cond b (x ∷ filter p (xs ++ ys)) (filter p (xs ++ ys)) ≡ cond b (x ∷ filter p xs) (filter p xs) ++ filter p ys
+    go true h = ap (λ zs. x ∷ zs) h
+    go false h = h
+
+drop_more : {I : Type 0} (n : ℕ) (xs ys : List I) → (rest : List I) × (drop n (xs ++ ys) ≡ drop n xs ++ rest)
+drop_more zero xs ys = (ys, refl)
+drop_more (suc n) [] ys = (drop (suc n) ys, refl)
+drop_more (suc n) (x ∷ xs) ys = drop_more n xs ys
+
+allows_less : (limit : Option ℕ) (n m : ℕ) → n ≤ m → Allows limit m → Allows limit n
+allows_less None n m l few = tt
+allows_less (Some most) n m l few = omega (arith, l, few)
+
 module _ {I : Type 0} (parents followed : I → List I) (time : I → ℤ) (starts hidden : List I) where
   pub ready_once : (taken r s : List I) → AreMadeReady parents followed time starts hidden taken r → AreMadeReady parents followed time starts hidden taken s → r ≡ s
   ready_once [] r s (some, keeps, is) (others, keeps_too, same) = is ∙ ap (by_time parents followed time starts hidden) (keeps_once _ keeps keeps_too) ∙ sym same
@@ -71,39 +89,66 @@ module _ {I : Type 0} (parents followed : I → List I) (time : I → ℤ) (star
   next_once taken i j by (topo ready made f) (topo another made_too g) =
       first_once (Ready taken) (reverse ready) i j f (subst (λ r. IsFirst (Ready taken) (reverse r) j) (ready_once (reverse taken) another ready made_too made) g)
 
-  -- two beginnings, each as long as it may be
-  abbrev Long : List ℕ → List (List ℕ) → List I → Type 0
-  Long by limit ids = Begins parents followed time starts hidden by ids × Allows limit (length ids) × (Allows limit (suc (length ids)) → IsWhole parents followed time starts hidden by ids)
+  -- what is chosen of a beginning, and of one that goes on
+  module _ (c : Choice) where
+    abbrev left : List I → List I
+    left ids = chosen parents time c ids
 
-  allows_less : (limit : List (List ℕ)) (n m : ℕ) → n ≤ m → Allows limit m → Allows limit n
-  allows_less limit n m l (inl e) = inl e
-  allows_less limit n m l (inr (number, most, is, e, few)) = inr (number, most, is, e, omega (arith, l, few))
+    left_more : (ids more : List I) → (rest : List I) × (left (ids ++ more) ≡ left ids ++ rest)
+    left_more ids more =
+        let kept = filter_more (λ i. c.keeps (length (parents i)) (time i)) ids more in
+        let d = drop_more c.skip (filter (λ i. c.keeps (length (parents i)) (time i)) ids) (filter (λ i. c.keeps (length (parents i)) (time i)) more) in
+        (d.0, ap (drop c.skip) kept ∙ d.1)
 
-  stops : (by : List ℕ) (limit : List (List ℕ)) (ids others taken : List I) (y : I) (ys : List I) → Long by limit ids → Begins parents followed time starts hidden by others → Allows limit (length others) → ids ≡ taken ++ [] → others ≡ taken ++ y ∷ ys → ⊥
-  stops by limit ids others taken y ys l m few is same =
-      let e : ids ≡ taken = is ∙ append-nil taken in
-      let longer : length others ≡ length taken + suc (length ys) = ap length same ∙ length-append taken (y ∷ ys) in
-      let short : length ids ≡ length taken = ap length e in
-      (l.2 (allows_less limit (suc (length ids)) (length others) (omega (arith, longer, short)) few)).0 y (subst (λ t. IsNext parents followed time starts hidden t y by) (sym e) (m.2 taken ys y same))
+    -- a beginning that is as long as it may be
+    abbrev Long : List ℕ → List I → Type 0
+    Long by ids = Begins parents followed time starts hidden by ids × Allows c.limit (length (left ids)) × (Allows c.limit (suc (length (left ids))) → IsWhole parents followed time starts hidden by ids)
 
-  begun_once : (by : List ℕ) (limit : List (List ℕ)) (ids others taken xs ys : List I) → Long by limit ids → Long by limit others → ids ≡ taken ++ xs → others ≡ taken ++ ys → xs ≡ ys
-  begun_once by limit ids others taken [] [] l m is same = refl
-  begun_once by limit ids others taken (x ∷ xs) (y ∷ ys) l m is same =
-      let h : x ≡ y = next_once taken x y by (l.0.2 taken xs x is) (m.0.2 taken ys y same) in
-      let more = begun_once by limit ids others (taken ++ x ∷ []) xs ys l m (is ∙ sym (append_assoc taken (x ∷ []) xs)) (same ∙ ap (λ z. taken ++ z ∷ ys) (sym h) ∙ sym (append_assoc taken (x ∷ []) ys)) in
-      (λ k. h k ∷ more k)
-  begun_once by limit ids others taken [] (y ∷ ys) l m is same = absurd (stops by limit ids others taken y ys l m.0 m.1 is same)
-  begun_once by limit ids others taken (x ∷ xs) [] l m is same = absurd (stops by limit others ids taken x xs m l.0 l.1 same is)
+    -- nothing is chosen of what goes on behind it
+    stops : (by : List ℕ) (ids others taken : List I) (y : I) (ys : List I) → Long by ids → Begins parents followed time starts hidden by others → Allows c.limit (length (left others)) → ids ≡ taken ++ [] → others ≡ taken ++ y ∷ ys → left others ≡ left ids
+    stops by ids others taken y ys l m few is same =
+        let e : ids ≡ taken = is ∙ append-nil taken in
+        let d = left_more taken (y ∷ ys) in
+        go e d.0 (ap left same ∙ d.1)
+      where
+        go : ids ≡ taken → (rest : List I) → left others ≡ left taken ++ rest → left others ≡ left ids
+        go e [] h = h ∙ append-nil (left taken) ∙ ap left (sym e)
+        go e (z ∷ rest) h =
+            let longer : length (left others) ≡ length (left taken) + suc (length rest) = ap length h ∙ length-append (left taken) (z ∷ rest) in
+            let short : length (left ids) ≡ length (left taken) = ap (λ xs. length (left xs)) e in
+            absurd ((l.2 (allows_less c.limit (suc (length (left ids))) (length (left others)) (omega (arith, longer, short)) few)).0 y (subst (λ t. IsNext parents followed time starts hidden t y by) (sym e) (m.2 taken ys y same)))
 
-  -- a beginning, and one as long as it may be
-  begun_before : (by : List ℕ) (limit : List (List ℕ)) (ids others taken xs ys : List I) → Begins parents followed time starts hidden by ids → Allows limit (length ids) → Long by limit others
-      → ids ≡ taken ++ xs → others ≡ taken ++ ys → (more : List I) × (ys ≡ xs ++ more)
-  begun_before by limit ids others taken [] ys l few m is same = (ys, refl)
-  begun_before by limit ids others taken (x ∷ xs) (y ∷ ys) l few m is same =
-      let h : x ≡ y = next_once taken x y by (l.2 taken xs x is) (m.0.2 taken ys y same) in
-      let r = begun_before by limit ids others (taken ++ x ∷ []) xs ys l few m (is ∙ sym (append_assoc taken (x ∷ []) xs)) (same ∙ ap (λ z. taken ++ z ∷ ys) (sym h) ∙ sym (append_assoc taken (x ∷ []) ys)) in
-      (r.0, (λ k. sym h k ∷ r.1 k))
-  begun_before by limit ids others taken (x ∷ xs) [] l few m is same = absurd (stops by limit others ids taken x xs m l few same is)
+    begun_once : (by : List ℕ) (ids others taken xs ys : List I) → Long by ids → Long by others → ids ≡ taken ++ xs → others ≡ taken ++ ys → left ids ≡ left others
+    begun_once by ids others taken [] [] l m is same = ap left (is ∙ sym same)
+    begun_once by ids others taken (x ∷ xs) (y ∷ ys) l m is same =
+        let h : x ≡ y = next_once taken x y by (l.0.2 taken xs x is) (m.0.2 taken ys y same) in
+        begun_once by ids others (taken ++ x ∷ []) xs ys l m (is ∙ sym (append_assoc taken (x ∷ []) xs)) (same ∙ ap (λ z. taken ++ z ∷ ys) (sym h) ∙ sym (append_assoc taken (x ∷ []) ys))
+    begun_once by ids others taken [] (y ∷ ys) l m is same = sym (stops by ids others taken y ys l m.0 m.1 is same)
+    begun_once by ids others taken (x ∷ xs) [] l m is same = stops by others ids taken x xs m l.0 l.1 same is
+
+    -- a beginning, and one as long as it may be
+    begun_before : (by : List ℕ) (ids others taken xs ys : List I) → Begins parents followed time starts hidden by ids → Allows c.limit (length (left ids)) → Long by others
+        → ids ≡ taken ++ xs → others ≡ taken ++ ys → (more : List I) × (left others ≡ left ids ++ more)
+    begun_before by ids others taken [] ys l few m is same =
+        let d = left_more taken ys in
+        (d.0, ap left same ∙ d.1 ∙ ap (λ xs. left xs ++ d.0) (sym (is ∙ append-nil taken)))
+    begun_before by ids others taken (x ∷ xs) (y ∷ ys) l few m is same =
+        let h : x ≡ y = next_once taken x y by (l.2 taken xs x is) (m.0.2 taken ys y same) in
+        begun_before by ids others (taken ++ x ∷ []) xs ys l few m (is ∙ sym (append_assoc taken (x ∷ []) xs)) (same ∙ ap (λ z. taken ++ z ∷ ys) (sym h) ∙ sym (append_assoc taken (x ∷ []) ys))
+    begun_before by ids others taken (x ∷ xs) [] l few m is same = ([], sym (append-nil (left ids) ∙ stops by others ids taken x xs m l few same is))
+
+    -- two beginnings: what is chosen of one of them is a beginning of what is of the other
+    begun_either : (by : List ℕ) (ids others taken xs ys : List I) → Begins parents followed time starts hidden by ids → Begins parents followed time starts hidden by others → ids ≡ taken ++ xs → others ≡ taken ++ ys
+        → ((more : List I) × (left others ≡ left ids ++ more)) ⊎ ((more : List I) × (left ids ≡ left others ++ more))
+    begun_either by ids others taken [] ys l m is same =
+        let d = left_more taken ys in
+        inl (d.0, ap left same ∙ d.1 ∙ ap (λ xs. left xs ++ d.0) (sym (is ∙ append-nil taken)))
+    begun_either by ids others taken (x ∷ xs) [] l m is same =
+        let d = left_more taken (x ∷ xs) in
+        inr (d.0, ap left is ∙ d.1 ∙ ap (λ xs. left xs ++ d.0) (sym (same ∙ append-nil taken)))
+    begun_either by ids others taken (x ∷ xs) (y ∷ ys) l m is same =
+        let h : x ≡ y = next_once taken x y by (l.2 taken xs x is) (m.2 taken ys y same) in
+        begun_either by ids others (taken ++ x ∷ []) xs ys l m (is ∙ sym (append_assoc taken (x ∷ []) xs)) (same ∙ ap (λ z. taken ++ z ∷ ys) (sym h) ∙ sym (append_assoc taken (x ∷ []) ys))
 
 -- COUNTS: two lists without repeats that have the same members are as long as each another
 split : {I : Type 0} (ys : List I) (x : I) → Contains ys x → (before after : List I) × (ys ≡ before ++ x ∷ after)
@@ -213,44 +258,77 @@ long_word word words tips hidden (inr (i, more, is, id, w, s, a)) =
     let l : length word ≡ suc (length id) = ap length w in
     ⊎_elim (λ (e : digits_in i ≡ 40). omega (arith, e, s.0, l)) (λ (e : digits_in i ≡ 64). omega (arith, e, s.0, l)) (is_wide i)
 
-split_limit : (limit words another more : List (List ℕ)) (tips hidden those below : List ObjectId) (n m : ℕ) → Allows limit n → Allows another m → AreTips words tips hidden → AreTips more those below
-    → limit ++ words ≡ another ++ more → (limit ≡ another) × (words ≡ more)
-split_limit limit words another more tips hidden those below n m (inl e) (inl f) a b is = (e ∙ sym f, ap (λ l. l ++ words) (sym e) ∙ is ∙ ap (λ l. l ++ more) f)
-split_limit limit words another more tips hidden those below n m (inl e) (inr (number, most, num, f, few)) a b is =
-    let w : words ≡ codes "-n" ∷ number ∷ more = ap (λ l. l ++ words) (sym e) ∙ is ∙ ap (λ l. l ++ more) f in
-    absurd (omega (arith, long_word (codes "-n") (number ∷ more) tips hidden (subst (λ x. AreTips x tips hidden) w a)))
-split_limit limit words another more tips hidden those below n m (inr (number, most, num, f, few)) (inl e) a b is =
-    let w : more ≡ codes "-n" ∷ number ∷ words = ap (λ l. l ++ more) (sym e) ∙ sym is ∙ ap (λ l. l ++ words) f in
-    absurd (omega (arith, long_word (codes "-n") (number ∷ words) those below (subst (λ x. AreTips x those below) w b)))
-split_limit limit words another more tips hidden those below n m (inr (number, most, num, f, few)) (inr (digit, much, value, g, least)) a b is =
-    let w : codes "-n" ∷ number ∷ words ≡ codes "-n" ∷ digit ∷ more = ap (λ l. l ++ words) (sym f) ∙ is ∙ ap (λ l. l ++ more) g in
-    let one : number ≡ digit = cc in
-    let rest : words ≡ more = cc in
-    (f ∙ ap (λ x. codes "-n" ∷ x ∷ []) one ∙ sym g, rest)
+-- no option is a word of tips
+no_tip : (word : List ℕ) (words : List (List ℕ)) (tips hidden : List ObjectId) {A : Type 0} → length word < 40 → AreTips (word ∷ words) tips hidden → A
+no_tip word words tips hidden short a = absurd (omega (arith, short, long_word word words tips hidden a))
 
--- what is behind an option begins with no option
+-- a choice, and the ids behind it
+abbrev IsOneChoice : (a b : Choice) (tips others hidden below : List ObjectId) → Type 0
+IsOneChoice a b tips others hidden below = (a ≡ b) × (tips ≡ others) × (hidden ≡ below)
+
+chosen_once : {tips hidden others below : List ObjectId} {p q : ℕ} (words : List (List ℕ)) (a b : Choice) → Chooses tips hidden p words a → Chooses others below q words b → IsOneChoice a b tips others hidden below
+chosen_once {tips} {hidden} {others} {below} words a b (everything t) (everything u) = let h = tips_once words tips hidden others below t u in (refl, h.0, h.1)
+chosen_once words a b (until n is late x) (until m same late_too y) =
+    let e : n ≡ m = is.3 ∙ sym same.3 in
+    let h = chosen_once _ _ _ x y in
+    ((λ k. record (h.0 k) { keeps = λ parents time. int_le time (pos (e k)) && (h.0 k).keeps parents time }), h.1, h.2)
+chosen_once words a b (merges late x) (merges late_too y) = let h = chosen_once _ _ _ x y in (ap (λ (c : Choice). record c { keeps = λ parents time. nat_lt 1 parents && c.keeps parents time }) h.0, h.1, h.2)
+chosen_once words a b (no_merges late x) (no_merges late_too y) = let h = chosen_once _ _ _ x y in (ap (λ (c : Choice). record c { keeps = λ parents time. nat_le parents 1 && c.keeps parents time }) h.0, h.1, h.2)
+chosen_once words a b (skip n is late x) (skip m same late_too y) =
+    let e : n ≡ m = is.3 ∙ sym same.3 in
+    let h = chosen_once _ _ _ x y in
+    ((λ k. record (h.0 k) { skip = e k }), h.1, h.2)
+chosen_once words a b (at_most n is late x) (at_most m same late_too y) =
+    let e : n ≡ m = is.3 ∙ sym same.3 in
+    let h = chosen_once _ _ _ x y in
+    ((λ k. record (h.0 k) { limit = Some (e k) }), h.1, h.2)
+chosen_once words a b (reversed late x) (reversed late_too y) = let h = chosen_once _ _ _ x y in (ap (λ (c : Choice). record c { form = Reversed }) h.0, h.1, h.2)
+chosen_once words a b (counted late x) (counted late_too y) = let h = chosen_once _ _ _ x y in (ap (λ (c : Choice). record c { form = Number }) h.0, h.1, h.2)
+chosen_once {tips} {hidden} words a b (everything t) (until {number = number} {words = ws} n is late x) = no_tip (codes "--until") (number ∷ ws) tips hidden (omega arith) t
+chosen_once {tips} {hidden} words a b (everything t) (merges {words = ws} late x) = no_tip (codes "--merges") ws tips hidden (omega arith) t
+chosen_once {tips} {hidden} words a b (everything t) (no_merges {words = ws} late x) = no_tip (codes "--no-merges") ws tips hidden (omega arith) t
+chosen_once {tips} {hidden} words a b (everything t) (skip {number = number} {words = ws} n is late x) = no_tip (codes "--skip") (number ∷ ws) tips hidden (omega arith) t
+chosen_once {tips} {hidden} words a b (everything t) (at_most {number = number} {words = ws} n is late x) = no_tip (codes "-n") (number ∷ ws) tips hidden (omega arith) t
+chosen_once {tips} {hidden} words a b (everything t) (reversed {words = ws} late x) = no_tip (codes "--reverse") ws tips hidden (omega arith) t
+chosen_once {tips} {hidden} words a b (everything t) (counted {words = ws} late x) = no_tip (codes "--count") ws tips hidden (omega arith) t
+chosen_once {others = others} {below = below} words a b (until {number = number} {words = ws} n is late x) (everything t) = no_tip (codes "--until") (number ∷ ws) others below (omega arith) t
+chosen_once {others = others} {below = below} words a b (merges {words = ws} late x) (everything t) = no_tip (codes "--merges") ws others below (omega arith) t
+chosen_once {others = others} {below = below} words a b (no_merges {words = ws} late x) (everything t) = no_tip (codes "--no-merges") ws others below (omega arith) t
+chosen_once {others = others} {below = below} words a b (skip {number = number} {words = ws} n is late x) (everything t) = no_tip (codes "--skip") (number ∷ ws) others below (omega arith) t
+chosen_once {others = others} {below = below} words a b (at_most {number = number} {words = ws} n is late x) (everything t) = no_tip (codes "-n") (number ∷ ws) others below (omega arith) t
+chosen_once {others = others} {below = below} words a b (reversed {words = ws} late x) (everything t) = no_tip (codes "--reverse") ws others below (omega arith) t
+chosen_once {others = others} {below = below} words a b (counted {words = ws} late x) (everything t) = no_tip (codes "--count") ws others below (omega arith) t
+
+-- what is behind an option begins with no option of those that are followed
 abbrev NoOption : List (List ℕ) → Type 0
-NoOption rest = (word : List ℕ) (more : List (List ℕ)) → rest ≡ word ∷ more → (length word ≡ 14 → ⊥) × (length word ≡ 7 → ⊥)
+NoOption rest = (more : List (List ℕ)) → (rest ≡ codes "--first-parent" ∷ more → ⊥) × (rest ≡ codes "--since" ∷ more → ⊥)
 
-no_option : (limit words : List (List ℕ)) (tips hidden : List ObjectId) (n : ℕ) → Allows limit n → AreTips words tips hidden → NoOption (limit ++ words)
-no_option limit words tips hidden n (inl e) a word more is =
-    let w : words ≡ word ∷ more = ap (λ l. l ++ words) (sym e) ∙ is in
-    let l = long_word word more tips hidden (subst (λ x. AreTips x tips hidden) w a) in
-    (λ k. omega (arith, l, k), λ k. omega (arith, l, k))
-no_option limit words tips hidden n (inr (number, most, num, f, few)) a word more is =
-    let w : codes "-n" ∷ number ∷ words ≡ word ∷ more = ap (λ l. l ++ words) (sym f) ∙ is in
-    let head : codes "-n" ≡ word = cc in
-    let l : 2 ≡ length word = ap length head in
-    (λ k. omega (arith, l, k), λ k. omega (arith, l, k))
+other_word : (word : List ℕ) (words : List (List ℕ)) → (word ≡ codes "--first-parent" → ⊥) → (word ≡ codes "--since" → ⊥) → NoOption (word ∷ words)
+other_word word words a b more = (λ is. a (let e : word ≡ codes "--first-parent" = cc in e), λ is. b (let e : word ≡ codes "--since" = cc in e))
+
+no_option : {tips hidden : List ObjectId} {p : ℕ} (words : List (List ℕ)) (c : Choice) → Chooses tips hidden p words c → NoOption words
+no_option {tips} {hidden} words c (everything t) more = (λ is. no_tip _ more tips hidden (omega arith) (subst (λ x. AreTips x tips hidden) is t), λ is. no_tip _ more tips hidden (omega arith) (subst (λ x. AreTips x tips hidden) is t))
+no_option words c (until n is late x) more = other_word (codes "--until") _ (λ e. let l : 7 ≡ 14 = ap length e in omega (arith, l)) (λ e. let l : 117 ≡ 115 = ap (λ w. get_or w 2 0) e in omega (arith, l)) more
+no_option words c (merges late x) more = other_word (codes "--merges") _ (λ e. let l : 8 ≡ 14 = ap length e in omega (arith, l)) (λ e. let l : 8 ≡ 7 = ap length e in omega (arith, l)) more
+no_option words c (no_merges late x) more = other_word (codes "--no-merges") _ (λ e. let l : 11 ≡ 14 = ap length e in omega (arith, l)) (λ e. let l : 11 ≡ 7 = ap length e in omega (arith, l)) more
+no_option words c (skip n is late x) more = other_word (codes "--skip") _ (λ e. let l : 6 ≡ 14 = ap length e in omega (arith, l)) (λ e. let l : 6 ≡ 7 = ap length e in omega (arith, l)) more
+no_option words c (at_most n is late x) more = other_word (codes "-n") _ (λ e. let l : 2 ≡ 14 = ap length e in omega (arith, l)) (λ e. let l : 2 ≡ 7 = ap length e in omega (arith, l)) more
+no_option words c (reversed late x) more = other_word (codes "--reverse") _ (λ e. let l : 9 ≡ 14 = ap length e in omega (arith, l)) (λ e. let l : 9 ≡ 7 = ap length e in omega (arith, l)) more
+no_option words c (counted late x) more = other_word (codes "--count") _ (λ e. let l : 7 ≡ 14 = ap length e in omega (arith, l)) (λ e. let l : 99 ≡ 115 = ap (λ w. get_or w 2 0) e in omega (arith, l)) more
+
+-- the lines of more
+flat_more : (ids left : List ObjectId) → flat_map id_line (ids ++ left) ≡ flat_map id_line ids ++ flat_map id_line left
+flat_more [] left = refl
+flat_more (i ∷ ids) left = ap (λ xs. id_line i ++ xs) (flat_more ids left) ∙ sym (append_assoc (id_line i) (flat_map id_line ids) (flat_map id_line left))
 
 module _ (parents : ObjectId → List ObjectId) (time : ObjectId → ℤ) where
   split_option : {tips those : List ObjectId} {by name : List ℕ} (option another rest more : List (List ℕ)) {followed names : ObjectId → List ObjectId} {starts from : List ObjectId}
       → Follows parents time tips by option followed starts → Follows parents time those name another names from → NoOption rest → NoOption more → option ++ rest ≡ another ++ more → (option ≡ another) × (rest ≡ more)
   split_option option another rest more all all n m is = (refl, is)
-  split_option option another rest more all (first b) n m is = absurd ((n (codes "--first-parent") more is).0 refl)
-  split_option option another rest more all (since {number = number} k named num) n m is = absurd ((n (codes "--since") (number ∷ more) is).1 refl)
-  split_option option another rest more (first b) all n m is = absurd ((m (codes "--first-parent") rest (sym is)).0 refl)
-  split_option option another rest more (since {number = number} k named num) all n m is = absurd ((m (codes "--since") (number ∷ rest) (sym is)).1 refl)
+  split_option option another rest more all (first b) n m is = absurd ((n more).0 is)
+  split_option option another rest more all (since {number = number} k named num) n m is = absurd ((n (number ∷ more)).1 is)
+  split_option option another rest more (first b) all n m is = absurd ((m rest).0 (sym is))
+  split_option option another rest more (since {number = number} k named num) all n m is = absurd ((m (number ∷ rest)).1 (sym is))
   split_option option another rest more (first b) (first c) n m is = let e : rest ≡ more = cc in (refl, e)
   split_option option another rest more (first b) (since {number = number} k named num) n m is =
       let head : codes "--first-parent" ≡ codes "--since" = cc in
@@ -273,23 +351,59 @@ module _ (parents : ObjectId → List ObjectId) (time : ObjectId → ℤ) where
       let same : n ≡ m = num.3 ∙ sym counts.3 in
       ((λ k i. filter (λ p. not (int_lt (time p) (pos (same k)))) (parents i)), (λ k. filter (λ i. not (int_lt (time i) (pos (same k)))) tips))
 
-  -- LISTS: the first is a beginning of the second; and if it has ended, it is the second
-  lists_before : (read objects : Objects) (rows more : List Row) (ids others : List ObjectId) (ended : Bool) (asked words : List (List ℕ)) → Lists read rows parents time ids ended asked
-      → Lists objects more parents time others true words → asked ≡ words → ((left : List ObjectId) × (others ≡ ids ++ left)) × (ended ≡ true → ids ≡ others)
-  lists_before read objects rows more ids others end asked words (lists {by = by} option limit ws {tips = tips} {hidden = hidden} {starts = starts} {followed = followed} named are some follows there begins allows ended)
-      (lists {by = name} choice most vs {tips = those} {hidden = below} {starts = from} {followed = names} called spell any goes are_there begun allowed stopped) is =
+  -- lines of ids that go on
+  lines_more : (form : Form) (xs ys rest : List ObjectId) (some full : List ℕ) → form ≡ Lines → some ≡ written form xs → full ≡ written form ys → ys ≡ xs ++ rest → (left : List ℕ) × (full ≡ some ++ left)
+  lines_more form xs ys rest some full lines is same e =
+      (flat_map id_line rest, same ∙ ap (λ f. written f ys) lines ∙ ap (flat_map id_line) e ∙ flat_more xs rest ∙ ap (λ x. x ++ flat_map id_line rest) (ap (λ f. written f xs) (sym lines) ∙ sym is))
+
+  -- LISTS: what is written of one of two is a beginning of what is of the other, and what is of one that has ended is a beginning of nothing else
+  pub record AreOneList (bytes full : List ℕ) (ended end : Bool) : Type 0 where
+    pub either : ((left : List ℕ) × (full ≡ bytes ++ left)) ⊎ ((left : List ℕ) × (bytes ≡ full ++ left))
+    pub first : end ≡ true → (left : List ℕ) × (full ≡ bytes ++ left)
+    pub second : ended ≡ true → (left : List ℕ) × (bytes ≡ full ++ left)
+    pub both : ended ≡ true → end ≡ true → bytes ≡ full
+
+  pub lists_are_one : (read objects : Objects) (rows more : List Row) (bytes full : List ℕ) (ended end : Bool) (asked words : List (List ℕ)) → Lists read rows parents time bytes ended asked
+      → Lists objects more parents time full end words → asked ≡ words → AreOneList bytes full ended end
+  lists_are_one read objects rows more bytes full end close asked words (lists {by = by} option ws c ids {tips = tips} {hidden = hidden} {starts = starts} {followed = followed} named chooses some follows there begins allows ended may is_written)
+      (lists {by = name} {place = late} choice vs d others {tips = those} {hidden = below} {starts = from} {followed = names} called picks any goes are_there begun allowed stopped can full_written) is =
       let first_word : by ≡ name = cc in
-      let others_too : option ++ (limit ++ ws) ≡ choice ++ (most ++ vs) = cc in
-      let o = split_option option choice (limit ++ ws) (most ++ vs) follows goes (no_option limit ws tips hidden _ allows are) (no_option most vs those below _ allowed spell) others_too in
-      let l = split_limit limit ws most vs tips hidden those below _ _ allows allowed are spell o.1 in
-      let t = tips_once ws tips hidden those below are (subst (λ x. AreTips x those below) (sym l.1) spell) in
-      let goes_too : Follows parents time tips by option names from = subst (λ (T : Type 0). T) (λ k. Follows parents time (sym t.0 k) (sym first_word k) (sym o.0 k) names from) goes in
+      let others_too : option ++ ws ≡ choice ++ vs = cc in
+      let o = split_option option choice ws vs follows goes (no_option ws c chooses) (no_option vs d picks) others_too in
+      let t = chosen_once ws c d chooses (subst (λ x. Chooses those below late x d) (sym o.1) picks) in
+      let goes_too : Follows parents time tips by option names from = subst (λ (T : Type 0). T) (λ k. Follows parents time (sym t.1 k) (sym first_word k) (sym o.0 k) names from) goes in
       let f = follows_once option follows goes_too in
-      let second : Long parents followed time starts hidden by limit others =
-      subst (λ (T : Type 0). T) (λ k. Long parents (sym f.0 k) time (sym f.1 k) (sym t.1 k) (sym first_word k) (sym l.0 k) others) (begun, allowed, stopped refl) in (
-        begun_before parents followed time starts hidden by limit ids others [] ids others begins allows second refl refl,
-        λ e. begun_once parents followed time starts hidden by limit ids others [] ids others (begins, allows, ended e) second refl refl,
-      )
+      let begun_too : Begins parents followed time starts hidden by others = subst (λ (T : Type 0). T) (λ k. Begins parents (sym f.0 k) time (sym f.1 k) (sym t.2 k) (sym first_word k) others) begun in
+      let allowed_too : Allows c.limit (length (chosen parents time c others)) = subst (λ (x : Choice). Allows x.limit (length (chosen parents time x others))) (sym t.0) allowed in
+      let can_too : (close ≡ true) ⊎ (c.form ≡ Lines) = subst (λ (x : Choice). (close ≡ true) ⊎ (x.form ≡ Lines)) (sym t.0) can in
+      let whole_too : close ≡ true → Long parents followed time starts hidden c by others =
+      (λ e. subst (λ (T : Type 0). T) (λ k. Long parents (sym f.0 k) time (sym f.1 k) (sym t.2 k) (sym t.0 k) (sym first_word k) others) (begun, allowed, stopped e)) in
+      let full_so : full ≡ written c.form (chosen parents time c others) = full_written ∙ ap (λ x. written x.form (chosen parents time x others)) (sym t.0) in
+      let same : end ≡ true → close ≡ true → bytes ≡ full =
+      (λ e l. is_written ∙ ap (written c.form) (begun_once parents followed time starts hidden c by ids others [] ids others (begins, allows, ended e) (whole_too l) refl refl) ∙ sym full_so) in
+      let up : (r : List ObjectId) → c.form ≡ Lines → chosen parents time c others ≡ chosen parents time c ids ++ r → (left : List ℕ) × (full ≡ bytes ++ left) =
+      (λ r lines e. lines_more c.form (chosen parents time c ids) (chosen parents time c others) r bytes full lines is_written full_so e) in
+      let down : (r : List ObjectId) → c.form ≡ Lines → chosen parents time c ids ≡ chosen parents time c others ++ r → (left : List ℕ) × (bytes ≡ full ++ left) =
+      (λ r lines e. lines_more c.form (chosen parents time c others) (chosen parents time c ids) r full bytes lines full_so is_written e) in
+      let before : close ≡ true → (left : List ℕ) × (full ≡ bytes ++ left) =
+      (λ l. ⊎_elim (λ e. ([], sym (append-nil bytes ∙ same e l)))
+      (λ lines. let b = begun_before parents followed time starts hidden c by ids others [] ids others begins allows (whole_too l) refl refl in up b.0 lines b.1) may) in
+      let behind : end ≡ true → (left : List ℕ) × (bytes ≡ full ++ left) =
+      (λ e. ⊎_elim (λ l. ([], sym (append-nil full ∙ sym (same e l))))
+      (λ lines. let b = begun_before parents followed time starts hidden c by others ids [] others ids begun_too allowed_too (begins, allows, ended e) refl refl in down b.0 lines b.1) can_too) in
+      record {
+        either = ⊎_elim (λ e. inr (behind e))
+            (λ lines. ⊎_elim (λ b. inl (up b.0 lines b.1)) (λ b. inr (down b.0 lines b.1))
+            (begun_either parents followed time starts hidden c by ids others [] ids others begins begun_too refl refl)) may;
+        first = before;
+        second = behind;
+        both = same;
+      }
+
+  -- what is written of the first is a beginning of what is of the second; and if it has ended, it is that
+  lists_before : (read objects : Objects) (rows more : List Row) (bytes full : List ℕ) (ended : Bool) (asked words : List (List ℕ)) → Lists read rows parents time bytes ended asked
+      → Lists objects more parents time full true words → asked ≡ words → ((left : List ℕ) × (full ≡ bytes ++ left)) × (ended ≡ true → bytes ≡ full)
+  lists_before read objects rows more bytes full end asked words l m is = let one = lists_are_one read objects rows more bytes full end true asked words l m is in (one.first refl, λ e. one.both e refl)
 
 -- TREES
 no_space : (mode : List ℕ) → AllDigits 8 mode → All (λ x. x ≢ 32) mode
@@ -350,21 +464,23 @@ module _ (read objects : Objects) (rows more : List Row) (parents : ObjectId →
   abbrev Other : List (List ℕ) → Type 0
   Other = Serves objects more parents time (Some old) (Some b)
 
-  not_listed : (by : List ℕ) (rest asked : List (List ℕ)) (ids : List ObjectId) (ended : Bool) (os : Objects) (rs : List Row) → (length by ≡ 5) ⊎ (8 ≤ length by) → Lists os rs parents time ids ended asked → asked ≡ by ∷ rest → ⊥
-  not_listed by rest asked ids end os rs h (lists {by = name} option limit ws named are some follows there begins allows ended) is =
+  not_listed : (by : List ℕ) (rest asked : List (List ℕ)) (bytes : List ℕ) (ended : Bool) (os : Objects) (rs : List Row) → (length by ≡ 5) ⊎ (8 ≤ length by) → Lists os rs parents time bytes ended asked → asked ≡ by ∷ rest → ⊥
+  not_listed by rest asked bytes end os rs h (lists {by = name} option ws c ids named chooses some follows there begins allows ended may is_written) is =
       let e : name ≡ by = cc in
       no_list name (subst (λ x. (length x ≡ 5) ⊎ (8 ≤ length x)) (sym e) h) named
 
   -- both are of one command
   pub served_once : (asked words : List (List ℕ)) → One asked → Other words → asked ≡ words → a ≡ b
   served_once asked words (commits ids l w) (commits others m v) is =
-      w ∙ ap (λ xs. old ++ flat_map id_line xs) ((lists_before parents time read objects rows more ids others true asked words l m is).1 refl) ∙ sym v
+      w ∙ ap (λ xs. old ++ xs) ((lists_before parents time read objects rows more ids others true asked words l m is).1 refl) ∙ sym v
   served_once asked words (commits ids l w) (ahead n m x y o p ns ms v) is = absurd (not_listed (codes "ahead") _ asked ids true read rows (inl refl) l is)
   served_once asked words (commits ids l w) (contains are some there keeps v) is = absurd (not_listed (codes "contains") _ asked ids true read rows (inr (omega arith)) l is)
+  served_once asked words (commits ids l w) (containing are some there keeps v) is = absurd (not_listed (codes "containing") _ asked ids true read rows (inr (omega arith)) l is)
   served_once asked words (commits ids l w) (bases those are some there exact rising v) is = absurd (not_listed (codes "merge-base") _ asked ids true read rows (inr (omega arith)) l is)
   served_once asked words (commits ids l w) (files option x ends spells t u v) is = absurd (not_listed (codes "files") _ asked ids true read rows (inl refl) l is)
   served_once asked words (ahead n m x y o p ns ms v) (commits ids l w) is = absurd (not_listed (codes "ahead") _ words ids true objects more (inl refl) l (sym is))
   served_once asked words (contains are some there keeps v) (commits ids l w) is = absurd (not_listed (codes "contains") _ words ids true objects more (inr (omega arith)) l (sym is))
+  served_once asked words (containing are some there keeps v) (commits ids l w) is = absurd (not_listed (codes "containing") _ words ids true objects more (inr (omega arith)) l (sym is))
   served_once asked words (bases those are some there exact rising v) (commits ids l w) is = absurd (not_listed (codes "merge-base") _ words ids true objects more (inr (omega arith)) l (sym is))
   served_once asked words (files option x ends spells t u v) (commits ids l w) is = absurd (not_listed (codes "files") _ words ids true objects more (inl refl) l (sym is))
   served_once asked words (ahead n m x y o p ns ms w) (contains are some there keeps v) is = let h : codes "ahead" ≡ codes "contains" = cc in let l : 5 ≡ 8 = ap length h in absurd (omega (arith, l))
@@ -377,6 +493,14 @@ module _ (read objects : Objects) (rows more : List Row) (parents : ObjectId →
   served_once asked words (bases those are_too any here exact rising v) (contains are some there keeps w) is = let h : codes "merge-base" ≡ codes "contains" = cc in let l : 10 ≡ 8 = ap length h in absurd (omega (arith, l))
   served_once asked words (files option x ends spells t u w) (bases those are some there exact rising v) is = let h : codes "files" ≡ codes "merge-base" = cc in let l : 5 ≡ 10 = ap length h in absurd (omega (arith, l))
   served_once asked words (bases those are some there exact rising v) (files option x ends spells t u w) is = let h : codes "merge-base" ≡ codes "files" = cc in let l : 10 ≡ 5 = ap length h in absurd (omega (arith, l))
+  served_once asked words (ahead n m x y o p ns ms w) (containing are some there keeps v) is = let h : codes "ahead" ≡ codes "containing" = cc in let l : 5 ≡ 10 = ap length h in absurd (omega (arith, l))
+  served_once asked words (containing are some there keeps v) (ahead n m x y o p ns ms w) is = let h : codes "containing" ≡ codes "ahead" = cc in let l : 10 ≡ 5 = ap length h in absurd (omega (arith, l))
+  served_once asked words (contains are some there keeps w) (containing are_too any here keeps_too v) is = let h : codes "contains" ≡ codes "containing" = cc in let l : 8 ≡ 10 = ap length h in absurd (omega (arith, l))
+  served_once asked words (containing are_too any here keeps_too v) (contains are some there keeps w) is = let h : codes "containing" ≡ codes "contains" = cc in let l : 10 ≡ 8 = ap length h in absurd (omega (arith, l))
+  served_once asked words (bases those are some there exact rising w) (containing are_too any here keeps_too v) is = let h : codes "merge-base" ≡ codes "containing" = cc in absurd (other_head 109 99 _ _ refl h)
+  served_once asked words (containing are_too any here keeps_too v) (bases those are some there exact rising w) is = let h : codes "containing" ≡ codes "merge-base" = cc in absurd (other_head 99 109 _ _ refl h)
+  served_once asked words (files option x ends spells t u w) (containing are some there keeps v) is = let h : codes "files" ≡ codes "containing" = cc in let l : 5 ≡ 10 = ap length h in absurd (omega (arith, l))
+  served_once asked words (containing are some there keeps v) (files option x ends spells t u w) is = let h : codes "containing" ≡ codes "files" = cc in let l : 10 ≡ 5 = ap length h in absurd (omega (arith, l))
   served_once asked words (ahead n m x y o p ns ms w) (files option z ends spells t u v) is = let h : codes "ahead" ≡ codes "files" = cc in absurd (other_head 97 102 _ _ refl h)
   served_once asked words (files option z ends spells t u v) (ahead n m x y o p ns ms w) is = let h : codes "files" ≡ codes "ahead" = cc in absurd (other_head 102 97 _ _ refl h)
   served_once asked words (ahead {a = x} {b = y} {one = one} {other = another} n m s t o p ns ms w) (ahead {a = u} {b = v} {one = left} {other = right} i j q r c d is js z) is_same =
@@ -393,6 +517,13 @@ module _ (read objects : Objects) (rows more : List Row) (parents : ObjectId →
       let f : tip ≡ top = cc in
       let g : ids ≡ others = cc in
       let k = keeps_once (λ before i after. Reaches parents (tip ∷ []) i) keeps (subst (λ (T : Type 0). T) (λ k. Keeps (λ before i after. Reaches parents (sym f k ∷ []) i) [] (sym g k) those) keeps_too) in
+      w ∙ ap (λ xs. old ++ flat_map id_line xs) k ∙ sym v
+  served_once asked words (containing {words = ws} {target = target} {tips = tips} are some there keeps w) (containing {words = vs} {target = goal} {tips = others} {those = those} too any all_there keeps_too v) is =
+      let e : ws ≡ vs = cc in
+      let t = (tips_once ws (target ∷ tips) [] (goal ∷ others) [] are (subst (λ x. AreTips x (goal ∷ others) []) (sym e) too)).0 in
+      let f : target ≡ goal = cc in
+      let g : tips ≡ others = cc in
+      let k = keeps_once (λ before i after. Reaches parents (i ∷ []) target) keeps (subst (λ (T : Type 0). T) (λ k. Keeps (λ before i after. Reaches parents (i ∷ []) (sym f k)) [] (sym g k) those) keeps_too) in
       w ∙ ap (λ xs. old ++ flat_map id_line xs) k ∙ sym v
   served_once asked words (bases {words = ws} {one = one} {others = ids} those are some there exact rising w) (bases {words = vs} {one = left} {others = others} found too any all_there exact_too rising_too v) is =
       let e : ws ≡ vs = cc in
@@ -419,16 +550,13 @@ module _ (read objects : Objects) (rows more : List Row) (parents : ObjectId →
       endings option choice x y ending end (inl e) (inr f) is = let h : x ∷ [] ≡ codes "-z" ∷ y ∷ [] = ap (λ o. o ++ x ∷ []) (sym e.0) ∙ is ∙ ap (λ o. o ++ y ∷ []) f.0 in let l : 1 ≡ 2 = ap length h in absurd (omega (arith, l))
       endings option choice x y ending end (inr e) (inl f) is = let h : codes "-z" ∷ x ∷ [] ≡ y ∷ [] = ap (λ o. o ++ x ∷ []) (sym e.0) ∙ is ∙ ap (λ o. o ++ y ∷ []) f.0 in let l : 2 ≡ 1 = ap length h in absurd (omega (arith, l))
 
-  flat_more : (ids left : List ObjectId) → flat_map id_line (ids ++ left) ≡ flat_map id_line ids ++ flat_map id_line left
-  flat_more [] left = refl
-  flat_more (i ∷ ids) left = ap (λ xs. id_line i ++ xs) (flat_more ids left) ∙ sym (append_assoc (id_line i) (flat_map id_line ids) (flat_map id_line left))
-
   pub begun_of : (asked words : List (List ℕ)) → HasBegun read rows parents time (Some old) (Some a) asked → Other words → asked ≡ words → (left : List ℕ) × (b ≡ a ++ left)
   begun_of asked words (ids, l, w) (commits others m v) is =
       let h = (lists_before parents time read objects rows more ids others false asked words l m is).0 in
-      (flat_map id_line h.0, v ∙ ap (λ xs. old ++ flat_map id_line xs) h.1 ∙ ap (λ xs. old ++ xs) (flat_more ids h.0) ∙ sym (append_assoc old (flat_map id_line ids) (flat_map id_line h.0)) ∙ ap (λ xs. xs ++ flat_map id_line h.0) (sym w))
+      (h.0, v ∙ ap (λ xs. old ++ xs) h.1 ∙ sym (append_assoc old ids h.0) ∙ ap (λ xs. xs ++ h.0) (sym w))
   begun_of asked words (ids, l, w) (ahead n m x y o p ns ms v) is = absurd (not_listed (codes "ahead") _ asked ids false read rows (inl refl) l is)
   begun_of asked words (ids, l, w) (contains are some there keeps v) is = absurd (not_listed (codes "contains") _ asked ids false read rows (inr (omega arith)) l is)
+  begun_of asked words (ids, l, w) (containing are some there keeps v) is = absurd (not_listed (codes "containing") _ asked ids false read rows (inr (omega arith)) l is)
   begun_of asked words (ids, l, w) (bases those are some there exact rising v) is = absurd (not_listed (codes "merge-base") _ asked ids false read rows (inr (omega arith)) l is)
   begun_of asked words (ids, l, w) (files option x ends spells t u v) is = absurd (not_listed (codes "files") _ asked ids false read rows (inl refl) l is)
 

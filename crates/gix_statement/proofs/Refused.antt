@@ -1,31 +1,43 @@
 -- What the page refuses since it was attacked.
-use Rattle.std.proofs.Common.{◌≡◌, ◌⊎◌, ◌+◌, ◌*◌, ℕ, zero, suc, List, [], ◌∷◌, ◌++◌, replicate, codes, length, Some, None, Err, flat_map, refl, sym, ap, ◌∙◌, arith, inl, inr, ⊎_elim, mul-zero}
+use Rattle.std.proofs.Common.{true, false, ◌≡◌, ◌⊎◌, ◌+◌, ◌*◌, ℕ, zero, suc, List, [], ◌∷◌, ◌++◌, replicate, codes, length, Some, None, Err, flat_map, refl, sym, ap, ◌∙◌, arith, inl, inr, ⊎_elim, mul-zero}
 use Rattle.std.specs.Int.{w32, to_be_bytes}
 use Rattle.gix_hash.specs.declared.ObjectId.{ObjectId}
-use Rattle.gix_statement.proofs.HoleExamples.{Read, fed_nothing, served_nothing, a_history, none_there, none, no_time}
-use Rattle.gix_statement.specs.WholeStatement.{Objects, Row, Promises, HasBegun, IsCutOff, lists, id_line}
+use Rattle.gix_statement.proofs.HoleExamples.{Read, fed_nothing, served_nothing, a_history, none_there, none_chosen, none, no_time}
+use Rattle.gix_statement.specs.WholeStatement.{Objects, Row, Promises, HasBegun, IsCutOff, lists, Lines, chosen, written, id_line}
 use Rattle.gix_statement.specs.CommitGraph.{AreLayers, IsChunk}
 use Rattle.gix_statement.proofs.Tests.{other_head}
 
--- A RUN THAT FAILS over empty input has written nothing, also where it says that its writer failed.
-begun : (objects : Objects) (rows : List Row) → ((i : ObjectId) → objects i ≡ None) → rows ≡ [] → (words : List (List ℕ)) (bytes : List ℕ) → HasBegun objects rows none no_time (Some []) (Some bytes) words → bytes ≡ []
-begun objects rows nothing no_rows words bytes (ids, lists option limit more named are some follows there begins allows ended, appends) =
-    appends ∙ ap (λ is. flat_map id_line is) (none_there objects rows nothing no_rows ids there)
+-- A RUN THAT FAILS over empty input has written nothing, or a beginning of a number 0 if its writer failed.
+begun : (objects : Objects) (rows : List Row) → ((i : ObjectId) → objects i ≡ None) → rows ≡ [] → (words : List (List ℕ)) (out : List ℕ) → HasBegun objects rows none no_time (Some []) (Some out) words → out ≡ []
+begun objects rows nothing no_rows words out (bytes, lists option more c ids named chooses some follows there begins allows ended may is_written, appends) =
+    appends ∙ is_written ∙ ap (λ form. written form (chosen none no_time c ids)) (only_lines may) ∙ ap (λ is. flat_map id_line (chosen none no_time c is)) (none_there objects rows nothing no_rows ids there) ∙ ap (flat_map id_line) (none_chosen c.skip)
+  where
+    only_lines : (false ≡ true) ⊎ (c.form ≡ Lines) → c.form ≡ Lines
+    only_lines (inl e) = cc
+    only_lines (inr e) = e
 
 front : (some more : List ℕ) → [] ≡ some ++ more → some ≡ []
 front [] more e = refl
 front (x ∷ some) more e = cc
 
-cut : (objects : Objects) (rows : List Row) → ((i : ObjectId) → objects i ≡ None) → rows ≡ [] → (words : List (List ℕ)) (out : List ℕ) → IsCutOff objects rows none no_time (Some []) (Some out) words → out ≡ []
+-- it goes on to a number 0
+abbrev IsOfZero : List ℕ → Type 0
+IsOfZero out = (more : List ℕ) × (codes "0\n" ≡ out ++ more)
+
+none_of_zero : (out : List ℕ) → out ≡ [] → IsOfZero out
+none_of_zero out e = (codes "0\n", sym (ap (λ xs. xs ++ codes "0\n") e))
+
+cut : (objects : Objects) (rows : List Row) → ((i : ObjectId) → objects i ≡ None) → rows ≡ [] → (words : List (List ℕ)) (out : List ℕ) → IsCutOff objects rows none no_time (Some []) (Some out) words → IsOfZero out
 cut objects rows nothing no_rows words out (None, some, more, is, never, h) = absurd never
 cut objects rows nothing no_rows words out (Some bytes, some, more, is, appends, h) =
-    front out more (sym (⊎_elim (served_nothing objects rows nothing no_rows words bytes) (begun objects rows nothing no_rows words bytes) h) ∙ appends)
+    ⊎_elim (λ e. none_of_zero out (front out more (sym e ∙ appends))) (λ e. (more, sym e ∙ appends))
+    (⊎_elim (served_nothing objects rows nothing no_rows words bytes) (λ b. inl (begun objects rows nothing no_rows words bytes b)) h)
 
-nothing_is_begun : {E : Type 0} (writer_failed e : E) (words : List (List ℕ)) (out : List ℕ) → Promises writer_failed words (Read []) (Some []) (Err e) (Some out) → out ≡ []
-nothing_is_begun writer_failed e words out (inl same) = let is : out ≡ [] = cc in is
+nothing_is_begun : {E : Type 0} (writer_failed e : E) (words : List (List ℕ)) (out : List ℕ) → Promises writer_failed words (Read []) (Some []) (Err e) (Some out) → IsOfZero out
+nothing_is_begun writer_failed e words out (inl same) = let is : out ≡ [] = cc in none_of_zero out is
 nothing_is_begun writer_failed e words out (inr (objects, rows, (fed, no_rows), agree, right)) =
     let nothing = fed_nothing objects fed in
-    ⊎_elim (begun objects rows nothing no_rows words out) (λ h. cut objects rows nothing no_rows words out h.1) (right none no_time (a_history objects rows nothing no_rows))
+    ⊎_elim (λ b. none_of_zero out (begun objects rows nothing no_rows words out b)) (λ h. cut objects rows nothing no_rows words out h.1) (right none no_time (a_history objects rows nothing no_rows))
 
 abbrev words : List ℕ → List ℕ
 words ns = flat_map (to_be_bytes w32) ns

@@ -1,10 +1,9 @@
 -- Worked runs, and texts.
-use Rattle.std.proofs.Common.{◌≡◌, ◌≢◌, ℕ, ℤ, pos, neg_ℤ, List, [], ◌∷◌, ◌++◌, replicate, take, Bool, true, false, Some, None, Ok, Err, All, Contains, codes, flat_map, refl, sym, ap, subst, ◌∙◌, arith, inl, inr, ⊎_elim, suc, cond, append_assoc}
+use Rattle.std.proofs.Common.{◌≡◌, ◌≢◌, ℕ, ℤ, pos, neg_ℤ, List, [], ◌∷◌, ◌++◌, replicate, take, Bool, true, false, Some, None, Ok, Err, All, Contains, codes, flat_map, refl, sym, ap, subst, ◌∙◌, arith, inl, inr, ⊎_elim, suc, cond, append_assoc, append-nil}
 use Rattle.std.proofs.lemmas.Bool.{false≢true}
 use Rattle.std.proofs.lemmas.List.Elements.{All-cons, All-nil}
 use Rattle.std.proofs.lemmas.List.Kept.{AllPairs-cons}
 use Rattle.std.specs.Fmt.{digits}
-use Rattle.std.specs.Str.Parse.{digits_value}
 use Rattle.hex.specs.Hex.{encode_lower}
 use Rattle.hex.proofs.OnLiterals.{hex_on_literals}
 use Rattle.gix_hash.proofs.Ids.Membership.{no_member, same_from, same_is}
@@ -13,7 +12,7 @@ use Rattle.gix_hash.specs.declared.ObjectId.TheVariants.{Sha1}
 use Rattle.gix_hash.specs.Id.{is_same}
 use Rattle.gix_statement.specs.WholeStatement as page
 use Rattle.gix_statement.specs.WholeStatement.{Object, Objects, Row, AreNamed, Agree, Allows, AreFed, AreRecords, IsLast, negative, positive, unsigned, AreEntries, AreParentLines, Clash, Entry, Follows, IsCommit, IsThere, IsHistory, IsHash, IsNumber, IsTime, IsText, Promises, Serves, commits, Lists, lists, Spells, bytes_in, Begins, IsWhole, id_line, entry_line, Reaches, start, parent, HasBegun, InEach, HaveHistory}
-use Rattle.gix_statement.proofs.Tests.{all_digits, is_hex, without, not_among, not_alone, other_head}
+use Rattle.gix_statement.proofs.Tests.{all_digits, is_hex, without, not_among, not_alone, other_head, begun_lines}
 use Rattle.gix_statement.proofs.OrderExamples.{begun_one, newest_begun, newest_whole}
 
 -- the id that is one byte twenty times
@@ -113,37 +112,54 @@ module _ (objects : Objects) (rows : List Row) (child_time root_time : ℤ) (is_
   is_there = All-cons (IsThere objects rows) child [] child_there (All-nil _)
 
   newest_served : Serves objects rows parents time (Some []) (Some both_lines) (codes "newest" ∷ codes "2222222222222222222222222222222222222222" ∷ [])
-  newest_served = commits (child ∷ root ∷ [])
-      (lists [] [] (codes "2222222222222222222222222222222222222222" ∷ []) {hidden = []} is_newest
-      (inl (child, [], refl, spelled, (refl, refl))) (λ e. cc) page.all are_there (newest_begun child root differ parents parents time child_names root_names) (inl refl)
-      (λ ended more. newest_whole child root differ parents parents time child_names root_names))
-      (sym are_both)
+  newest_served = commits both_lines
+      (lists [] (codes "2222222222222222222222222222222222222222" ∷ []) _ (child ∷ root ∷ []) {hidden = []} is_newest
+      (page.everything (inl (child, [], refl, spelled, (refl, refl)))) (λ e. cc) page.all are_there (newest_begun child root differ parents parents time child_names root_names) tt
+      (λ ended more. newest_whole child root differ parents parents time child_names root_names) (inl refl) (sym are_both))
+      refl
+
+  number_one : IsNumber 10 9 (codes "1") 1
+  number_one = (omega arith, omega arith, all_digits 10 (codes "1") refl, refl)
 
   -- WITH -n 1 the first line is all
   one_served : Serves objects rows parents time (Some []) (Some one_line) (codes "newest" ∷ codes "-n" ∷ codes "1" ∷ codes "2222222222222222222222222222222222222222" ∷ [])
-  one_served = commits (child ∷ [])
-      (lists [] (codes "-n" ∷ codes "1" ∷ []) (codes "2222222222222222222222222222222222222222" ∷ []) {hidden = []} is_newest
-      (inl (child, [], refl, spelled, (refl, refl))) (λ e. cc) page.all is_there (begun_one child root differ parents parents time child_names root_names) (inr (codes "1", 1, number_one, refl, omega arith))
-      (λ ended more. absurd (no_two more)))
-      (sym is_one)
-    where
-      number_one : IsNumber 10 9 (codes "1") 1
-      number_one = (omega arith, omega arith, all_digits 10 (codes "1") refl, refl)
+  one_served = commits one_line
+      (lists [] (codes "-n" ∷ codes "1" ∷ codes "2222222222222222222222222222222222222222" ∷ []) _ (child ∷ []) {hidden = []} is_newest
+      (page.at_most 1 number_one (omega arith) (page.everything (inl (child, [], refl, spelled, (refl, refl))))) (λ e. cc) page.all is_there (begun_one child root differ parents parents time child_names root_names) (omega arith)
+      (λ ended more. absurd (omega (arith, more))) (inl refl) (sym is_one))
+      refl
 
-      no_two : Allows (codes "-n" ∷ codes "1" ∷ []) 2 → ⊥
-      no_two (inl e) = cc
-      no_two (inr (number, most, is, e, few)) =
-          let same : codes "1" ≡ number = cc in
-          let value : most ≡ 1 = is.3 ∙ ap (digits_value 10) (sym same) in
-          omega (arith, few, value)
+  -- WITH --skip 1 the second line is all, and --count says so; with --reverse it comes first
+  skipped_served : Serves objects rows parents time (Some []) (Some (id_line root)) (codes "newest" ∷ codes "--skip" ∷ codes "1" ∷ codes "2222222222222222222222222222222222222222" ∷ [])
+  skipped_served = commits (id_line root)
+      (lists [] (codes "--skip" ∷ codes "1" ∷ codes "2222222222222222222222222222222222222222" ∷ []) _ (child ∷ root ∷ []) {hidden = []} is_newest
+      (page.skip 1 number_one (omega arith) (page.everything (inl (child, [], refl, spelled, (refl, refl))))) (λ e. cc) page.all are_there (newest_begun child root differ parents parents time child_names root_names) tt
+      (λ ended more. newest_whole child root differ parents parents time child_names root_names) (inl refl) (sym (append-nil (id_line root))))
+      refl
+
+  counted_served : Serves objects rows parents time (Some []) (Some (codes "1\n")) (codes "newest" ∷ codes "--skip" ∷ codes "1" ∷ codes "--count" ∷ codes "2222222222222222222222222222222222222222" ∷ [])
+  unfolding digits
+  counted_served = commits (codes "1\n")
+      (lists [] (codes "--skip" ∷ codes "1" ∷ codes "--count" ∷ codes "2222222222222222222222222222222222222222" ∷ []) _ (child ∷ root ∷ []) {hidden = []} is_newest
+      (page.skip 1 number_one (omega arith) (page.counted (omega arith) (page.everything (inl (child, [], refl, spelled, (refl, refl)))))) (λ e. cc) page.all are_there (newest_begun child root differ parents parents time child_names root_names) tt
+      (λ ended more. newest_whole child root differ parents parents time child_names root_names) (inl refl) refl)
+      refl
+
+  reversed_served : Serves objects rows parents time (Some []) (Some (id_line root ++ id_line child)) (codes "newest" ∷ codes "--reverse" ∷ codes "2222222222222222222222222222222222222222" ∷ [])
+  reversed_served = commits (id_line root ++ id_line child)
+      (lists [] (codes "--reverse" ∷ codes "2222222222222222222222222222222222222222" ∷ []) _ (child ∷ root ∷ []) {hidden = []} is_newest
+      (page.reversed (omega arith) (page.everything (inl (child, [], refl, spelled, (refl, refl))))) (λ e. cc) page.all are_there (newest_begun child root differ parents parents time child_names root_names) tt
+      (λ ended more. newest_whole child root differ parents parents time child_names root_names) (inl refl) (ap (λ bytes. id_line root ++ bytes) (sym (append-nil (id_line child)))))
+      refl
 
   -- A FAULT may come behind the first line
   one_begun : HasBegun objects rows parents time (Some []) (Some one_line) (codes "newest" ∷ codes "2222222222222222222222222222222222222222" ∷ [])
   one_begun = (
-    child ∷ [],
-    lists [] [] (codes "2222222222222222222222222222222222222222" ∷ []) {hidden = []} is_newest
-        (inl (child, [], refl, spelled, (refl, refl))) (λ e. cc) page.all is_there (begun_one child root differ parents parents time child_names root_names) (inl refl) (λ ended. let no : false ≡ true = ended in cc),
-    sym is_one,
+    one_line,
+    lists [] (codes "2222222222222222222222222222222222222222" ∷ []) _ (child ∷ []) {hidden = []} is_newest
+        (page.everything (inl (child, [], refl, spelled, (refl, refl)))) (λ e. cc) page.all is_there (begun_one child root differ parents parents time child_names root_names) tt (λ ended. let no : false ≡ true = ended in cc)
+        (inr refl) (sym is_one),
+    refl,
   )
 
 newest_of_rows : {E : Type 0} (e : E) → Promises e (codes "newest" ∷ codes "2222222222222222222222222222222222222222" ∷ []) Given (Some []) (Ok tt) (Some both_lines)
@@ -177,7 +193,7 @@ half_a_line writer_failed e words other have (inr (objects, those, given, agreei
     lines (i ∷ ids) e = ended (encode_lower (bytes_in i)) (flat_map id_line ids) (subst (All (λ b. b ≢ 10)) (e ∙ append_assoc (encode_lower (bytes_in i)) (10 ∷ []) (flat_map id_line ids)) (without 10 (codes "2222") refl))
 
     go : (parents : ObjectId → List ObjectId) (time : ObjectId → ℤ) → HasBegun objects those parents time (Some []) (Some (codes "2222")) words → ⊥
-    go parents time (ids, listed, appends) = lines ids appends
+    go parents time begun = let b = begun_lines objects those parents time (Some []) (Some (codes "2222")) words begun in lines b.0 b.1
 
 -- A COLLIDING PAIR: two objects of one id are a clash, of which the law says nothing
 abbrev one_object : List ℕ → Objects

@@ -1,15 +1,19 @@
 -- What the statement refuses: `--since` that leaves out a parent that isn't there, as if it were old.
-use Rattle.std.proofs.Common.{◌≡◌, ◌≢◌, ℕ, ℤ, pos, List, [], ◌∷◌, ◌++◌, replicate, length, filter, not, int_lt, cond, Option, Some, None, Ok, All, Contains, codes, refl, sym, ap, subst, ◌∙◌, arith, ⊎_elim, inl, inr, suc}
+use Rattle.std.proofs.Common.{◌≡◌, ◌≢◌, ℕ, ℤ, pos, List, [], ◌∷◌, ◌++◌, replicate, length, filter, not, int_lt, cond, Option, Some, None, Ok, All, Contains, codes, refl, sym, ap, subst, ◌∙◌, arith, ⊎_elim, inl, inr}
 use Rattle.std.proofs.lemmas.List.Elements.{All-contains}
 use Rattle.std.proofs.lemmas.Bool.{false≢true}
+use Rattle.std.proofs.Math.ListN.{get_or}
 use Rattle.std.specs.Str.Parse.{digits_value}
 use Rattle.gix_hash.proofs.Ids.Membership.{Contains-cons_cases, no_member, same_from}
 use Rattle.gix_hash.specs.Id.{is_same}
 use Rattle.gix_hash.specs.declared.ObjectId.{ObjectId}
 use Rattle.gix_hash.specs.declared.ObjectId.TheVariants.{Sha1, Sha256}
-use Rattle.gix_statement.specs.WholeStatement.{Objects, Row, Allows, AreTips, digits_in, IsCommit, IsThere, IsHistory, IsShown, IsWhole, Promises, Serves, commits, ahead, contains, bases, files, lists, Follows, all, first, since, Spells, Reaches, start, parent}
+use Rattle.gix_statement.specs.WholeStatement.{Objects, Row, Allows, AreTips, digits_in, IsCommit, IsThere, IsHistory, IsShown, IsWhole, Promises, Serves, commits, ahead, contains, containing, bases, files, lists, Follows, all, first, since, Spells, Reaches, start, parent, Choice, Chooses, everything, until, merges, no_merges, skip, at_most, counted, reversed}
 use Rattle.gix_statement.proofs.OneCommit.{spelled_same}
 use Rattle.gix_statement.proofs.Tests.{is_hex}
+
+heads : (a b : List ℕ) (xs ys : List (List ℕ)) → a ∷ xs ≡ b ∷ ys → a ≡ b
+heads a b xs ys e = cc
 
 abbrev child : ObjectId
 child = Sha1 (replicate 20 0x22)
@@ -81,24 +85,40 @@ module _ (objects : Objects) (nothing : (i : ObjectId) → objects i ≡ None) w
       (is ∙ (λ k. same k ∷ none k), empty)
   one_tip tips hidden (inr (i, m, is, id, word, spells, more)) = let h : ◌≡◌ {A = ℕ} 50 94 = cc in absurd (omega (arith, h))
 
+  -- what is chosen by the tip alone, and by nothing that begins with `--since`
+  one_chosen : {tips hidden : List ObjectId} {c : Choice} {place : ℕ} (words : List (List ℕ)) → Chooses tips hidden place words c → words ≡ tip ∷ [] → AreTips words tips hidden × (c.limit ≡ None)
+  one_chosen words (everything are) is = (are, refl)
+  one_chosen words (until k counts late chooses) is = let l : 7 ≡ 40 = ap length (heads (codes "--until") tip _ [] is) in absurd (omega (arith, l))
+  one_chosen words (merges late chooses) is = let l : 8 ≡ 40 = ap length (heads (codes "--merges") tip _ [] is) in absurd (omega (arith, l))
+  one_chosen words (no_merges late chooses) is = let l : 11 ≡ 40 = ap length (heads (codes "--no-merges") tip _ [] is) in absurd (omega (arith, l))
+  one_chosen words (skip k counts late chooses) is = let l : 6 ≡ 40 = ap length (heads (codes "--skip") tip _ [] is) in absurd (omega (arith, l))
+  one_chosen words (at_most k counts late chooses) is = let l : 2 ≡ 40 = ap length (heads (codes "-n") tip _ [] is) in absurd (omega (arith, l))
+  one_chosen words (counted late chooses) is = let l : 7 ≡ 40 = ap length (heads (codes "--count") tip _ [] is) in absurd (omega (arith, l))
+  one_chosen words (reversed late chooses) is = let l : 9 ≡ 40 = ap length (heads (codes "--reverse") tip _ [] is) in absurd (omega (arith, l))
+
+  not_chosen : {tips hidden : List ObjectId} {c : Choice} {place : ℕ} (words rest : List (List ℕ)) → Chooses tips hidden place words c → words ≡ codes "--since" ∷ rest → ⊥
+  not_chosen {tips} {hidden} words rest (everything are) is = no_since rest [] hidden tips (subst (λ x. AreTips x tips hidden) is are)
+  not_chosen words rest (until k counts late chooses) is = let l : 117 ≡ 115 = ap (λ w. get_or w 2 0) (heads (codes "--until") (codes "--since") _ rest is) in omega (arith, l)
+  not_chosen words rest (merges late chooses) is = let l : 8 ≡ 7 = ap length (heads (codes "--merges") (codes "--since") _ rest is) in omega (arith, l)
+  not_chosen words rest (no_merges late chooses) is = let l : 11 ≡ 7 = ap length (heads (codes "--no-merges") (codes "--since") _ rest is) in omega (arith, l)
+  not_chosen words rest (skip k counts late chooses) is = let l : 6 ≡ 7 = ap length (heads (codes "--skip") (codes "--since") _ rest is) in omega (arith, l)
+  not_chosen words rest (at_most k counts late chooses) is = let l : 2 ≡ 7 = ap length (heads (codes "-n") (codes "--since") _ rest is) in omega (arith, l)
+  not_chosen words rest (counted late chooses) is = let l : 99 ≡ 115 = ap (λ w. get_or w 2 0) (heads (codes "--count") (codes "--since") _ rest is) in omega (arith, l)
+  not_chosen words rest (reversed late chooses) is = let l : 9 ≡ 7 = ap length (heads (codes "--reverse") (codes "--since") _ rest is) in omega (arith, l)
+
   -- whatever the option is
-  by_option : {by : List ℕ} {option : List (List ℕ)} (limit more : List (List ℕ)) {tips hidden starts ids : List ObjectId} {followed : ObjectId → List ObjectId}
-      → by ≡ codes "newest" → option ++ (limit ++ more) ≡ codes "--since" ∷ codes "3" ∷ tip ∷ [] → AreTips more tips hidden → Follows parents time tips by option followed starts
-      → All (IsThere objects (row ∷ [])) ids → Allows limit (length ids) → (Allows limit (suc (length ids)) → IsWhole parents followed time starts hidden by ids) → ⊥
-  by_option limit more {tips = tips} {hidden = hidden} name rest are all there (inl none) ended =
-      no_since (codes "3" ∷ tip ∷ []) [] hidden tips (subst (λ m. AreTips m tips hidden) (sym (ap (λ l. l ++ more) none) ∙ rest) are)
-  by_option limit more name rest are all there (inr (number, most, is, limits, few)) ended =
-      let both : codes "-n" ∷ number ∷ more ≡ codes "--since" ∷ codes "3" ∷ tip ∷ [] = sym (ap (λ l. l ++ more) limits) ∙ rest in
-      let head : codes "-n" ≡ codes "--since" = cc in
-      let l : 2 ≡ 7 = ap length head in
-      omega (arith, l)
-  by_option limit more name rest are (first breadth) there allows ended = let l : 7 ≡ 6 = ap length (sym breadth ∙ name) in omega (arith, l)
-  by_option {by = by} limit more {tips = tips} {hidden = hidden} {ids = ids} name rest are (since {number = number} n named is) there (inl none) ended =
+  by_option : {by : List ℕ} {option : List (List ℕ)} (m : ℕ) (more : List (List ℕ)) {c : Choice} {place : ℕ} {tips hidden starts ids : List ObjectId} {followed : ObjectId → List ObjectId}
+      → by ≡ codes "newest" → option ++ more ≡ codes "--since" ∷ codes "3" ∷ tip ∷ [] → Chooses tips hidden place more c → Follows parents time tips by option followed starts
+      → All (IsThere objects (row ∷ [])) ids → (Allows c.limit m → IsWhole parents followed time starts hidden by ids) → ⊥
+  by_option m more name rest chooses all there ended = not_chosen more (codes "3" ∷ tip ∷ []) chooses rest
+  by_option m more name rest chooses (first breadth) there ended = let l : 7 ≡ 6 = ap length (sym breadth ∙ name) in omega (arith, l)
+  by_option {by = by} m more {c = c} {tips = tips} {hidden = hidden} {ids = ids} name rest chooses (since {number = number} n named is) there ended =
       let three : number ≡ codes "3" = cc in
-      let behind : limit ++ more ≡ tip ∷ [] = cc in
-      let t = one_tip tips hidden (subst (λ m. AreTips m tips hidden) (sym (ap (λ l. l ++ more) none) ∙ behind) are) in
+      let behind : more ≡ tip ∷ [] = cc in
+      let o = one_chosen more chooses behind in
+      let t = one_tip tips hidden (subst (λ ws. AreTips ws tips hidden) behind o.0) in
       let value : n ≡ 3 = is.3 ∙ ap (digits_value 10) three in
-      let whole = ended (inl none) in
+      let whole = ended (subst (λ l. Allows l m) (sym o.1) tt) in
       root_not_there (All-contains (IsThere objects (row ∷ [])) ids root there (whole.1 (λ down. absurd (not_down down)) root (shown_root n tips hidden value t.0 t.1)))
     where
       not_down : Contains (codes "topo" ∷ codes "date" ∷ []) by → ⊥
@@ -106,23 +126,18 @@ module _ (objects : Objects) (nothing : (i : ObjectId) → objects i ≡ None) w
           (λ e. let l : 4 ≡ 6 = ap length (e ∙ name) in omega (arith, l))
           (λ m. ⊎_elim (λ e. let l : 4 ≡ 6 = ap length (e ∙ name) in omega (arith, l)) (no_member by) (Contains-cons_cases by (codes "date") [] m))
           (Contains-cons_cases by (codes "topo") (codes "date" ∷ []) m)
-  by_option limit more name rest are (since {number = old} n named is) there (inr (number, most, counts, limits, few)) ended =
-      let behind : limit ++ more ≡ tip ∷ [] = cc in
-      let both : codes "-n" ∷ number ∷ more ≡ tip ∷ [] = sym (ap (λ l. l ++ more) limits) ∙ behind in
-      let head : codes "-n" ≡ tip = cc in
-      let l : 2 ≡ 40 = ap length head in
-      omega (arith, l)
 
   -- whatever was written
   refused : (asked : List (List ℕ)) (out : Option (List ℕ)) → asked ≡ words → Serves objects (row ∷ []) parents time (Some []) out asked → ⊥
   refused asked out is (ahead n m a b there others ns ms w) = let h : codes "ahead" ≡ codes "newest" = cc in let l : 5 ≡ 6 = ap length h in omega (arith, l)
   refused asked out is (contains are some there keeps w) = let h : codes "contains" ≡ codes "newest" = cc in let l : 8 ≡ 6 = ap length h in omega (arith, l)
+  refused asked out is (containing are some there keeps w) = let h : codes "containing" ≡ codes "newest" = cc in let l : 10 ≡ 6 = ap length h in omega (arith, l)
   refused asked out is (bases those are some there exact rising w) = let h : codes "merge-base" ≡ codes "newest" = cc in let l : 10 ≡ 6 = ap length h in omega (arith, l)
   refused asked out is (files option a ends spells tree unfolds w) = let h : codes "files" ≡ codes "newest" = cc in let l : 5 ≡ 6 = ap length h in omega (arith, l)
-  refused asked out is (commits ids (lists {by = by} option limit more {tips = tips} {hidden = hidden} {starts = starts} {followed = followed} named are some follows there begins allows ended) w) =
+  refused asked out is (commits bytes (lists {by = by} option more c ids named chooses some follows there begins allows ended may is_written) w) =
       let name : by ≡ codes "newest" = cc in
-      let rest : option ++ (limit ++ more) ≡ codes "--since" ∷ codes "3" ∷ tip ∷ [] = cc in
-      by_option limit more name rest are follows there allows (ended refl)
+      let rest : option ++ more ≡ codes "--since" ∷ codes "3" ∷ tip ∷ [] = cc in
+      by_option _ more name rest chooses follows there (ended refl)
 
 -- `newest --since 3 CHILD` over that row ends well with no output at all
 parent_is_not_lost : {E : Type 0} (e : E) (out : Option (List ℕ)) → Promises e (codes "newest" ∷ codes "--since" ∷ codes "3" ∷ tip ∷ []) Given (Some []) (Ok tt) out → ⊥

@@ -1,11 +1,13 @@
 -- Tests of lists of numbers, by which worked examples are checked, and members of lists.
-use Rattle.std.proofs.Common.{◌≡◌, ◌≢◌, ℕ, List, [], ◌∷◌, Bool, true, false, ◌&&◌, nat_eq, nat_lt, not, All, Contains, refl, sym, ◌∙◌, arith, ltb-true, eq-eqb, ⊎_elim}
+use Rattle.std.proofs.Common.{inl, inr, ◌⊎◌, ℤ, Option, flat_map, ap, subst, ◌∙◌, ◌≡◌, ◌≢◌, ℕ, List, [], ◌∷◌, Bool, true, false, ◌&&◌, nat_eq, nat_lt, not, All, Contains, refl, sym, ◌∙◌, arith, ltb-true, eq-eqb, ⊎_elim}
 use Rattle.std.proofs.lemmas.Bool.{false≢true}
 use Rattle.std.proofs.lemmas.List.Elements.{All-cons, All-nil}
 use Rattle.gix_hash.proofs.Ids.Membership.{Contains-cons_cases}
 use Rattle.std.specs.Char.{digit_value}
 use Rattle.std.specs.Str.Parse.{AllDigits, digits_value}
-use Rattle.gix_statement.specs.WholeStatement.{IsHex, none, byte}
+use Rattle.std.specs.Io.KnownBytes.{Appends}
+use Rattle.gix_hash.specs.declared.ObjectId.{ObjectId}
+use Rattle.gix_statement.specs.WholeStatement.{IsHex, none, byte, Objects, Row, HasBegun, lists, Lines, chosen, written, id_line}
 
 -- all of these are digits
 abbrev pub are_digits : ℕ → List ℕ → Bool
@@ -59,3 +61,12 @@ pub is_hex : (text : List ℕ) → are_hex text ≡ true → IsHex text (hex_byt
 is_hex [] e = none
 is_hex (a ∷ []) e = cc
 is_hex (a ∷ b ∷ text) e = let h = both_true (are_digits 16 (a ∷ b ∷ [])) (are_hex text) e in byte (all_digits 16 (a ∷ b ∷ []) h.0) (is_hex text h.1)
+
+-- what has begun are lines
+pub begun_lines : (objects : Objects) (rows : List Row) (parents : ObjectId → List ObjectId) (time : ObjectId → ℤ) (old new : Option (List ℕ)) (words : List (List ℕ)) → HasBegun objects rows parents time old new words → (ids : List ObjectId) × Appends old new (flat_map id_line ids)
+begun_lines objects rows parents time old new words (bytes, lists option more c ids named chooses some follows there begins allows ended may is_written, appends) =
+    (chosen parents time c ids, subst (Appends old new) (is_written ∙ ap (λ form. written form (chosen parents time c ids)) (only_lines may)) appends)
+  where
+    only_lines : (false ≡ true) ⊎ (c.form ≡ Lines) → c.form ≡ Lines
+    only_lines (inl e) = cc
+    only_lines (inr e) = e

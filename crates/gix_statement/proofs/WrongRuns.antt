@@ -7,8 +7,9 @@ use Rattle.gix_statement.proofs.HaveHistory.{have_history}
 use Rattle.gix_statement.proofs.NamedClash.{clash_collides}
 use Rattle.gix_statement.proofs.OneCommit.{one_commit}
 use Rattle.gix_statement.proofs.OneOutput.{output_of_both}
+use Rattle.gix_statement.proofs.Tests.{begun_lines}
 use Rattle.gix_statement.specs.CommitGraph.{AreLayers}
-use Rattle.gix_statement.specs.WholeStatement.{Objects, Row, Promises, HasBegun, Serves, commits, ahead, contains, bases, files, Lists, lists, Allows, AreTips, Follows, all, first, since, digits_in, bytes_in, id_line, Agree, AreNamed, InEach, IsHash, IsText}
+use Rattle.gix_statement.specs.WholeStatement.{Objects, Row, Promises, HasBegun, Serves, commits, ahead, contains, containing, bases, files, Lists, lists, AreTips, Follows, all, first, since, digits_in, bytes_in, id_line, Agree, AreNamed, InEach, IsHash, IsText, Choice, Chooses, everything, until, merges, no_merges, skip, at_most, counted, reversed}
 
 -- HALF A LINE is left only by a run whose writer failed.
 abbrev last_of : ℕ → List ℕ → ℕ
@@ -36,9 +37,9 @@ no_half_line writer_failed e words AreGiven out b other unlike (inr (objects, ro
     ⊎_elim (whole h.0 h.1) (λ c. other c.0) (right h.0 h.1 h.2)
   where
     whole : (parents : ObjectId → List ObjectId) (time : ObjectId → ℤ) → HasBegun objects rows parents time (Some []) (Some (out ++ b ∷ [])) words → ⊥
-    whole parents time (ids, are, appends) = unlike (sym (last_of_both 10 out (b ∷ [])) ∙ ap (last_of 10) appends ∙ lines_end ids)
+    whole parents time begun = let l = begun_lines objects rows parents time (Some []) (Some (out ++ b ∷ [])) words begun in unlike (sym (last_of_both 10 out (b ∷ [])) ∙ ap (last_of 10) l.1 ∙ lines_end l.0)
 
--- BEHIND A LIMIT come ids: no second limit, and none of the options that stand before it.
+-- BEHIND A LIMIT come ids, or first how they are written: no second limit, and none of the options that stand before it.
 wide : (i : ObjectId) → 40 ≤ digits_in i
 wide (Sha1 x) = omega arith
 wide (Sha256 x) = omega arith
@@ -49,38 +50,47 @@ no_short_tip word words tips hidden short (inr (i, more, is, id, w, s, a)) =
     let l : length word ≡ suc (length id) = ap length w in
     omega (arith, short, wide i, s.0, l)
 
-module _ (by n word : List ℕ) (more : List (List ℕ)) (short : length word < 40) where
+module _ (by n word : List ℕ) (more : List (List ℕ)) (short : length word < 40) (uncounted : word ≢ codes "--count") (forward : word ≢ codes "--reverse") where
   abbrev Asked : List (List ℕ)
   Asked = by ∷ codes "-n" ∷ n ∷ word ∷ more
 
-  no_words : (limit words : List (List ℕ)) (tips hidden : List ObjectId) (k : ℕ) → Allows limit k → AreTips words tips hidden
-      → limit ++ words ≡ codes "-n" ∷ n ∷ word ∷ more → ⊥
-  no_words limit words tips hidden k (inl e) are is =
-      let w : words ≡ codes "-n" ∷ n ∷ word ∷ more = ap (λ l. l ++ words) (sym e) ∙ is in
-      no_short_tip (codes "-n") (n ∷ word ∷ more) tips hidden (omega arith) (subst (λ x. AreTips x tips hidden) w are)
-  no_words limit words tips hidden k (inr (number, most, counts, e, few)) are is =
-      let w : codes "-n" ∷ number ∷ words ≡ codes "-n" ∷ n ∷ word ∷ more = ap (λ l. l ++ words) (sym e) ∙ is in
-      let rest : words ≡ word ∷ more = cc in
-      no_short_tip word more tips hidden short (subst (λ x. AreTips x tips hidden) rest are)
+  none_late : {tips hidden : List ObjectId} {c : Choice} {place : ℕ} (words : List (List ℕ)) → 3 < place → Chooses tips hidden place words c → words ≡ word ∷ more → ⊥
+  none_late {tips} {hidden} words late (everything are) is = no_short_tip word more tips hidden short (subst (λ x. AreTips x tips hidden) is are)
+  none_late words late (until k counts before chooses) is = omega (arith, late)
+  none_late words late (merges before chooses) is = omega (arith, late)
+  none_late words late (no_merges before chooses) is = omega (arith, late)
+  none_late words late (skip k counts before chooses) is = omega (arith, late)
+  none_late words late (at_most k counts before chooses) is = omega (arith, late)
+  none_late words late (counted before chooses) is = let head : codes "--count" ≡ word = cc in uncounted (sym head)
+  none_late words late (reversed before chooses) is = let head : codes "--reverse" ≡ word = cc in forward (sym head)
+
+  no_words : {tips hidden : List ObjectId} {c : Choice} {place : ℕ} (words : List (List ℕ)) → Chooses tips hidden place words c → words ≡ codes "-n" ∷ n ∷ word ∷ more → ⊥
+  no_words {tips} {hidden} words (everything are) is = no_short_tip (codes "-n") (n ∷ word ∷ more) tips hidden (omega arith) (subst (λ x. AreTips x tips hidden) is are)
+  no_words words (until k counts before chooses) is = let head : codes "--until" ≡ codes "-n" = cc in let l : 7 ≡ 2 = ap length head in omega (arith, l)
+  no_words words (merges before chooses) is = let head : codes "--merges" ≡ codes "-n" = cc in let l : 8 ≡ 2 = ap length head in omega (arith, l)
+  no_words words (no_merges before chooses) is = let head : codes "--no-merges" ≡ codes "-n" = cc in let l : 11 ≡ 2 = ap length head in omega (arith, l)
+  no_words words (skip k counts before chooses) is = let head : codes "--skip" ≡ codes "-n" = cc in let l : 6 ≡ 2 = ap length head in omega (arith, l)
+  no_words words (at_most {words = rest} k counts late chooses) is = none_late rest late chooses (let e : rest ≡ word ∷ more = cc in e)
+  no_words words (counted before chooses) is = let head : codes "--count" ≡ codes "-n" = cc in let l : 7 ≡ 2 = ap length head in omega (arith, l)
+  no_words words (reversed before chooses) is = let head : codes "--reverse" ≡ codes "-n" = cc in let l : 9 ≡ 2 = ap length head in omega (arith, l)
 
   module _ (objects : Objects) (rows : List Row) (parents : ObjectId → List ObjectId) (time : ObjectId → ℤ) where
-    no_option : {tips starts : List ObjectId} {name : List ℕ} {followed : ObjectId → List ObjectId} (option limit words : List (List ℕ)) (hidden : List ObjectId) (k : ℕ)
-        → Follows parents time tips name option followed starts → Allows limit k → AreTips words tips hidden
-        → option ++ (limit ++ words) ≡ codes "-n" ∷ n ∷ word ∷ more → ⊥
-    no_option {tips = tips} option limit words hidden k all allows are is = no_words limit words tips hidden k allows are is
-    no_option option limit words hidden k (first b) allows are is =
+    no_option : {tips those hidden starts : List ObjectId} {name : List ℕ} {followed : ObjectId → List ObjectId} {c : Choice} {place : ℕ} (option words : List (List ℕ))
+        → Follows parents time tips name option followed starts → Chooses those hidden place words c → option ++ words ≡ codes "-n" ∷ n ∷ word ∷ more → ⊥
+    no_option option words all chooses is = no_words words chooses is
+    no_option option words (first b) chooses is =
         let head : codes "--first-parent" ≡ codes "-n" = cc in
         let l : 14 ≡ 2 = ap length head in
         omega (arith, l)
-    no_option option limit words hidden k (since {number = number} m named counts) allows are is =
+    no_option option words (since {number = number} m named counts) chooses is =
         let head : codes "--since" ≡ codes "-n" = cc in
         let l : 7 ≡ 2 = ap length head in
         omega (arith, l)
 
-    not_listed : (ids : List ObjectId) (ended : Bool) (asked : List (List ℕ)) → asked ≡ Asked → Lists objects rows parents time ids ended asked → ⊥
-    not_listed ids ended asked is (lists {by = name} option limit words {hidden = hidden} named are some follows there begins allows whole) =
-        let rest : option ++ (limit ++ words) ≡ codes "-n" ∷ n ∷ word ∷ more = cc in
-        no_option option limit words hidden (length ids) follows allows are rest
+    not_listed : (bytes : List ℕ) (ended : Bool) (asked : List (List ℕ)) → asked ≡ Asked → Lists objects rows parents time bytes ended asked → ⊥
+    not_listed bytes ended asked is (lists {by = name} option words c ids named chooses some follows there begins allows whole may is_written) =
+        let rest : option ++ words ≡ codes "-n" ∷ n ∷ word ∷ more = cc in
+        no_option option words follows chooses rest
 
     not_served : (old new : Option (List ℕ)) (asked : List (List ℕ)) → asked ≡ Asked → Serves objects rows parents time old new asked → ⊥
     not_served old new asked is (commits ids listed appends) = not_listed ids _ asked is listed
@@ -88,6 +98,9 @@ module _ (by n word : List ℕ) (more : List (List ℕ)) (short : length word < 
     not_served old new asked is (contains {words = words} {tip = tip} {ids = ids} are some there keeps appends) =
         let rest : words ≡ codes "-n" ∷ n ∷ word ∷ more = cc in
         no_short_tip (codes "-n") (n ∷ word ∷ more) (tip ∷ ids) [] (omega arith) (subst (λ x. AreTips x (tip ∷ ids) []) rest are)
+    not_served old new asked is (containing {words = words} {target = target} {tips = tips} are some there keeps appends) =
+        let rest : words ≡ codes "-n" ∷ n ∷ word ∷ more = cc in
+        no_short_tip (codes "-n") (n ∷ word ∷ more) (target ∷ tips) [] (omega arith) (subst (λ x. AreTips x (target ∷ tips) []) rest are)
     not_served old new asked is (bases {words = words} {one = one} {others = others} those are some there exact rising appends) =
         let rest : words ≡ codes "-n" ∷ n ∷ word ∷ more = cc in
         no_short_tip (codes "-n") (n ∷ word ∷ more) (one ∷ others) [] (omega arith) (subst (λ x. AreTips x (one ∷ others) []) rest are)
@@ -105,7 +118,7 @@ module _ (by n word : List ℕ) (more : List (List ℕ)) (short : length word < 
 
 no_second_limit : {E : Type 0} (writer_failed : E) (AreGiven : Objects → List Row → Type 0) (by n tip : List ℕ) (old new : Option (List ℕ))
     → Promises writer_failed (by ∷ codes "-n" ∷ n ∷ codes "-n" ∷ n ∷ tip ∷ []) AreGiven old (Ok tt) new → ⊥
-no_second_limit writer_failed AreGiven by n tip = nothing_behind_a_limit by n (codes "-n") (n ∷ tip ∷ []) (omega arith) writer_failed AreGiven
+no_second_limit writer_failed AreGiven by n tip = nothing_behind_a_limit by n (codes "-n") (n ∷ tip ∷ []) (omega arith) (λ e. cc) (λ e. cc) writer_failed AreGiven
 
 -- LAYERS in another order, or one of them twice: each says how many are below it.
 not_in_another_order : (a b : List ℕ) (rows others : List Row) → AreLayers [] (a ∷ b ∷ []) [] rows → AreLayers [] (b ∷ a ∷ []) [] others → ⊥

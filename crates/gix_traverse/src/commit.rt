@@ -1,5 +1,6 @@
 //! Walks of commits.
 pub mod contained;
+pub mod containing;
 pub mod merge_base;
 pub mod simple;
 pub mod topo;

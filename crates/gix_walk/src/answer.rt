@@ -1,10 +1,11 @@
 //! Answers to questions about a repository.
-use crate::chosen::{Chosen, choose};
+use crate::chosen::{Chosen, choose, resolve_words};
 use crate::failure::Failure;
-use crate::graph::{check, rows, warn};
+use crate::graph::{check, rows, rows_of, warn};
 use crate::named::write_named;
 use crate::progress::Progress;
 use crate::symmetric::common;
+use gix_certificate::Rows;
 use gix_commands::{Fault, run_named};
 use gix_gather::{Gathering, Order};
 use gix_hash::Keys;
@@ -13,10 +14,12 @@ use gix_options::{Name, Place, Question};
 use gix_parts::graph::Graph;
 use gix_parts::records::NamedObjects;
 use gix_repository::Repository;
+use gix_revision::Resolved;
 use std::io::Write;
 
-/// The status where `contains` found that some revisions aren't contained, or `is-ancestor` that one isn't reached.
-const NOT_ALL_CONTAINED: u8 = 3;
+/// The status where `contains` found that some revisions aren't contained, `containing` that some don't reach the first, or `is-ancestor` that
+/// one isn't reached.
+const NOT_ALL: u8 = 3;
 /// How many objects are read until it is said how many there are.
 const STEP: usize = 8192;
 /// How many commits are read at first, where a part of them may be enough, beside those that are asked for.
@@ -34,6 +37,16 @@ struct Asking<'a> {
     question: &'a Question,
     chosen: Chosen,
     progress: Progress,
+    rows: Rows,
+}
+
+/// How a question was answered.
+#[derive(Clone, Copy)]
+pub(crate) struct Answered {
+    /// The status.
+    pub status: u8,
+    /// Which rows were used.
+    pub rows: Rows,
 }
 
 /// Answers a question, and gives the status.
@@ -43,40 +56,56 @@ pub(crate) fn answer<W: Write>(
     question: &Question,
     output: &mut W,
 ) -> Result<u8, Failure> {
-    let mut repository = match &question.place {
-        Place::Folder(folder) => Repository::discover(rt, folder.as_str())?,
-        Place::GitDir(folder) => Repository::open(rt, folder.as_str())?,
-    };
-    notice(rt, &mut repository)?;
+    let mut repository = open(rt, &question.place)?;
     if question.name == Name::CheckGraph {
         check(rt, &mut repository, output)?;
         return Ok(0);
     }
-    let chosen = choose(rt, &mut repository, question)?;
-    let asks_of_others = matches!(question.name, Name::Contains | Name::MergeBase);
-    if chosen.tips.is_empty() || asks_of_others && chosen.tips.len() < 2 {
-        return Ok(0);
-    }
+    let resolved = resolve_words(rt, &mut repository, question)?;
+    let answered = answer_from(
+        rt,
+        keys,
+        &mut repository,
+        question,
+        resolved.as_slice(),
+        output,
+    )?;
+    Ok(answered.status)
+}
+
+/// Opens the repository of a place.
+pub(crate) fn open(rt: &HostRuntime, place: &Place) -> Result<Repository<HostRuntime>, Failure> {
+    let mut repository = match place {
+        Place::Folder(folder) => Repository::discover(rt, folder.as_str())?,
+        Place::GitDir(folder) => Repository::open(rt, folder.as_str())?,
+    };
+    notice(rt, &mut repository)?;
+    Ok(repository)
+}
+
+/// Answers a question from what its revisions stand for.
+pub(crate) fn answer_from<W: Write>(
+    rt: &HostRuntime,
+    keys: Keys,
+    repository: &mut Repository<HostRuntime>,
+    question: &Question,
+    resolved: &[Resolved],
+    output: &mut W,
+) -> Result<Answered, Failure> {
+    let chosen = choose(rt.alloc(), question, resolved)?;
     let mut asking = Asking {
         rt,
         keys,
         question,
         chosen,
         progress: Progress::new(rt),
+        rows: Rows::Unused,
     };
-    let answered = match question.name {
-        Name::Files => asking.files(&mut repository, output),
-        _ => asking.commits(&mut repository, output),
-    };
-    match answered {
-        Err(Failure::Command(Fault::Missing(id))) if !repository.shallow().is_empty() => {
-            Err(Failure::Shallow(id))
-        }
-        Err(Failure::Command(Fault::Missing(id))) if repository.is_partial() => {
-            Err(Failure::Partial(id))
-        }
-        answered => answered,
-    }
+    let status = asking.status_of_all(repository, output)?;
+    Ok(Answered {
+        status,
+        rows: asking.rows,
+    })
 }
 
 /// Says what git would follow and the program doesn't.
@@ -99,6 +128,35 @@ fn notice(rt: &HostRuntime, repository: &mut Repository<HostRuntime>) -> Result<
 }
 
 impl Asking<'_> {
+    /// Answers the question, and gives the status. What isn't there of a shallow or partial clone is called so.
+    fn status_of_all<W: Write>(
+        &mut self,
+        repository: &mut Repository<HostRuntime>,
+        output: &mut W,
+    ) -> Result<u8, Failure> {
+        let tips = self.chosen.tips.len();
+        let asks_of_others = matches!(
+            self.question.name,
+            Name::Contains | Name::Containing | Name::MergeBase
+        );
+        if tips == 0 || asks_of_others && tips < 2 {
+            return Ok(0);
+        }
+        let answered = match self.question.name {
+            Name::Files => self.files(repository, output),
+            _ => self.commits(repository, output),
+        };
+        match answered {
+            Err(Failure::Command(Fault::Missing(id))) if !repository.shallow().is_empty() => {
+                Err(Failure::Shallow(id))
+            }
+            Err(Failure::Command(Fault::Missing(id))) if repository.is_partial() => {
+                Err(Failure::Partial(id))
+            }
+            answered => answered,
+        }
+    }
+
     /// Reads all that is left.
     fn read_all(
         &mut self,
@@ -174,6 +232,10 @@ impl Asking<'_> {
         if self.question.name == Name::Resolve && self.chosen.pairs.is_empty() {
             return self.write_ids(output);
         }
+        self.rows = match graph {
+            Some(_) => rows_of(&self.question.options),
+            None => Rows::Unused,
+        };
         let ids = self.chosen.all(alloc)?;
         let order = match self.question.name {
             Name::Newest | Name::Contains | Name::IsAncestor => Order::NewestFirst,
@@ -210,6 +272,7 @@ impl Asking<'_> {
             Some(least)
                 if least <= FEW_LINES
                     && !self.asks_what_is_reached()
+                    && !self.leaves_some_out()
                     && !self.question.options.takes_border => {}
             _ => return Ok(None),
         }
@@ -228,8 +291,8 @@ impl Asking<'_> {
         matches!(self.question.name, Name::Contains | Name::IsAncestor)
     }
 
-    /// How many commits are read at the least, where a part of them may be enough: one for each line that is asked for, or for each
-    /// revision of `contains` and `is-ancestor`.
+    /// How many commits are read at the least, where a part of them may be enough: one for each line that is asked for, and for each that is
+    /// skipped, or for each revision of `contains` and `is-ancestor`.
     fn least(&self) -> Option<usize> {
         if self.asks_what_is_reached() {
             return Some(self.chosen.tips.len());
@@ -241,10 +304,15 @@ impl Asking<'_> {
         if !is_by_one_step || !self.chosen.hidden.is_empty() || !self.chosen.pairs.is_empty() {
             return None;
         }
-        match &self.question.options.limit {
-            Some(digits) => digits.as_str().parse::<usize>().ok(),
-            None => None,
-        }
+        let limit = number(self.question.options.limit.as_ref())?;
+        let skip = number(self.question.options.skip.as_ref()).unwrap_or(0);
+        Some(limit.saturating_add(skip))
+    }
+
+    /// Whether a list leaves out commits by what they say, so that nobody knows how many are met until enough are left.
+    fn leaves_some_out(&self) -> bool {
+        let options = &self.question.options;
+        options.until.is_some() || options.merges || options.no_merges
     }
 
     /// Writes the answer from a part of the history, and from a larger one where the command meets a commit that wasn't read yet. The
@@ -285,7 +353,7 @@ impl Asking<'_> {
         Err(Failure::Command(Fault::Internal))
     }
 
-    /// Writes the lines of the command, as the question asks for them: `contains --names` with words, and `is-ancestor` none.
+    /// Writes the lines of the command, as the question asks for them: with `--names` each with its word, and those of `is-ancestor` not at all.
     fn write_lines<W: Write>(&self, lines: &[u8], output: &mut W) -> Result<(), Failure> {
         if self.question.name == Name::IsAncestor {
             return Ok(());
@@ -300,8 +368,9 @@ impl Asking<'_> {
     /// The status of an answer of these lines.
     fn status(&self, lines: &[u8]) -> u8 {
         let count = lines.iter().filter(|byte| **byte == b'\n').count();
-        if self.asks_what_is_reached() && count.saturating_add(1) < self.chosen.tips.len() {
-            NOT_ALL_CONTAINED
+        let gives_revisions = self.asks_what_is_reached() || self.question.name == Name::Containing;
+        if gives_revisions && count.saturating_add(1) < self.chosen.tips.len() {
+            NOT_ALL
         } else {
             0
         }
@@ -341,9 +410,20 @@ impl Asking<'_> {
             return self.write_ids(output);
         }
         let words = self.chosen.words(alloc, self.keys, self.question)?;
-        run_named(alloc, words.as_slice(), objects, graph, output)?;
-        Ok(0)
+        if name != Name::Containing {
+            run_named(alloc, words.as_slice(), objects, graph, output)?;
+            return Ok(0);
+        }
+        let mut lines = Vec::new(alloc);
+        in_memory(run_named(alloc, words.as_slice(), objects, graph, &mut lines))?;
+        self.write_lines(lines.as_slice(), output)?;
+        Ok(self.status(lines.as_slice()))
     }
+}
+
+/// The number that an option's digits write, if it is given.
+fn number(digits: Option<&String>) -> Option<usize> {
+    digits?.as_str().parse::<usize>().ok()
 }
 
 /// How a run into memory ended: it can't be written where memory ran out.

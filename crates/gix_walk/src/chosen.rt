@@ -3,7 +3,7 @@ use crate::failure::Failure;
 use gix_hash::hashtable::IdSet;
 use gix_hash::{Keys, ObjectId};
 use gix_object::Kind;
-use gix_options::{Asked, Misuse, Name, Question, read_lines};
+use gix_options::{Asked, Misuse, Name, Options, Question, read_lines};
 use gix_records::{READS, read_to_end};
 use gix_repository::Repository;
 use gix_revision::{Resolved, Set, resolve, resolve_all};
@@ -32,16 +32,13 @@ pub(crate) struct Chosen {
 }
 
 /// Reads what the revisions of a question stand for.
-pub(crate) fn choose(
+pub(crate) fn resolve_words(
     rt: &HostRuntime,
     repository: &mut Repository<HostRuntime>,
     question: &Question,
-) -> Result<Chosen, Failure> {
+) -> Result<Vec<Resolved>, Failure> {
     let mut resolved = Vec::new(rt.alloc());
-    let wanted = match question.name {
-        Name::Files => Kind::Tree,
-        _ => Kind::Commit,
-    };
+    let wanted = wanted(question.name);
     for asked in question.asked.iter() {
         match resolve_one(rt, repository, asked, wanted, &mut resolved) {
             Ok(()) => {}
@@ -65,13 +62,30 @@ pub(crate) fn choose(
             say(rt, one);
         }
     }
+    Ok(resolved)
+}
+
+/// The kind of object that a command asks about.
+pub(crate) fn wanted(name: Name) -> Kind {
+    match name {
+        Name::Files => Kind::Tree,
+        _ => Kind::Commit,
+    }
+}
+
+/// The ids that a question is about, from what its revisions stand for.
+pub(crate) fn choose(
+    alloc: Global,
+    question: &Question,
+    resolved: &[Resolved],
+) -> Result<Chosen, Failure> {
     let mut chosen = Chosen {
-        tips: Vec::new(rt.alloc()),
-        hidden: Vec::new(rt.alloc()),
-        pairs: Vec::new(rt.alloc()),
-        names: Vec::new(rt.alloc()),
+        tips: Vec::new(alloc),
+        hidden: Vec::new(alloc),
+        pairs: Vec::new(alloc),
+        names: Vec::new(alloc),
     };
-    for one in resolved.iter() {
+    for one in resolved {
         chosen.add(one)?;
         if question.options.gives_names {
             chosen.names.push(one.word.clone()?)?;
@@ -101,7 +115,7 @@ fn has_refs(repository: &mut Repository<HostRuntime>) -> Result<bool, Failure> {
 }
 
 /// Reads what a word of a question stands for.
-fn resolve_one(
+pub(crate) fn resolve_one(
     rt: &HostRuntime,
     repository: &mut Repository<HostRuntime>,
     asked: &Asked,
@@ -170,21 +184,7 @@ impl Chosen {
             question.name
         };
         words.push(String::from_str(alloc, name.word())?)?;
-        let options = &question.options;
-        if options.by_first_parents {
-            words.push(String::from_str(alloc, "--first-parent")?)?;
-        }
-        if let Some(seconds) = &options.since {
-            words.push(String::from_str(alloc, "--since")?)?;
-            words.push(seconds.clone()?)?;
-        }
-        if options.ends_in_zero {
-            words.push(String::from_str(alloc, "-z")?)?;
-        }
-        if let Some(limit) = &options.limit {
-            words.push(String::from_str(alloc, "-n")?)?;
-            words.push(limit.clone()?)?;
-        }
+        push_options(alloc, &question.options, &mut words)?;
         let mut tips = if question.name.is_list() {
             once(alloc, keys, self.tips.as_slice())?
         } else {
@@ -201,6 +201,51 @@ impl Chosen {
         }
         Ok(words)
     }
+}
+
+/// Adds the words of the options, in the order in which a command takes them.
+fn push_options(
+    alloc: Global,
+    options: &Options,
+    words: &mut Vec<String>,
+) -> Result<(), AllocError> {
+    push_flag(alloc, options.by_first_parents, "--first-parent", words)?;
+    push_value(alloc, "--since", &options.since, words)?;
+    push_flag(alloc, options.ends_in_zero, "-z", words)?;
+    push_value(alloc, "--until", &options.until, words)?;
+    push_flag(alloc, options.merges, "--merges", words)?;
+    push_flag(alloc, options.no_merges, "--no-merges", words)?;
+    push_value(alloc, "--skip", &options.skip, words)?;
+    push_value(alloc, "-n", &options.limit, words)?;
+    push_flag(alloc, options.counts, "--count", words)?;
+    push_flag(alloc, options.is_reversed, "--reverse", words)
+}
+
+/// Adds an option if it is given.
+fn push_flag(
+    alloc: Global,
+    is_given: bool,
+    option: &str,
+    words: &mut Vec<String>,
+) -> Result<(), AllocError> {
+    if is_given {
+        words.push(String::from_str(alloc, option)?)?;
+    }
+    Ok(())
+}
+
+/// Adds an option and its value if it is given.
+fn push_value(
+    alloc: Global,
+    option: &str,
+    value: &Option<String>,
+    words: &mut Vec<String>,
+) -> Result<(), AllocError> {
+    if let Some(value) = value {
+        words.push(String::from_str(alloc, option)?)?;
+        words.push(value.clone()?)?;
+    }
+    Ok(())
 }
 
 /// Each of the ids at its first place.
@@ -241,7 +286,7 @@ fn check_number(name: Name, chosen: &Chosen) -> Result<(), Misuse> {
                 Err(Misuse::Number(name.word(), 1))
             }
         }
-        Name::Contains | Name::MergeBase => {
+        Name::Contains | Name::Containing | Name::MergeBase => {
             if are_tips {
                 Ok(())
             } else {

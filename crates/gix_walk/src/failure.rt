@@ -42,6 +42,9 @@ pub(crate) enum Failure {
     /// A file of the commit-graph can't be read.
     #[error("{0}")]
     Layer(gix_graph_verify::LayerFault),
+    /// A certificate isn't written, or isn't read.
+    #[error("{0}")]
+    Certificate(gix_certificate::Fault),
     /// The repository has no commit.
     #[error("no commit yet")]
     NoCommit,
@@ -119,6 +122,15 @@ impl From<gix_revision::Fault> for Failure {
 impl From<gix_graph_verify::Fault<gix_gather::Fault>> for Failure {
     fn from(fault: gix_graph_verify::Fault<gix_gather::Fault>) -> Failure {
         Failure::Graph(fault)
+    }
+}
+
+impl From<gix_certificate::Fault> for Failure {
+    fn from(fault: gix_certificate::Fault) -> Failure {
+        match fault {
+            gix_certificate::Fault::Memory => Failure::Command(Fault::Memory),
+            fault => Failure::Certificate(fault),
+        }
     }
 }
 

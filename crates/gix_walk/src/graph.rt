@@ -29,6 +29,18 @@ pub(crate) struct Known {
     pub is_unchecked: bool,
 }
 
+/// Which rows these options take, where there are some.
+pub(crate) fn rows_of(options: &Options) -> gix_certificate::Rows {
+    if options.takes_border {
+        return gix_certificate::Rows::Border;
+    }
+    match options.rows {
+        Rows::Checked => gix_certificate::Rows::Checked,
+        Rows::Trusted => gix_certificate::Rows::Trusted,
+        Rows::Unused => gix_certificate::Rows::Unused,
+    }
+}
+
 /// No rows.
 fn nothing() -> Known {
     Known {

@@ -3,6 +3,7 @@
 #![tactic(auto)]
 
 mod answer;
+mod certificate;
 mod chosen;
 mod failure;
 mod graph;
@@ -55,7 +56,8 @@ fn run<W: io::Write + Drop>(rt: &HostRuntime, output: &mut Output<W>) -> Result<
         Asks::Help(name) => help::write_help(rt, name).map_err(fault_of_output)?,
         Asks::Version => help::write_version(rt).map_err(fault_of_output)?,
         Asks::Question(question) => {
-            return answer::answer(rt, random_keys(rt)?, &question, output);
+            let keys = random_keys(rt)?;
+            return certificate::serve(rt, keys, words.as_slice(), &question, output);
         }
     }
     Ok(0)

@@ -5,8 +5,8 @@ use crate::failure::Failure;
 use std::alloc::Global;
 use std::io::Write;
 
-/// Writes the lines of `contains`, each with a space behind its id and the revision as it was given. The lines are those of the revisions
-/// behind the first that are contained, in order and with repeats, so each is that of the next revision of its id.
+/// Writes the lines of `contains` or `containing`, each with a space behind its id and the revision as it was given. The lines are those of
+/// some of the revisions behind the first, in order and with repeats, so each is that of the next revision of its id.
 pub(crate) fn write_named<W: Write>(
     alloc: Global,
     chosen: &Chosen,

@@ -53,6 +53,11 @@ fn serve_folder<W: Write>(
             ids.extend_from_slice(others.as_slice())?;
             gather(rt, keys, folder, ids.as_slice())?
         }
+        Command::Containing { target, tips } => {
+            ids.push(target)?;
+            ids.extend_from_slice(tips.as_slice())?;
+            gather(rt, keys, folder, ids.as_slice())?
+        }
         Command::Bases { one, others } => {
             ids.push(one)?;
             ids.extend_from_slice(others.as_slice())?;

@@ -1,7 +1,7 @@
 -- Worked examples of words.
 use Rattle.std.specs.Prelude.{◌≡◌, ◌∷◌, [], codes, Err, refl}
 use Rattle.gix_words.specs.declared.fault.Fault.TheVariants as fault
-use Rattle.gix_words.specs.Words.{request_of}
+use Rattle.gix_words.specs.Words.{request_of, skipped_of}
 
 pub no_words : request_of [] ≡ Err fault.Usage
 no_words = refl
@@ -10,18 +10,23 @@ pub no_id : request_of (codes "breadth" ∷ []) ≡ Err fault.Usage
 no_id = refl
 
 pub bad_id : request_of (codes "breadth" ∷ codes "zz" ∷ []) ≡ Err (fault.Id 2)
+unfolding skipped_of
 bad_id = refl
 
 pub bad_id_before_others : request_of (codes "newest" ∷ codes "zz" ∷ codes "^" ∷ []) ≡ Err (fault.Id 2)
+unfolding skipped_of
 bad_id_before_others = refl
 
 pub no_tip : request_of (codes "oldest" ∷ codes "^zz" ∷ codes "^" ∷ []) ≡ Err fault.Usage
+unfolding skipped_of
 no_tip = refl
 
 pub no_tip_below_ends : request_of (codes "topo" ∷ codes "^zz" ∷ []) ≡ Err fault.Usage
+unfolding skipped_of
 no_tip_below_ends = refl
 
 pub bad_end : request_of (codes "date" ∷ codes "^" ∷ codes "zz" ∷ []) ≡ Err (fault.Id 2)
+unfolding skipped_of
 bad_end = refl
 
 pub no_tree : request_of (codes "files" ∷ []) ≡ Err fault.Usage
@@ -48,6 +53,12 @@ hidden_commit = refl
 pub bad_commit : request_of (codes "ahead" ∷ codes "zz" ∷ codes "zz" ∷ []) ≡ Err (fault.Id 2)
 bad_commit = refl
 
+pub one_containing : request_of (codes "containing" ∷ codes "zz" ∷ []) ≡ Err fault.Usage
+one_containing = refl
+
+pub bad_containing : request_of (codes "containing" ∷ codes "zz" ∷ codes "zz" ∷ []) ≡ Err (fault.Id 2)
+bad_containing = refl
+
 pub one_base : request_of (codes "merge-base" ∷ codes "zz" ∷ []) ≡ Err fault.Usage
 one_base = refl
 
@@ -56,3 +67,9 @@ hidden_base = refl
 
 pub bad_base : request_of (codes "merge-base" ∷ codes "zz" ∷ codes "zz" ∷ []) ≡ Err (fault.Id 2)
 bad_base = refl
+
+pub option_of_bases : request_of (codes "merge-base" ∷ codes "--count" ∷ codes "zz" ∷ codes "zz" ∷ []) ≡ Err fault.Usage
+option_of_bases = refl
+
+pub option_of_two : request_of (codes "ahead" ∷ codes "zz" ∷ codes "--reverse" ∷ []) ≡ Err fault.Usage
+option_of_two = refl

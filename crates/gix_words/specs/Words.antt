@@ -14,28 +14,46 @@ use Rattle.gix_words.specs.declared.fault.Fault.{Fault}
 use Rattle.gix_words.specs.declared.fault.Fault.TheVariants as fault
 use Rattle.gix_words.specs.declared.words.Command.{Command}
 use Rattle.gix_words.specs.declared.words.Command.TheVariants as command
+use Rattle.gix_words.specs.declared.words.Chosen.{Chosen}
+use Rattle.gix_words.specs.declared.words.Form.{Form}
+use Rattle.gix_words.specs.declared.words.Form.TheVariants as form
+use Rattle.gix_words.specs.declared.words.Merges.{Merges}
+use Rattle.gix_words.specs.declared.words.Merges.TheVariants as merges
 use Rattle.gix_words.specs.declared.words.Order.{Order}
 use Rattle.gix_words.specs.declared.words.SomeIds.{SomeIds}
 use Rattle.gix_words.specs.declared.words.Order.TheVariants.{Simple, Topo}
+use Rattle.gix_words.specs.declared.words.Shown.{Shown}
 
 pub data Request : Type 0 where
-  -- the commits that the tips reach and the hidden ones don't, in an order; with a limit the first of them, as many at most
-  Commits : (order : Order) (limit : Option ℕ) (tips hidden : List ObjectId) → Request
+  -- the commits that the tips reach and the hidden ones don't, in an order, and what is written of them
+  Commits : (order : Order) (shown : Shown) (tips hidden : List ObjectId) → Request
   -- the entries of the tree of this id, and of the trees in it, each with this byte behind it
   Files : (ending : ℕ) (tree : ObjectId) → Request
   -- how many commits the one reaches and the other doesn't, and the other way round
   Ahead : (one other : ObjectId) → Request
   -- those of the ids that the tip reaches
   Contained : (tip : ObjectId) (ids : List ObjectId) → Request
+  -- those of the tips that reach the target
+  Containing : (target : ObjectId) (tips : List ObjectId) → Request
   -- the best common ancestors of the one and of any of the others
   Bases : (one : ObjectId) (others : List ObjectId) → Request
 
 abbrev pub request_of_command : Command → Request
-request_of_command (command.Commits order limit tips hidden) = Commits order limit tips.items hidden.items
+request_of_command (command.Commits order shown tips hidden) = Commits order shown tips.items hidden.items
 request_of_command (command.Files ending tree) = Files ending tree
 request_of_command (command.Ahead one other) = Ahead one other
 request_of_command (command.Contained tip ids) = Contained tip ids.items
+request_of_command (command.Containing target tips) = Containing target tips.items
 request_of_command (command.Bases one others) = Bases one others.items
+
+-- what is written of commits, and ids of tips and of hidden ones
+pub record Asked : Type 0 where
+  pub shown : Shown
+  pub tips : List ObjectId
+  pub hidden : List ObjectId
+
+abbrev pub asked_by : Chosen → Asked
+asked_by c = record { shown = c.shown; tips = c.tips.items; hidden = c.hidden.items }
 
 -- what a function returned, seen by view, is what it was to be, unless memory ran out
 abbrev pub Gives : {X Y : Type 0} → (X → Y) → Result X Fault → Result Y Fault → Type 0
@@ -51,6 +69,15 @@ Tells view (Err e) wanted = wanted ≡ Err e
 abbrev pub begins_with_caret : List ℕ → Bool
 begins_with_caret [] = false
 begins_with_caret (b ∷ bs) = b == 94
+
+-- whether the word is an option
+abbrev pub begins_with_dash : List ℕ → Bool
+begins_with_dash [] = false
+begins_with_dash (b ∷ bs) = b == 45
+
+-- neither is an id that a command takes which is no list
+abbrev pub begins_with_sign : List ℕ → Bool
+begins_with_sign word = begins_with_caret word || begins_with_dash word
 
 abbrev pub without_caret : List ℕ → List ℕ
 without_caret [] = []
@@ -108,29 +135,109 @@ by_cutoff seconds (Topo by) = None
 abbrev pub number_in : ℕ → List ℕ → Option ℕ
 number_in most digits = if nat_lt 0 (length digits) && nat_le (length digits) most then digits_behind 0 digits else None
 
-abbrev pub commits_from : Order → Option ℕ → Result Ids Fault → Result Request Fault
-commits_from by limit (Ok ids) = Ok (Commits by limit ids.0 ids.1)
-commits_from by limit (Err e) = Err e
-
 abbrev pub files_from : (ending n : ℕ) → Result ObjectId HexError → Result Request Fault
 files_from ending n (Ok tree) = Ok (Files ending tree)
 files_from ending n (Err e) = Err (fault.Id n)
 
+-- all that is listed, one a line
+abbrev pub all_lines : Shown
+all_lines = record { until = None; merges = merges.Any; skip = 0; limit = None; form = form.Lines }
+
+abbrev pub chosen_from : Result Ids Fault → Result Asked Fault
+chosen_from (Ok ids) = Ok (record { shown = all_lines; tips = ids.0; hidden = ids.1 })
+chosen_from (Err e) = Err e
+
 -- one tip at least: this is judged of all words before any is judged as an id, the first of them word n
-abbrev pub commits_of : Order → Option ℕ → ℕ → List (List ℕ) → Result Request Fault
-commits_of by limit n ids = if list_all begins_with_caret ids then Err fault.Usage else commits_from by limit (ids_from n ids)
+abbrev pub plain_of : ℕ → List (List ℕ) → Result Asked Fault
+plain_of n ids = if list_all begins_with_caret ids then Err fault.Usage else chosen_from (ids_from n ids)
 
--- ids behind `-n` and a limit, the first of them word n
-abbrev pub limited_of : Order → Option ℕ → ℕ → List (List ℕ) → Result Request Fault
-limited_of by (Some limit) n ids = commits_of by (Some limit) n ids
-limited_of by None n ids = Err fault.Usage
+-- what words choose, with one more option
+abbrev pub with_until : ℤ → Result Asked Fault → Result Asked Fault
+with_until seconds (Ok c) = Ok (record c { shown = record c.shown { until = Some seconds } })
+with_until seconds (Err e) = Err e
 
--- ids, or `-n`, a limit and ids; the first of these words is word n
+abbrev pub with_merges : Merges → Result Asked Fault → Result Asked Fault
+with_merges kept (Ok c) = Ok (record c { shown = record c.shown { merges = kept } })
+with_merges kept (Err e) = Err e
+
+abbrev pub with_skip : ℕ → Result Asked Fault → Result Asked Fault
+with_skip number (Ok c) = Ok (record c { shown = record c.shown { skip = number } })
+with_skip number (Err e) = Err e
+
+abbrev pub with_limit : ℕ → Result Asked Fault → Result Asked Fault
+with_limit number (Ok c) = Ok (record c { shown = record c.shown { limit = Some number } })
+with_limit number (Err e) = Err e
+
+abbrev pub with_form : Form → Result Asked Fault → Result Asked Fault
+with_form by (Ok c) = Ok (record c { shown = record c.shown { form = by } })
+with_form by (Err e) = Err e
+
+-- ids, the first of them word n, and before them maybe options in one order, each at most once: `--until` and a time, `--merges` or
+-- `--no-merges`, `--skip` and a number, `-n` and a limit, `--count` or `--reverse`
+abbrev pub formed_of : ℕ → List (List ℕ) → Result Asked Fault
+formed_of n [] = Err fault.Usage
+formed_of n (option ∷ words) =
+    if bytes_eq option (codes "--count") then with_form form.Count (plain_of (n + 1) words)
+    else if bytes_eq option (codes "--reverse") then with_form form.Reverse (plain_of (n + 1) words)
+    else plain_of n (option ∷ words)
+
+abbrev pub limit_by : Option ℕ → ℕ → List (List ℕ) → Result Asked Fault
+limit_by (Some limit) n words = with_limit limit (formed_of n words)
+limit_by None n words = Err fault.Usage
+
+-- behind `-n`, which is word n
+abbrev pub limit_from : ℕ → List (List ℕ) → Result Asked Fault
+limit_from n [] = Err fault.Usage
+limit_from n (number ∷ words) = limit_by (number_in 9 number) (n + 2) words
+
+abbrev pub limited_of : ℕ → List (List ℕ) → Result Asked Fault
+limited_of n [] = Err fault.Usage
+limited_of n (option ∷ words) = if bytes_eq option (codes "-n") then limit_from n words else formed_of n (option ∷ words)
+
+abbrev pub skip_by : Option ℕ → ℕ → List (List ℕ) → Result Asked Fault
+skip_by (Some skip) n words = with_skip skip (limited_of n words)
+skip_by None n words = Err fault.Usage
+
+-- behind `--skip`, which is word n
+abbrev pub skip_from : ℕ → List (List ℕ) → Result Asked Fault
+skip_from n [] = Err fault.Usage
+skip_from n (number ∷ words) = skip_by (number_in 9 number) (n + 2) words
+
+unfoldable pub skipped_of : ℕ → List (List ℕ) → Result Asked Fault
+skipped_of n [] = Err fault.Usage
+skipped_of n (option ∷ words) = if bytes_eq option (codes "--skip") then skip_from n words else limited_of n (option ∷ words)
+
+abbrev pub no_merges_of : ℕ → List (List ℕ) → Result Asked Fault
+no_merges_of n [] = Err fault.Usage
+no_merges_of n (option ∷ words) =
+    if bytes_eq option (codes "--no-merges") then with_merges merges.No (skipped_of (n + 1) words) else skipped_of n (option ∷ words)
+
+abbrev pub merges_of : ℕ → List (List ℕ) → Result Asked Fault
+merges_of n [] = Err fault.Usage
+merges_of n (option ∷ words) =
+    if bytes_eq option (codes "--merges") then with_merges merges.Only (skipped_of (n + 1) words) else no_merges_of n (option ∷ words)
+
+abbrev pub until_by : Option ℕ → ℕ → List (List ℕ) → Result Asked Fault
+until_by (Some seconds) n words = with_until (pos seconds) (merges_of n words)
+until_by None n words = Err fault.Usage
+
+-- behind `--until`, which is word n
+abbrev pub until_from : ℕ → List (List ℕ) → Result Asked Fault
+until_from n [] = Err fault.Usage
+until_from n (seconds ∷ words) = until_by (number_in 10 seconds) (n + 2) words
+
+abbrev pub until_of : ℕ → List (List ℕ) → Result Asked Fault
+until_of n [] = Err fault.Usage
+until_of n (option ∷ words) = if bytes_eq option (codes "--until") then until_from n words else merges_of n (option ∷ words)
+
+-- what is chosen of the commits in an order
+abbrev pub commits_in : Order → Result Asked Fault → Result Request Fault
+commits_in by (Ok c) = Ok (Commits by c.shown c.tips c.hidden)
+commits_in by (Err e) = Err e
+
+-- options and ids; the first of these words is word n
 abbrev pub listed_of : Order → ℕ → List (List ℕ) → Result Request Fault
-listed_of by n [] = commits_of by None n []
-listed_of by n (id ∷ []) = commits_of by None n (id ∷ [])
-listed_of by n (option ∷ limit ∷ ids) =
-    if bytes_eq option (codes "-n") then limited_of by (number_in 9 limit) (n + 2) ids else commits_of by None n (option ∷ limit ∷ ids)
+listed_of by n words = commits_in by (until_of n words)
 
 -- these words behind an option that the order may not have
 abbrev pub chosen_of : Option Order → ℕ → List (List ℕ) → Result Request Fault
@@ -156,7 +263,7 @@ in_order_of by (option ∷ words) =
 
 -- one id, which is word n
 abbrev pub file_of : (ending n : ℕ) → List ℕ → Result Request Fault
-file_of ending n id = if begins_with_caret id then Err fault.Usage else files_from ending n (id_from_hex id)
+file_of ending n id = if begins_with_sign id then Err fault.Usage else files_from ending n (id_from_hex id)
 
 -- one id, and maybe `-z` before it
 abbrev pub files_of : List (List ℕ) → Result Request Fault
@@ -174,12 +281,12 @@ ahead_from (Err e) other = Err (fault.Id 2)
 abbrev pub ahead_of : List (List ℕ) → Result Request Fault
 ahead_of [] = Err fault.Usage
 ahead_of (one ∷ []) = Err fault.Usage
-ahead_of (one ∷ other ∷ []) = if begins_with_caret one || begins_with_caret other then Err fault.Usage else ahead_from (id_from_hex one) (id_from_hex other)
+ahead_of (one ∷ other ∷ []) = if begins_with_sign one || begins_with_sign other then Err fault.Usage else ahead_from (id_from_hex one) (id_from_hex other)
 ahead_of (one ∷ other ∷ next ∷ ids) = Err fault.Usage
 
--- whether the word asks for no commit to be hidden
+-- whether the word asks for no commit to be hidden, and is no option
 abbrev pub is_shown : List ℕ → Bool
-is_shown word = not (begins_with_caret word)
+is_shown word = not (begins_with_sign word)
 
 -- an id, and ids behind it
 abbrev pub Ranked : Type 0
@@ -196,7 +303,7 @@ abbrev pub several_from : Result Ids Fault → Result Ranked Fault
 several_from (Ok ids) = several_among ids.0
 several_from (Err e) = Err e
 
--- two ids at least, none of them to be hidden: this is judged of all words before any is judged as an id
+-- two ids at least, none of them to be hidden, and no option: this is judged of all words before any is judged as an id
 abbrev pub several_of : List (List ℕ) → Result Ranked Fault
 several_of [] = Err fault.Usage
 several_of (first ∷ []) = Err fault.Usage
@@ -214,6 +321,7 @@ request_named name None ids =
     if bytes_eq name (codes "files") then files_of ids
     else if bytes_eq name (codes "ahead") then ahead_of ids
     else if bytes_eq name (codes "contains") then asked Contained (several_of ids)
+    else if bytes_eq name (codes "containing") then asked Containing (several_of ids)
     else if bytes_eq name (codes "merge-base") then asked Bases (several_of ids)
     else Err fault.Usage
 

@@ -1,7 +1,7 @@
 //! The words of a command.
 ghost use Rattle.std.specs.Prelude.{◌≡◌, ◌≤◌, IfSome, map, string_bytes};
 ghost use Rattle.std.specs.List.{list_all};
-ghost use Rattle.gix_words.specs.Words.{Bases, Contained, Gives, Tells, AddsId, begins_with_caret, number_in, request_of_command, request_of, order_named, by_first_parents, by_cutoff, ids_from, commits_of, listed_of, since_of, in_order_of, file_of, files_of, ahead_of, is_shown, several_among, several_of, several_in, asked};
+ghost use Rattle.gix_words.specs.Words.{Bases, Contained, Containing, Gives, Tells, AddsId, begins_with_caret, begins_with_dash, begins_with_sign, number_in, request_of_command, request_of, order_named, by_first_parents, by_cutoff, ids_from, plain_of, asked_by, until_of, until_from, merges_of, no_merges_of, with_merges, skipped_of, skip_from, limited_of, limit_from, formed_of, listed_of, since_of, in_order_of, file_of, files_of, ahead_of, is_shown, several_among, several_of, several_in, asked};
 
 use crate::fault::Fault;
 use gix_parts::hash::ObjectId;
@@ -18,13 +18,58 @@ pub enum Order {
     Topo(topo::Sorting),
 }
 
+/// Which commits are written, by how many parents each names.
+#[derive(Clone, Copy)]
+pub enum Merges {
+    /// All.
+    Any,
+    /// Those of two parents at least.
+    Only,
+    /// Those of one parent at most.
+    No,
+}
+
+/// How a list is written.
+#[derive(Clone, Copy)]
+pub enum Form {
+    /// An id on each line.
+    Lines,
+    /// The number of these lines.
+    Count,
+    /// The last of these lines first.
+    Reverse,
+}
+
+/// What is written of a list of commits.
+#[derive(Clone, Copy)]
+pub struct Shown {
+    /// No commit whose committer's seconds are above it.
+    pub until: Option<i64>,
+    /// Which commits, by their parents.
+    pub merges: Merges,
+    /// How many of these are left out first.
+    pub skip: u64,
+    /// How many of the others are written at most.
+    pub limit: Option<u64>,
+    /// How.
+    pub form: Form,
+}
+
+/// What is written of a list of commits, and the ids of its tips and of the commits that are hidden.
+#[derive(Drop)]
+pub struct Chosen {
+    pub shown: Shown,
+    pub tips: Vec<ObjectId>,
+    pub hidden: Vec<ObjectId>,
+}
+
 /// What the words ask for.
 #[derive(Drop)]
 pub enum Command {
-    /// The commits that the tips reach and the hidden ones don't, in an order. Where there is a limit, the first of them, as many at most.
+    /// The commits that the tips reach and the hidden ones don't, in an order, and what is written of them.
     Commits {
         order: Order,
-        limit: Option<u64>,
+        shown: Shown,
         tips: Vec<ObjectId>,
         hidden: Vec<ObjectId>,
     },
@@ -43,6 +88,11 @@ pub enum Command {
         tip: ObjectId,
         ids: Vec<ObjectId>,
     },
+    /// Those of the tips that reach the target.
+    Containing {
+        target: ObjectId,
+        tips: Vec<ObjectId>,
+    },
     /// The best common ancestors of the one and of any of the others.
     Bases {
         one: ObjectId,
@@ -50,13 +100,15 @@ pub enum Command {
     },
 }
 
-/// The command that the words are: `breadth`, `newest`, `oldest`, `topo` or `date`, maybe an option, maybe `-n` and a limit, ids of tips, one
-/// at least, and ids of commits to be hidden, each after a `^`; or `files` and one id; or `ahead` and two ids; or `contains` or `merge-base`
-/// and two ids at least. `breadth` has the option `--first-parent`, and `newest` and `oldest` have `--since` and a time. An id is 40 or 64 hex digits, a
-/// limit 1 to 9 decimal digits, a time 1 to 10.
+/// The command that the words are: `breadth`, `newest`, `oldest`, `topo` or `date`, maybe options, ids of tips, one at least, and ids of
+/// commits to be hidden, each after a `^`; or `files` and one id; or `ahead` and two ids; or `contains`, `containing` or `merge-base` and two
+/// ids at least. The options come in this order, each at most once: `--first-parent` for `breadth` or `--since` and a time for `newest` and `oldest`,
+/// `--until` and a time, `--merges` or `--no-merges`, `--skip` and a number, `-n` and a limit, `--count` or `--reverse`. An id is 40 or 64 hex
+/// digits, a time 1 to 10 decimal digits, another number 1 to 9.
 ///
 /// # Errors
-/// `Usage` where the words are no command, `Id` at the first word that has to be an id and is none, `Memory`.
+/// `Usage` where the words are no command, as where `files`, `ahead`, `contains`, `containing` or `merge-base` has a word that begins with `^` or `-`. `Id` at
+/// the first word that has to be an id and is none. `Memory`.
 pub fn read_command(alloc: Global, words: &[String]) -> Result<Command, Fault>
     ensures { Gives request_of_command result (request_of (map string_bytes words.now)) }
 {
@@ -74,6 +126,9 @@ pub fn read_command(alloc: Global, words: &[String]) -> Result<Command, Fault>
     }
     if name.as_str() == "contains" {
         return contained(alloc, ids);
+    }
+    if name.as_str() == "containing" {
+        return containing(alloc, ids);
     }
     if name.as_str() == "merge-base" {
         return bases(alloc, ids);
@@ -182,21 +237,167 @@ fn since(alloc: Global, order: Order, words: &[String]) -> Result<Command, Fault
     listed(alloc, order, behind, 4)
 }
 
-/// The walk over commits that these words ask for: ids, maybe with a limit before them. The first of them is the word of this number.
+/// The walk over commits that these words ask for: options and ids. The first of them is the word of this number.
 fn listed(alloc: Global, order: Order, words: &[String], number: usize) -> Result<Command, Fault>
     requires few { number ≤ 4 }
     ensures { Gives request_of_command result (listed_of order number (map string_bytes words.now)) }
 {
-    let [option, limit, ids @ ..] = words else {
-        return commits(alloc, order, None, words, number);
+    let chosen = choice(alloc, words, number)?;
+    Ok(Command::Commits {
+        order,
+        shown: chosen.shown,
+        tips: chosen.tips,
+        hidden: chosen.hidden,
+    })
+}
+
+/// What these words choose: maybe `--until` and a time, further options, ids.
+fn choice(alloc: Global, words: &[String], number: usize) -> Result<Chosen, Fault>
+    requires few { number ≤ 4 }
+    ensures { Gives asked_by result (until_of number (map string_bytes words.now)) }
+{
+    let [option, behind @ ..] = words else {
+        return Err(Fault::Usage);
     };
-    if option.as_str() != "-n" {
-        return commits(alloc, order, None, words, number);
+    if option.as_str() == "--until" {
+        return until(alloc, behind, number);
     }
+    by_merges(alloc, words, number)
+}
+
+/// What the words behind `--until`, the word of this number, choose with it.
+fn until(alloc: Global, words: &[String], number: usize) -> Result<Chosen, Fault>
+    requires few { number ≤ 4 }
+    ensures { Gives asked_by result (until_from number (map string_bytes words.now)) }
+{
+    let [seconds, behind @ ..] = words else {
+        return Err(Fault::Usage);
+    };
+    let Some(seconds) = number_in(seconds, 10) else {
+        return Err(Fault::Usage);
+    };
+    let mut chosen = by_merges(alloc, behind, number + 2)?;
+    chosen.shown.until = Some(seconds as i64);
+    Ok(chosen)
+}
+
+/// What these words choose: maybe `--merges` or `--no-merges`, further options, ids.
+fn by_merges(alloc: Global, words: &[String], number: usize) -> Result<Chosen, Fault>
+    requires few { number ≤ 6 }
+    ensures { Gives asked_by result (merges_of number (map string_bytes words.now)) }
+{
+    let [option, behind @ ..] = words else {
+        return Err(Fault::Usage);
+    };
+    if option.as_str() == "--merges" {
+        return merged(alloc, Merges::Only, behind, number + 1);
+    }
+    by_no_merges(alloc, words, number)
+}
+
+/// What these words choose: maybe `--no-merges`, further options, ids.
+fn by_no_merges(alloc: Global, words: &[String], number: usize) -> Result<Chosen, Fault>
+    requires few { number ≤ 6 }
+    ensures { Gives asked_by result (no_merges_of number (map string_bytes words.now)) }
+{
+    let [option, behind @ ..] = words else {
+        return Err(Fault::Usage);
+    };
+    if option.as_str() == "--no-merges" {
+        return merged(alloc, Merges::No, behind, number + 1);
+    }
+    skipped(alloc, words, number)
+}
+
+/// What these words choose of such commits alone. The first of them is the word of this number.
+fn merged(alloc: Global, kept: Merges, words: &[String], number: usize) -> Result<Chosen, Fault>
+    requires few { number ≤ 7 }
+    ensures { Gives asked_by result (with_merges kept (skipped_of number (map string_bytes words.now))) }
+{
+    let mut chosen = skipped(alloc, words, number)?;
+    chosen.shown.merges = kept;
+    Ok(chosen)
+}
+
+/// What these words choose: maybe `--skip` and a number, further options, ids.
+fn skipped(alloc: Global, words: &[String], number: usize) -> Result<Chosen, Fault>
+    requires few { number ≤ 7 }
+    ensures { Gives asked_by result (skipped_of number (map string_bytes words.now)) }
+{
+    let [option, behind @ ..] = words else {
+        return Err(Fault::Usage);
+    };
+    if option.as_str() == "--skip" {
+        return skip(alloc, behind, number);
+    }
+    limited(alloc, words, number)
+}
+
+/// What the words behind `--skip`, the word of this number, choose with it.
+fn skip(alloc: Global, words: &[String], number: usize) -> Result<Chosen, Fault>
+    requires few { number ≤ 7 }
+    ensures { Gives asked_by result (skip_from number (map string_bytes words.now)) }
+{
+    let [skip, behind @ ..] = words else {
+        return Err(Fault::Usage);
+    };
+    let Some(skip) = number_in(skip, 9) else {
+        return Err(Fault::Usage);
+    };
+    let mut chosen = limited(alloc, behind, number + 2)?;
+    chosen.shown.skip = skip;
+    Ok(chosen)
+}
+
+/// What these words choose: maybe `-n` and a limit, further options, ids.
+fn limited(alloc: Global, words: &[String], number: usize) -> Result<Chosen, Fault>
+    requires few { number ≤ 9 }
+    ensures { Gives asked_by result (limited_of number (map string_bytes words.now)) }
+{
+    let [option, behind @ ..] = words else {
+        return Err(Fault::Usage);
+    };
+    if option.as_str() == "-n" {
+        return limit(alloc, behind, number);
+    }
+    formed(alloc, words, number)
+}
+
+/// What the words behind `-n`, the word of this number, choose with it.
+fn limit(alloc: Global, words: &[String], number: usize) -> Result<Chosen, Fault>
+    requires few { number ≤ 9 }
+    ensures { Gives asked_by result (limit_from number (map string_bytes words.now)) }
+{
+    let [limit, behind @ ..] = words else {
+        return Err(Fault::Usage);
+    };
     let Some(limit) = number_in(limit, 9) else {
         return Err(Fault::Usage);
     };
-    commits(alloc, order, Some(limit), ids, number + 2)
+    let mut chosen = formed(alloc, behind, number + 2)?;
+    chosen.shown.limit = Some(limit);
+    Ok(chosen)
+}
+
+/// What these words choose: maybe `--count` or `--reverse`, and ids.
+fn formed(alloc: Global, words: &[String], number: usize) -> Result<Chosen, Fault>
+    requires few { number ≤ 11 }
+    ensures { Gives asked_by result (formed_of number (map string_bytes words.now)) }
+{
+    let [option, behind @ ..] = words else {
+        return Err(Fault::Usage);
+    };
+    if option.as_str() == "--count" {
+        let mut chosen = chosen_ids(alloc, behind, number + 1)?;
+        chosen.shown.form = Form::Count;
+        return Ok(chosen);
+    }
+    if option.as_str() == "--reverse" {
+        let mut chosen = chosen_ids(alloc, behind, number + 1)?;
+        chosen.shown.form = Form::Reverse;
+        return Ok(chosen);
+    }
+    chosen_ids(alloc, words, number)
 }
 
 /// The number that 1 to so many decimal digits spell.
@@ -227,24 +428,24 @@ fn number_of(digits: &[u8], most: usize) -> Option<u64>
     Some(number)
 }
 
-/// The walk over commits from these ids, of which one at least must be a tip. The first of them is the word of this number.
-fn commits(
-    alloc: Global,
-    order: Order,
-    limit: Option<u64>,
-    ids: &[String],
-    number: usize,
-) -> Result<Command, Fault>
-    requires few { number ≤ 6 }
-    ensures { Gives request_of_command result (commits_of order limit number (map string_bytes ids.now)) }
+/// All that is listed from these ids, of which one at least must be a tip. The first of them is the word of this number.
+fn chosen_ids(alloc: Global, ids: &[String], number: usize) -> Result<Chosen, Fault>
+    requires few { number ≤ 12 }
+    ensures { Gives asked_by result (plain_of number (map string_bytes ids.now)) }
 {
     if are_hidden(ids) {
         return Err(Fault::Usage);
     }
     let (tips, hidden) = read_ids(alloc, ids, number)?;
-    Ok(Command::Commits {
-        order,
-        limit,
+    let shown = Shown {
+        until: None,
+        merges: Merges::Any,
+        skip: 0,
+        limit: None,
+        form: Form::Lines,
+    };
+    Ok(Chosen {
+        shown,
         tips,
         hidden,
     })
@@ -265,7 +466,7 @@ fn files(ids: &[String]) -> Result<Command, Fault>
 fn file(ending: u8, tree: &String, number: usize) -> Result<Command, Fault>
     ensures { Tells request_of_command result (file_of ending number (string_bytes tree.now)) }
 {
-    if begins_with_caret(tree) {
+    if begins_with_sign(tree) {
         return Err(Fault::Usage);
     }
     match ObjectId::from_hex(tree.as_bytes()) {
@@ -281,7 +482,7 @@ fn ahead(ids: &[String]) -> Result<Command, Fault>
     let [one, other] = ids else {
         return Err(Fault::Usage);
     };
-    if begins_with_caret(one) || begins_with_caret(other) {
+    if begins_with_sign(one) || begins_with_sign(other) {
         return Err(Fault::Usage);
     }
     let Ok(one) = ObjectId::from_hex(one.as_bytes()) else {
@@ -301,6 +502,17 @@ fn contained(alloc: Global, ids: &[String]) -> Result<Command, Fault>
     Ok(Command::Contained {
         tip: first,
         ids: others,
+    })
+}
+
+/// The target of these ids, and the others, which may contain it.
+fn containing(alloc: Global, ids: &[String]) -> Result<Command, Fault>
+    ensures { Gives request_of_command result (asked Containing (several_of (map string_bytes ids.now))) }
+{
+    let SomeIds { first, others } = several(alloc, ids)?;
+    Ok(Command::Containing {
+        target: first,
+        tips: others,
     })
 }
 
@@ -341,12 +553,12 @@ fn several_among(mut ids: Vec<ObjectId>) -> Result<SomeIds, Fault>
     Ok(SomeIds { first, others: ids })
 }
 
-/// Whether no word names a commit that is to be hidden.
+/// Whether no word names a commit that is to be hidden, or is an option.
 fn are_shown(ids: &[String]) -> bool
     ensures { result ≡ list_all is_shown (map string_bytes ids.now) }
 {
     for id in ids {
-        if begins_with_caret(id) {
+        if begins_with_sign(id) {
             return false;
         }
     }
@@ -372,13 +584,27 @@ fn begins_with_caret(word: &String) -> bool
     matches!(word.as_bytes(), [b'^', ..])
 }
 
+/// Whether the word is an option.
+fn begins_with_dash(word: &String) -> bool
+    ensures { result ≡ begins_with_dash (string_bytes word.now) }
+{
+    matches!(word.as_bytes(), [b'-', ..])
+}
+
+/// Whether the word is no id that a command takes which is no list.
+fn begins_with_sign(word: &String) -> bool
+    ensures { result ≡ begins_with_sign (string_bytes word.now) }
+{
+    begins_with_caret(word) || begins_with_dash(word)
+}
+
 /// The ids of tips that the words spell, and the ids of commits to be hidden. The first of these words is the word of this number.
 fn read_ids(
     alloc: Global,
     words: &[String],
     number: usize,
 ) -> Result<(Vec<ObjectId>, Vec<ObjectId>), Fault>
-    requires few { number ≤ 6 }
+    requires few { number ≤ 12 }
     ensures { Gives (λ ids. (ids.0.items, ids.1.items)) result (ids_from number (map string_bytes words.now)) }
 {
     let mut tips = Vec::new(alloc);

@@ -1,0 +1,172 @@
+//! Two certificates compared: what was written, and what another run of the same words writes now.
+ghost use Rattle.std.specs.Prelude.{◌≡◌, ◌↔◌, IsTrue};
+
+use crate::record::{Certificate, Meaning, Page, Program, Revision};
+use std::alloc::{AllocError, Global};
+
+/// Lines of which each says that something agrees or differs. What a certificate says is in quotes there.
+#[derive(Drop)]
+struct Report {
+    alloc: Global,
+    text: String,
+}
+
+impl Certificate {
+    /// Whether two runs wrote the same number of bytes with the same digest, and ended with the same status.
+    pub fn has_same_output(&self, other: &Certificate) -> bool
+        ensures { IsTrue result
+            ↔ (self.now.output ≡ other.now.output) × (self.now.status ≡ other.now.status) }
+    {
+        self.output == other.output && self.status == other.status
+    }
+
+    /// What agrees in both certificates and what differs, in lines. The revisions of the second are those that the words stand for now.
+    pub fn report(&self, alloc: Global, now: &Certificate) -> Result<String, AllocError> {
+        let mut report = Report {
+            alloc,
+            text: String::new(alloc),
+        };
+        report.add_words(self.words.as_slice())?;
+        report.add_output(self, now)?;
+        report.add_program(&self.program, &now.program)?;
+        report.add_pages(self.pages.as_slice(), now.pages.as_slice())?;
+        report.add("rows", self.rows.word(), now.rows.word())?;
+        report.add_revisions(self.revisions.as_slice(), now.revisions.as_slice())?;
+        Ok(report.text)
+    }
+}
+
+impl Report {
+    /// Adds a line about what was and what is.
+    fn add(&mut self, what: &str, then: &str, now: &str) -> Result<(), AllocError> {
+        let line = if then == now {
+            format!(in self.alloc; "agrees: {what}: {now}\n")?
+        } else {
+            format!(in self.alloc; "differs: {what}: {then} then, {now} now\n")?
+        };
+        Ok(self.text.push_str(line.as_str())?)
+    }
+
+    /// Adds the words that ran.
+    fn add_words(&mut self, words: &[String]) -> Result<(), AllocError> {
+        self.text.push_str("words:")?;
+        for word in words {
+            let word = format!(in self.alloc; " {word:?}")?;
+            self.text.push_str(word.as_str())?;
+        }
+        Ok(self.text.push_str("\n")?)
+    }
+
+    /// Adds what was written, and the status.
+    fn add_output(&mut self, then: &Certificate, now: &Certificate) -> Result<(), AllocError> {
+        let alloc = self.alloc;
+        let written = format!(in alloc;
+            "{} bytes, SHA-256 {}",
+            then.output.bytes, then.output.sha256
+        )?;
+        let writes = format!(in alloc;
+            "{} bytes, SHA-256 {}",
+            now.output.bytes, now.output.sha256
+        )?;
+        self.add("output", written.as_str(), writes.as_str())?;
+        let ended = format!(in alloc; "{}", then.status)?;
+        let ends = format!(in alloc; "{}", now.status)?;
+        self.add("status", ended.as_str(), ends.as_str())
+    }
+
+    /// Adds which program ran.
+    fn add_program(&mut self, then: &Program, now: &Program) -> Result<(), AllocError> {
+        let alloc = self.alloc;
+        let ran = format!(in alloc; "SHA-256 {}", then.sha256)?;
+        let runs = format!(in alloc; "SHA-256 {}", now.sha256)?;
+        self.add("program", ran.as_str(), runs.as_str())?;
+        let version = format!(in alloc; "{:?}", then.version)?;
+        let version_now = format!(in alloc; "{:?}", now.version)?;
+        self.add("version", version.as_str(), version_now.as_str())?;
+        let commit = known(alloc, &then.commit)?;
+        let commit_now = known(alloc, &now.commit)?;
+        self.add("commit", commit.as_str(), commit_now.as_str())?;
+        let toolchain = known(alloc, &then.proved_by)?;
+        let toolchain_now = known(alloc, &now.proved_by)?;
+        self.add("proved by", toolchain.as_str(), toolchain_now.as_str())
+    }
+
+    /// Adds the pages of both, by their names.
+    fn add_pages(&mut self, then: &[Page], now: &[Page]) -> Result<(), AllocError> {
+        let alloc = self.alloc;
+        for page in then {
+            let what = format!(in alloc; "page {:?}", page.name)?;
+            let said = format!(in alloc; "SHA-256 {}", page.sha256)?;
+            let says = match now.iter().find(|other| other.name == page.name) {
+                Some(other) => format!(in alloc; "SHA-256 {}", other.sha256)?,
+                None => String::from_str(alloc, "not there")?,
+            };
+            self.add(what.as_str(), said.as_str(), says.as_str())?;
+        }
+        for page in now {
+            if !then.iter().any(|other| other.name == page.name) {
+                let what = format!(in alloc; "page {:?}", page.name)?;
+                let says = format!(in alloc; "SHA-256 {}", page.sha256)?;
+                self.add(what.as_str(), "not there", says.as_str())?;
+            }
+        }
+        Ok(())
+    }
+
+    /// Adds the revisions of both, by their words.
+    fn add_revisions(&mut self, then: &[Revision], now: &[Revision]) -> Result<(), AllocError> {
+        let alloc = self.alloc;
+        for revision in then {
+            let what = format!(in alloc; "revision {:?}", revision.word)?;
+            let stood = meaning(alloc, revision)?;
+            let stands = match now.iter().find(|other| is_alike(other, revision)) {
+                Some(other) => meaning(alloc, other)?,
+                None => String::from_str(alloc, "not there")?,
+            };
+            self.add(what.as_str(), stood.as_str(), stands.as_str())?;
+        }
+        for revision in now {
+            if !then.iter().any(|other| is_alike(other, revision)) {
+                let what = format!(in alloc; "revision {:?}", revision.word)?;
+                let stands = meaning(alloc, revision)?;
+                self.add(what.as_str(), "not there", stands.as_str())?;
+            }
+        }
+        Ok(())
+    }
+}
+
+/// A text in quotes, where it is known.
+fn known(alloc: Global, text: &Option<String>) -> Result<String, AllocError> {
+    match text {
+        Some(text) => format!(in alloc; "{text:?}"),
+        None => String::from_str(alloc, "nobody knows"),
+    }
+}
+
+/// What a revision stands for, as words.
+fn meaning(alloc: Global, revision: &Revision) -> Result<String, AllocError> {
+    match revision.meaning {
+        Meaning::One { id, is_excluded } => {
+            let mark = if is_excluded { "^" } else { "" };
+            format!(in alloc; "{mark}{id}")
+        }
+        Meaning::Symmetric { one, other } => format!(in alloc; "{one}...{other}"),
+    }
+}
+
+/// Whether two revisions are called alike, and are of one form.
+fn is_alike(one: &Revision, other: &Revision) -> bool {
+    let is_form = match (one.meaning, other.meaning) {
+        (
+            Meaning::One { is_excluded, .. },
+            Meaning::One {
+                is_excluded: also,
+                ..
+            },
+        ) => { is_excluded == also }
+        (Meaning::Symmetric { .. }, Meaning::Symmetric { .. }) => true,
+        _ => false,
+    };
+    is_form && one.word == other.word
+}

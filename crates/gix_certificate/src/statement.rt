@@ -1,0 +1,34 @@
+//! The pages that say what the program promises.
+use crate::digest::Digest;
+use crate::fault::Fault;
+use crate::record::Page;
+use std::alloc::Global;
+
+/// The path of each page and the SHA-256 of its file. `tests/certificate` compares them with the files, and says what to write here.
+pub const PAGES: &[(&str, &str)] = &[
+    (
+        "crates/gix_statement/specs/WholeStatement.antt",
+        "a8128902273b0cf707a935f3ce2f0b4028ea1cef3d3c482970c95a5bb83df604",
+    ),
+    (
+        "crates/gix_statement/specs/CommitGraph.antt",
+        "3e873d360d65b69c6b03472ab80fc42e650c37e3c1a2b74e1d3fa7a54de3a78c",
+    ),
+];
+
+/// The pages of this program.
+///
+/// # Errors
+///
+/// `Memory`.
+pub fn pages(alloc: Global) -> Result<Vec<Page>, Fault> {
+    let mut pages = Vec::new(alloc);
+    for (name, digits) in PAGES {
+        let Some(sha256) = Digest::from_hex(digits) else {
+            return Err(Fault::Member("pages"));
+        };
+        let name = String::from_str(alloc, name)?;
+        pages.push(Page { name, sha256 })?;
+    }
+    Ok(pages)
+}

@@ -1,0 +1,136 @@
+//! A certificate as JSON.
+ghost use Rattle.std.specs.Prelude.{◌≡◌, IfOk, string_bytes};
+ghost use Rattle.hex.specs.Hex.{encode_lower};
+ghost use Rattle.serde_json.specs.View.{view};
+ghost use Rattle.gix_certificate.specs.Written.{IsTextOf, array_of, certificate_data, optional_data, output_data, page_data, program_data, revision_data, text_data};
+
+use crate::digest::Digest;
+use crate::record::{Certificate, Lines, Meaning, Page, Program, Revision};
+use serde_json::{Value, json};
+use std::alloc::{AllocError, Global};
+
+/// The version of the form.
+pub(crate) const VERSION: u64 = 1;
+
+impl Certificate {
+    /// The certificate as a text: JSON in lines, with the members of each object by rising names, and a newline behind it.
+    pub fn text(&self, alloc: Global) -> Result<String, AllocError>
+        ensures { IfOk result (λ text. IsTextOf self.now (string_bytes text)) }
+    {
+        let mut text = certificate_value(alloc, self)?.to_string_pretty(alloc)?;
+        text.push_str("\n")?;
+        Ok(text)
+    }
+}
+
+fn certificate_value(alloc: Global, certificate: &Certificate) -> Result<Value, AllocError>
+    ensures { IfOk result (λ value. view value ≡ certificate_data certificate.now) }
+{
+    let output = output_value(alloc, &certificate.output)?;
+    let pages = pages_value(alloc, certificate.pages.as_slice())?;
+    let program = program_value(alloc, &certificate.program)?;
+    let revisions = revisions_value(alloc, certificate.revisions.as_slice())?;
+    let rows = certificate.rows.word();
+    let status = certificate.status;
+    let words = words_value(alloc, certificate.words.as_slice())?;
+    json!(in alloc; {
+        "certificate": VERSION,
+        "output": output,
+        "pages": pages,
+        "program": program,
+        "revisions": revisions,
+        "rows": rows,
+        "status": status,
+        "words": words
+    })
+}
+
+fn output_value(alloc: Global, output: &Lines) -> Result<Value, AllocError>
+    ensures { IfOk result (λ value. view value ≡ output_data output.now) }
+{
+    let sha256 = digits(alloc, output.sha256)?;
+    let bytes = output.bytes;
+    json!(in alloc; {"bytes": bytes, "sha256": sha256})
+}
+
+/// A digest in hex digits.
+fn digits(alloc: Global, digest: Digest) -> Result<String, AllocError>
+    ensures { IfOk result (λ text. string_bytes text ≡ encode_lower digest.bytes) }
+{
+    format!(in alloc; "{digest}")
+}
+
+fn page_value(alloc: Global, page: &Page) -> Result<Value, AllocError>
+    ensures { IfOk result (λ value. view value ≡ page_data page.now) }
+{
+    let name = page.name.as_str();
+    let sha256 = digits(alloc, page.sha256)?;
+    json!(in alloc; {"name": name, "sha256": sha256})
+}
+
+fn pages_value(alloc: Global, pages: &[Page]) -> Result<Value, AllocError>
+    ensures { IfOk result (λ value. view value ≡ array_of page_data pages.now) }
+{
+    let mut values = Vec::new(alloc);
+    'pages: for page in pages {
+        values.push(page_value(alloc, page)?)?;
+    }
+    Ok(Value::Array(values))
+}
+
+fn program_value(alloc: Global, program: &Program) -> Result<Value, AllocError>
+    ensures { IfOk result (λ value. view value ≡ program_data program.now) }
+{
+    let commit = optional_value(alloc, &program.commit)?;
+    let proved_by = optional_value(alloc, &program.proved_by)?;
+    let sha256 = digits(alloc, program.sha256)?;
+    let version = program.version.as_str();
+    json!(in alloc; {"commit": commit, "proved_by": proved_by, "sha256": sha256, "version": version})
+}
+
+/// A text, or null.
+fn optional_value(alloc: Global, text: &Option<String>) -> Result<Value, AllocError>
+    ensures { IfOk result (λ value. view value ≡ optional_data text.now) }
+{
+    match text {
+        Some(text) => Value::try_from_str(alloc, text.as_str()),
+        None => Ok(Value::Null),
+    }
+}
+
+fn revision_value(alloc: Global, revision: &Revision) -> Result<Value, AllocError>
+    ensures { IfOk result (λ value. view value ≡ revision_data revision.now) }
+{
+    let word = revision.word.as_str();
+    match revision.meaning {
+        Meaning::One { id, is_excluded } => {
+            let id = format!(in alloc; "{id}")?;
+            json!(in alloc; {"excluded": is_excluded, "id": id, "word": word})
+        }
+        Meaning::Symmetric { one, other } => {
+            let one = format!(in alloc; "{one}")?;
+            let other = format!(in alloc; "{other}")?;
+            json!(in alloc; {"id": one, "other": other, "word": word})
+        }
+    }
+}
+
+fn revisions_value(alloc: Global, revisions: &[Revision]) -> Result<Value, AllocError>
+    ensures { IfOk result (λ value. view value ≡ array_of revision_data revisions.now) }
+{
+    let mut values = Vec::new(alloc);
+    'revisions: for revision in revisions {
+        values.push(revision_value(alloc, revision)?)?;
+    }
+    Ok(Value::Array(values))
+}
+
+fn words_value(alloc: Global, words: &[String]) -> Result<Value, AllocError>
+    ensures { IfOk result (λ value. view value ≡ array_of text_data words.now) }
+{
+    let mut values = Vec::new(alloc);
+    'words: for word in words {
+        values.push(Value::try_from_str(alloc, word.as_str())?)?;
+    }
+    Ok(Value::Array(values))
+}

@@ -1,0 +1,23 @@
+use Rattle.std.proofs.Common.{◌≡◌, List}
+use Rattle.std.specs.Iterator.{IsFinite, size}
+use Rattle.gix_commands.proofs.Common.{Yields, Info, kept_in}
+use Rattle.gix_commands.specs.Output.{Takes, held_in}
+use Rattle.gix_commands.specs.Walked.{given}
+use Rattle.gix_commands.proofs.ChosenFacts.{IsAt}
+use Rattle.gix_commands.proofs.output.draw.Given as goal
+
+-- the walk gave commits, and those that are written of them were added
+abbrev pub invariant-draws : goal.invariant-draws
+invariant-draws g l = record {
+  infos : List Info;
+  drawn : Yields g.I.Iterator.next_gives l.fn.walk (given infos) l.walk;
+  can : g.I.Iterator.can_next l.walk;
+  finite : IsFinite (g.I.Iterator.remaining l.walk);
+  form : l.sink.form ≡ l.fn.sink.form;
+  at : IsAt l.fn.chooser.objects l.fn.chooser.shown infos l.chooser;
+  takes : Takes l.fn.sink.form (g.W.Write.contents l.fn.writer) (held_in l.fn.sink) (kept_in l.fn.chooser.objects l.fn.chooser.shown infos) (g.W.Write.contents l.writer) (held_in l.sink);
+}
+
+-- how many more answers may come
+abbrev pub decreases-draws : goal.decreases-draws
+decreases-draws g l = size (g.I.Iterator.remaining l.walk)

@@ -1,0 +1,40 @@
+//! Which commits contain another one.
+ghost use Rattle.gix_commands.specs.Readable.{readable};
+ghost use Rattle.gix_commands.specs.Run.{Serves};
+ghost use Rattle.gix_words.specs.Words.{Containing};
+ghost use Rattle.gix_graph_store.specs.WithRows.{with_rows};
+ghost use Rattle.gix_revwalk.specs.Agreeing.{rows_in};
+ghost use Rattle.std.specs.Prelude.{false};
+
+use crate::commits::Lent;
+use crate::contains::lines_of;
+use crate::output::write_out;
+use gix_parts::graph::Graph;
+use gix_parts::hash::ObjectId;
+use gix_parts::records::LentStore;
+use gix_traverse::commit::Parents;
+use gix_traverse::commit::containing::containing;
+use gix_words::Fault;
+use std::alloc::Global;
+use std::io::Write;
+
+/// Writes those of the tips that reach the target, in the order given, one a line, once all of them are known.
+///
+/// # Errors
+/// The fault of a commit that can't be read of those that have to be, and `Memory`: nothing is written. `Write` where the writer failed: a
+/// beginning of the lines is.
+pub fn write_containing<W: Write>(
+    alloc: Global,
+    target: ObjectId,
+    tips: Vec<ObjectId>,
+    store: &LentStore<'_>,
+    graph: Option<&Graph>,
+    writer: &mut W,
+) -> Result<(), Fault>
+    ensures { Serves (readable false (with_rows (rows_in graph.entry) store.now)) (rows_in graph.entry) (W.contents writer.old) (Containing target tips.items) result (W.contents writer.new) }
+{
+    let objects = Lent::over(store, graph, Parents::All);
+    let those = containing(alloc, target, tips.as_slice(), &objects, graph)?;
+    let mut lines = lines_of(alloc, those.as_slice())?;
+    write_out(&mut lines, writer)
+}

@@ -1,0 +1,2 @@
+-- What the parts of a call do.
+pub mod Steps
