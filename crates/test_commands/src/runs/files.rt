@@ -126,7 +126,7 @@ fn files_takes_one_id(rt: HostRuntime) -> Result<(), Fail> {
         &[
             (&["files"], "! usage"),
             (&["files", "zz", "#a"], "! usage"),
-            (&["files", "-z"], "! bad id in word 2"),
+            (&["files", "-z"], "! usage"),
             (&["files", "#a", "-z"], "! usage"),
             (&["files", "-z", "^#a"], "! usage"),
             (&["files", "-z", "#a", "#a"], "! usage"),
