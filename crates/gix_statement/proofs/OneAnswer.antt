@@ -95,6 +95,16 @@ module _ {I : Type 0} (parents followed : I → List I) (time : I → ℤ) (star
   begun_once by limit ids others taken [] (y ∷ ys) l m is same = absurd (stops by limit ids others taken y ys l m.0 m.1 is same)
   begun_once by limit ids others taken (x ∷ xs) [] l m is same = absurd (stops by limit others ids taken x xs m l.0 l.1 same is)
 
+  -- two beginnings: one of them is a beginning of the other
+  begun_either : (by : List ℕ) (ids others taken xs ys : List I) → Begins parents followed time starts hidden by ids → Begins parents followed time starts hidden by others → ids ≡ taken ++ xs → others ≡ taken ++ ys
+      → ((more : List I) × (ys ≡ xs ++ more)) ⊎ ((more : List I) × (xs ≡ ys ++ more))
+  begun_either by ids others taken [] ys l m is same = inl (ys, refl)
+  begun_either by ids others taken (x ∷ xs) [] l m is same = inr (x ∷ xs, refl)
+  begun_either by ids others taken (x ∷ xs) (y ∷ ys) l m is same =
+      let h : x ≡ y = next_once taken x y by (l.2 taken xs x is) (m.2 taken ys y same) in
+      ⊎_elim (λ (r : (more : List I) × (ys ≡ xs ++ more)). inl (r.0, (λ k. sym h k ∷ r.1 k))) (λ (r : (more : List I) × (xs ≡ ys ++ more)). inr (r.0, (λ k. h k ∷ r.1 k)))
+      (begun_either by ids others (taken ++ x ∷ []) xs ys l m (is ∙ sym (append_assoc taken (x ∷ []) xs)) (same ∙ ap (λ z. taken ++ z ∷ ys) (sym h) ∙ sym (append_assoc taken (x ∷ []) ys)))
+
   -- a beginning, and one as long as it may be
   begun_before : (by : List ℕ) (limit : List (List ℕ)) (ids others taken xs ys : List I) → Begins parents followed time starts hidden by ids → Allows limit (length ids) → Long by limit others
       → ids ≡ taken ++ xs → others ≡ taken ++ ys → (more : List I) × (ys ≡ xs ++ more)
@@ -273,10 +283,16 @@ module _ (parents : ObjectId → List ObjectId) (time : ObjectId → ℤ) where
       let same : n ≡ m = num.3 ∙ sym counts.3 in
       ((λ k i. filter (λ p. not (int_lt (time p) (pos (same k)))) (parents i)), (λ k. filter (λ i. not (int_lt (time i) (pos (same k)))) tips))
 
-  -- LISTS: the first is a beginning of the second; and if it has ended, it is the second
-  lists_before : (read objects : Objects) (rows more : List Row) (ids others : List ObjectId) (ended : Bool) (asked words : List (List ℕ)) → Lists read rows parents time ids ended asked
-      → Lists objects more parents time others true words → asked ≡ words → ((left : List ObjectId) × (others ≡ ids ++ left)) × (ended ≡ true → ids ≡ others)
-  lists_before read objects rows more ids others end asked words (lists {by = by} option limit ws {tips = tips} {hidden = hidden} {starts = starts} {followed = followed} named are some follows there begins allows ended)
+  -- LISTS: one of two is a beginning of the other, and one that has ended is a beginning of none but itself
+  pub record AreOneList (ids others : List ObjectId) (ended end : Bool) : Type 0 where
+    pub either : ((left : List ObjectId) × (others ≡ ids ++ left)) ⊎ ((left : List ObjectId) × (ids ≡ others ++ left))
+    pub first : end ≡ true → (left : List ObjectId) × (others ≡ ids ++ left)
+    pub second : ended ≡ true → (left : List ObjectId) × (ids ≡ others ++ left)
+    pub both : ended ≡ true → end ≡ true → ids ≡ others
+
+  pub lists_are_one : (read objects : Objects) (rows more : List Row) (ids others : List ObjectId) (ended end : Bool) (asked words : List (List ℕ)) → Lists read rows parents time ids ended asked
+      → Lists objects more parents time others end words → asked ≡ words → AreOneList ids others ended end
+  lists_are_one read objects rows more ids others end close asked words (lists {by = by} option limit ws {tips = tips} {hidden = hidden} {starts = starts} {followed = followed} named are some follows there begins allows ended)
       (lists {by = name} choice most vs {tips = those} {hidden = below} {starts = from} {followed = names} called spell any goes are_there begun allowed stopped) is =
       let first_word : by ≡ name = cc in
       let others_too : option ++ (limit ++ ws) ≡ choice ++ (most ++ vs) = cc in
@@ -285,11 +301,21 @@ module _ (parents : ObjectId → List ObjectId) (time : ObjectId → ℤ) where
       let t = tips_once ws tips hidden those below are (subst (λ x. AreTips x those below) (sym l.1) spell) in
       let goes_too : Follows parents time tips by option names from = subst (λ (T : Type 0). T) (λ k. Follows parents time (sym t.0 k) (sym first_word k) (sym o.0 k) names from) goes in
       let f = follows_once option follows goes_too in
-      let second : Long parents followed time starts hidden by limit others =
-      subst (λ (T : Type 0). T) (λ k. Long parents (sym f.0 k) time (sym f.1 k) (sym t.1 k) (sym first_word k) (sym l.0 k) others) (begun, allowed, stopped refl) in (
-        begun_before parents followed time starts hidden by limit ids others [] ids others begins allows second refl refl,
-        λ e. begun_once parents followed time starts hidden by limit ids others [] ids others (begins, allows, ended e) second refl refl,
-      )
+      let begun_too : Begins parents followed time starts hidden by others = subst (λ (T : Type 0). T) (λ k. Begins parents (sym f.0 k) time (sym f.1 k) (sym t.1 k) (sym first_word k) others) begun in
+      let allowed_too : Allows limit (length others) = subst (λ (m : List (List ℕ)). Allows m (length others)) (sym l.0) allowed in
+      let second : close ≡ true → Long parents followed time starts hidden by limit others =
+      (λ e. subst (λ (T : Type 0). T) (λ k. Long parents (sym f.0 k) time (sym f.1 k) (sym t.1 k) (sym first_word k) (sym l.0 k) others) (begun, allowed, stopped e)) in
+      record {
+        either = begun_either parents followed time starts hidden by ids others [] ids others begins begun_too refl refl;
+        first = λ e. begun_before parents followed time starts hidden by limit ids others [] ids others begins allows (second e) refl refl;
+        second = λ e. begun_before parents followed time starts hidden by limit others ids [] others ids begun_too allowed_too (begins, allows, ended e) refl refl;
+        both = λ e f. begun_once parents followed time starts hidden by limit ids others [] ids others (begins, allows, ended e) (second f) refl refl;
+      }
+
+  -- the first is a beginning of the second; and if it has ended, it is the second
+  lists_before : (read objects : Objects) (rows more : List Row) (ids others : List ObjectId) (ended : Bool) (asked words : List (List ℕ)) → Lists read rows parents time ids ended asked
+      → Lists objects more parents time others true words → asked ≡ words → ((left : List ObjectId) × (others ≡ ids ++ left)) × (ended ≡ true → ids ≡ others)
+  lists_before read objects rows more ids others end asked words l m is = let one = lists_are_one read objects rows more ids others end true asked words l m is in (one.first refl, λ e. one.both e refl)
 
 -- TREES
 no_space : (mode : List ℕ) → AllDigits 8 mode → All (λ x. x ≢ 32) mode
