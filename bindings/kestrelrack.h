@@ -10,6 +10,8 @@
  *     with threads;
  *   - there are 32 KiB of stack: the most that was measured is 20 KiB, however deep the history or the tree is;
  *   - the processor is one of x86-64-v2 or later (SSE4.2, POPCNT), under Linux. This isn't tested at run time.
+ * A call has no source of random bytes, so its tables hash ids with keys that anybody knows. Whoever chooses the ids of the records can
+ * make it slow: its time then grows with the square of their number. No answer changes.
  * To link: cc program.c libkestrelrack.a, with nothing else.
  */
 #ifndef KESTRELRACK_H

@@ -3,6 +3,8 @@
     lines = kestrelrack.run(["newest", tip], records)
     for commit in kestrelrack.commits(["newest", tip], records):
         print(commit.id.hex(), commit.time, len(commit.parents))
+
+Tables hash ids with keys that anybody knows, so whoever chooses the ids of the records can make a call slow. No answer changes.
 """
 
 import ctypes

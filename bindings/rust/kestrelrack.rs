@@ -2,6 +2,8 @@
 //!
 //!     rustc --edition=2024 --crate-type=rlib -L native=dist -l static=kestrelrack dist/kestrelrack.rs
 //!     rustc --edition=2024 --extern kestrelrack=libkestrelrack.rlib -L native=dist dist/contains.rs
+//!
+//! Tables hash ids with keys that anybody knows, so whoever chooses the ids of the records can make a call slow. No answer changes.
 
 use std::fmt;
 use std::iter::FusedIterator;

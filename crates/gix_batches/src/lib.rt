@@ -20,7 +20,7 @@ pub use commit::{Batch, Commit, CommitId, Ending};
 use fill::fill_from;
 use gix_commands::checked::Checked;
 use gix_commands::commits::{topo_walk_from, walk_from};
-use gix_parts::hash::ObjectId;
+use gix_parts::hash::{Keys, ObjectId};
 use gix_parts::records::{LentStore, records_in};
 use gix_traverse::commit::simple::Sorting;
 use gix_words::{Command, Fault, Order, read_command};
@@ -31,6 +31,8 @@ use std::alloc::Global;
 /// [`run_in`](gix_commands::run_in) for `breadth`, `newest`, `oldest`, `topo` and `date`; a limit in them counts those that are skipped.
 ///
 /// Nothing is drawn behind a slice that is full, and behind the limit. By time a commit's parents are looked at as `run_in` does.
+///
+/// Tables of ids have the keys [`Keys::KNOWN`], so whoever chooses the records' ids can make the call slow.
 ///
 /// # Errors
 /// In the batch's ending: the faults of `run_in` but `Read` and `Write`, and `Usage` where the words are another command. The commits
@@ -82,7 +84,7 @@ fn try_batch(
     else {
         return Err(Fault::Usage);
     };
-    let store = records_in(alloc, records)?;
+    let store = records_in(alloc, Keys::KNOWN, records)?;
     batch_of(
         alloc, order, limit, tips, hidden, &store, skip, commits, parents,
     )

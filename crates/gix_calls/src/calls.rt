@@ -1,5 +1,6 @@
 //! Each call that asks for memory, made once; where it is refused, what was there before is looked at.
 use bstr::{BStr, BString};
+use gix_parts::hash::Keys;
 use gix_parts::hashtable::{IdMap, IdSet};
 use gix_parts::object::Kind;
 use gix_parts::object::commit::Token;
@@ -283,7 +284,7 @@ fn stores_below(alloc: Global, store: &MemoryStore, n: u8) -> Result<bool, Stop>
 
 /// Stores eight objects, and another in place of the first.
 fn insert_store(alloc: Global, told: &mut String) -> Result<(), Stop> {
-    let mut store = MemoryStore::new(alloc);
+    let mut store = MemoryStore::new(alloc, Keys::KNOWN);
     for n in 1..9u8 {
         if store.insert(id(n), Kind::Blob, &[n; 20]).is_err() {
             return Err(refused(stores_below(alloc, &store, n)?));
@@ -307,7 +308,7 @@ fn contains_below(ids: &IdSet, n: u8) -> bool {
 }
 
 fn insert_set(alloc: Global, told: &mut String) -> Result<(), Stop> {
-    let mut ids = IdSet::new(alloc);
+    let mut ids = IdSet::new(alloc, Keys::KNOWN);
     for n in 1..9u8 {
         if ids.insert(id(n)).is_err() {
             return Err(refused(contains_below(&ids, n)));
@@ -328,7 +329,7 @@ fn maps_below(digits: &IdMap<u8>, n: u8) -> bool {
 }
 
 fn insert_map(alloc: Global, told: &mut String) -> Result<(), Stop> {
-    let mut digits = IdMap::new(alloc);
+    let mut digits = IdMap::new(alloc, Keys::KNOWN);
     for n in 1..9u8 {
         if digits.insert(id(n), n).is_err() {
             return Err(refused(maps_below(&digits, n)));

@@ -7,6 +7,7 @@ ghost use Rattle.gix_statement.specs.WholeStatement.{AreFed, Objects, Promises, 
 ghost use Rattle.gix_words.specs.Words.{request_of, request_of_command};
 
 use crate::serve;
+use gix_parts::hash::Keys;
 use gix_parts::records;
 use gix_words::{Command, Fault, read_command};
 use std::alloc::Global;
@@ -19,6 +20,7 @@ use std::io::Write;
 /// Those of [`run`](crate::run), but never `Read`.
 pub fn run_in<W: Write>(
     alloc: Global,
+    keys: Keys,
     words: &[String],
     records: &[u8],
     writer: &mut W,
@@ -32,7 +34,7 @@ pub fn run_in<W: Write>(
     ensures whole { Promises Fault.Write (map string_bytes words.now) (λ (objects : Objects) (rows : List Row). AreFed (Some records.now) objects × (rows ≡ [])) (W.contents writer.old) result (W.contents writer.new) }
 {
     let command = read_command(alloc, words)?;
-    serve_records(alloc, command, records, writer)
+    serve_records(alloc, keys, command, records, writer)
 }
 
 /// Writes what a command asks for over the records that the bytes are.
@@ -41,6 +43,7 @@ pub fn run_in<W: Write>(
 /// `Record` where the bytes aren't records, the faults of a walk, `Memory` and `Write`.
 pub(crate) fn serve_records<W: Write>(
     alloc: Global,
+    keys: Keys,
     command: Command,
     records: &[u8],
     writer: &mut W,
@@ -48,6 +51,6 @@ pub(crate) fn serve_records<W: Write>(
     ensures runs { (words : List (List ℕ)) → request_of words ≡ Ok (request_of_command command) → Runs words (Some records.now) (W.contents writer.old) result (W.contents writer.new) }
     ensures given { result ≢ Err Fault.Read }
 {
-    let store = records::records_in(alloc, records)?;
+    let store = records::records_in(alloc, keys, records)?;
     serve(alloc, command, &store, None, writer)
 }

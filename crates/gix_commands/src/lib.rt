@@ -39,7 +39,7 @@ use files::write_files;
 pub use given::run_in;
 use given::serve_records;
 use gix_parts::graph::Graph;
-use gix_parts::hash::ObjectId;
+use gix_parts::hash::{Keys, ObjectId};
 use gix_parts::records::{self, LentStore};
 use gix_traverse::commit::simple::Sorting;
 pub use gix_words::Fault;
@@ -74,6 +74,7 @@ pub use stored::{run_named, run_stored};
 /// A commit without a byte is `Broken`, and with `--first-parent` one is of which a line of a parent isn't sound, be it of another parent.
 pub fn run<R: Read, W: Write>(
     alloc: Global,
+    keys: Keys,
     words: &[String],
     reader: &mut R,
     writer: &mut W,
@@ -89,7 +90,7 @@ pub fn run<R: Read, W: Write>(
 {
     let command = read_command(alloc, words)?;
     let input = records::read_to_end(alloc, reader, records::READS)?;
-    serve_records(alloc, command, input.as_slice(), writer)
+    serve_records(alloc, keys, command, input.as_slice(), writer)
 }
 
 /// Writes what a command asks for.

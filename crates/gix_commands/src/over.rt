@@ -11,6 +11,7 @@ ghost use Rattle.gix_words.specs.Words.{request_of};
 use crate::graph::open;
 use crate::serve;
 use gix_graph_store::check_stored;
+use gix_parts::hash::Keys;
 use gix_parts::records;
 use gix_words::{Fault, read_command};
 use std::alloc::Global;
@@ -29,6 +30,7 @@ use std::io::{Read, Write};
 /// Nothing is written at any of the three.
 pub fn run_over<R: Read, W: Write>(
     alloc: Global,
+    keys: Keys,
     words: &[String],
     layers: &[Vec<u8>],
     reader: &mut R,
@@ -48,7 +50,7 @@ pub fn run_over<R: Read, W: Write>(
     let command = read_command(alloc, words)?;
     let graph = open(alloc, layers)?;
     let input = records::read_to_end(alloc, reader, records::READS)?;
-    let store = records::records_in(alloc, input.as_slice())?;
+    let store = records::records_in(alloc, keys, input.as_slice())?;
     check_stored(alloc, &graph, &store)?;
     serve(alloc, command, &store, Some(&graph), writer)
 }

@@ -4,6 +4,7 @@
 //! such bytes, as an id stands in a tree; `%` for a byte that is no text.
 use bstr::BStr;
 use gix_commands::{Fault, run};
+use gix_parts::hash::Keys;
 use std::alloc::{AllocError, Global};
 use std::io::{self, Read, Write};
 use std::test::Fail;
@@ -97,7 +98,7 @@ fn check_told<R: Read>(
     told: &mut Vec<u8>,
     want: &str,
 ) -> Result<(), Fail> {
-    if let Err(fault) = run(alloc, words, reader, told) {
+    if let Err(fault) = run(alloc, Keys::KNOWN, words, reader, told) {
         push_fault(alloc, told, fault)?;
     }
     compare(words, told, &text_of(alloc, &[want])?)

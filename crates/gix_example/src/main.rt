@@ -2,7 +2,7 @@
 //! the records of a repository's objects, and each argument is the id of a commit to start from.
 #![tactic(auto)]
 
-use gix_parts::hash::{HexError, ObjectId};
+use gix_parts::hash::{HexError, Keys, ObjectId};
 use gix_parts::records;
 use gix_traverse::commit::Simple;
 use gix_traverse::commit::simple::{self, CommitTimeOrder, Sorting};
@@ -43,7 +43,7 @@ fn list(rt: &HostRuntime) -> Result<(), Fault> {
     let _name = arguments.next();
     let words: Vec<String> = arguments.collect(alloc)?;
     let tips = ids_of(alloc, &words)?;
-    let store = records::read(alloc, &mut rt.stdin())?;
+    let store = records::read(alloc, Keys::random(rt)?, &mut rt.stdin())?;
     let newest = Sorting::ByCommitTime(CommitTimeOrder::NewestFirst);
     let walk = Simple::new(alloc, tips, store)?.sorting(newest)?;
     for answer in walk {

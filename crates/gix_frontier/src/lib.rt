@@ -6,8 +6,8 @@ ghost use Rattle.std.specs.FinMap as map;
 ghost use Rattle.gix_frontier.specs.Inside.Frontier.{known_of, Meets, Uncounts, MarksReady, MeetsParent, Finishes};
 
 use bitflags::{Flag, Flags, bitflag_items};
-use gix_hash::{Keys, ObjectId};
 use gix_hash::hashtable::IdMap;
+use gix_hash::{Keys, ObjectId};
 use gix_revwalk::queue::PriorityQueue;
 use std::alloc::{AllocError, Global};
 use std::marker::Model;

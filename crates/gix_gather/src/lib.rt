@@ -12,8 +12,8 @@ mod waiting;
 
 pub use gathering::{Gathering, read_named};
 use gix_commitgraph::Graph;
-use gix_hash::{Keys, ObjectId};
 use gix_hash::hashtable::IdSet;
+use gix_hash::{Keys, ObjectId};
 use gix_odb::Odb;
 use gix_records::NamedObjects;
 use std::alloc::{AllocError, Global};

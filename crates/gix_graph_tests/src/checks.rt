@@ -2,7 +2,7 @@
 use ParentPlace::{At, Fault};
 use gix_commitgraph::{GENERATION_NUMBER_INFINITY, Graph, ParentPlace, ParentPlaces, Row};
 use gix_graph_check::{Disagreement, check, first_unsound, heads};
-use gix_hash::ObjectId;
+use gix_hash::{Keys, ObjectId};
 use gix_object::Kind;
 use gix_object::memory::MemoryStore;
 use gix_rows::history::Failing;
@@ -111,7 +111,7 @@ fn heads_are_in_rising_order(rt: HostRuntime) -> Result<(), Fail> {
 type Stored<'a> = (u8, u8, i64, &'a [u8]);
 
 fn store_of(alloc: Global, commits: &[Stored]) -> Result<MemoryStore, Fail> {
-    let mut store = MemoryStore::new(alloc);
+    let mut store = MemoryStore::new(alloc, Keys::KNOWN);
     for (byte, tree, time, parents) in commits {
         let mut text = format!(in alloc; "tree {}\n", id(*tree))?;
         for parent in *parents {

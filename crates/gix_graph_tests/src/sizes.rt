@@ -2,7 +2,7 @@
 use gix_commitgraph::{Graph, ParentPlace, ParentPlaces, Row};
 use gix_graph_check::{check, first_unsound, heads};
 use gix_graph_store::check_stored;
-use gix_hash::ObjectId;
+use gix_hash::{Keys, ObjectId};
 use gix_object::Kind;
 use gix_object::memory::MemoryStore;
 use std::alloc::{AllocError, Global};
@@ -85,7 +85,7 @@ fn text(alloc: Global, n: u32) -> Result<String, AllocError> {
 
 /// The commits of the rows.
 fn store(alloc: Global) -> Result<MemoryStore, AllocError> {
-    let mut store = MemoryStore::new(alloc);
+    let mut store = MemoryStore::new(alloc, Keys::KNOWN);
     for n in 0..MANY {
         let text = text(alloc, n)?;
         store.insert(id(n), Kind::Commit, text.as_str().as_bytes())?;

@@ -3,7 +3,7 @@ use ParentPlace::{At, Fault};
 use gix_commitgraph::{Graph, ParentPlace, ParentPlaces, Row};
 use gix_graph_check::{Disagreement, check};
 use gix_graph_store::{WithRows, check_stored};
-use gix_hash::ObjectId;
+use gix_hash::{Keys, ObjectId};
 use gix_object::Kind;
 use gix_object::find::Find;
 use gix_object::memory::MemoryStore;
@@ -53,7 +53,7 @@ committer <> -12 +0000
 #[test]
 fn a_row_writes_a_text(rt: HostRuntime) -> Result<(), Fail> {
     let graph = graph_of(rt.alloc(), &LINES)?;
-    let store = MemoryStore::new(rt.alloc());
+    let store = MemoryStore::new(rt.alloc(), Keys::KNOWN);
     let both = WithRows::new(&store, Some(&graph));
     let mut text = Vec::from_slice(rt.alloc(), b"before")?;
     assert_eq!(rt; both.find_into(&id(8), &mut text)?, Some(Kind::Commit));
@@ -64,7 +64,7 @@ fn a_row_writes_a_text(rt: HostRuntime) -> Result<(), Fail> {
 #[test]
 fn no_text_without_a_whole_row(rt: HostRuntime) -> Result<(), Fail> {
     let graph = graph_of(rt.alloc(), &LINES)?;
-    let store = MemoryStore::new(rt.alloc());
+    let store = MemoryStore::new(rt.alloc(), Keys::KNOWN);
     let mut text = Vec::new(rt.alloc());
     let both = WithRows::new(&store, Some(&graph));
     assert_eq!(rt; both.find_into(&id(9), &mut text)?, None);
@@ -77,7 +77,7 @@ fn no_text_without_a_whole_row(rt: HostRuntime) -> Result<(), Fail> {
 #[test]
 fn what_is_stored_stays(rt: HostRuntime) -> Result<(), Fail> {
     let graph = graph_of(rt.alloc(), &LINES)?;
-    let mut store = MemoryStore::new(rt.alloc());
+    let mut store = MemoryStore::new(rt.alloc(), Keys::KNOWN);
     store.insert(id(8), Kind::Blob, b"eight")?;
     store.insert(id(5), Kind::Tag, b"five")?;
     let both = WithRows::new(&store, Some(&graph));
@@ -92,7 +92,7 @@ fn what_is_stored_stays(rt: HostRuntime) -> Result<(), Fail> {
 /// What the check of sound rows says of a store that has them and no object.
 fn checked(alloc: Global, lines: &[Line]) -> Result<Option<Disagreement>, Fail> {
     let graph = graph_of(alloc, lines)?;
-    let store = WithRows::new(MemoryStore::new(alloc), Some(&graph));
+    let store = WithRows::new(MemoryStore::new(alloc, Keys::KNOWN), Some(&graph));
     Ok(check(alloc, &graph, &store).err())
 }
 
@@ -123,7 +123,7 @@ fn rows_of_long_ids_agree_with_their_texts(rt: HostRuntime) -> Result<(), Fail> 
         })?;
     }
     let graph = Graph::new(rt.alloc(), rows)?;
-    let store = WithRows::new(MemoryStore::new(rt.alloc()), Some(&graph));
+    let store = WithRows::new(MemoryStore::new(rt.alloc(), Keys::KNOWN), Some(&graph));
     assert_eq!(rt; check(rt.alloc(), &graph, &store).err(), None);
     Ok(())
 }
@@ -134,7 +134,7 @@ fn stored_check(
     objects: &[(u8, Kind, &[u8])],
 ) -> Result<Option<Disagreement>, Fail> {
     let graph = graph_of(alloc, &LINES)?;
-    let mut store = MemoryStore::new(alloc);
+    let mut store = MemoryStore::new(alloc, Keys::KNOWN);
     for (byte, kind, text) in objects {
         store.insert(id(*byte), *kind, text)?;
     }
@@ -207,7 +207,7 @@ fn what_is_stored_is_not_as_a_row_says(rt: HostRuntime) -> Result<(), Fail> {
 /// Which row the check names, where the store fails at this id, over the commits of 7 and 8 as the rows say them.
 fn stored_check_failing(alloc: Global, byte: u8) -> Result<Option<Disagreement>, Fail> {
     let graph = graph_of(alloc, &LINES)?;
-    let mut store = MemoryStore::new(alloc);
+    let mut store = MemoryStore::new(alloc, Keys::KNOWN);
     store.insert(id(7), Kind::Commit, SEVEN)?;
     store.insert(id(8), Kind::Commit, EIGHT)?;
     let failing = Failing(&store, Some(id(byte)));

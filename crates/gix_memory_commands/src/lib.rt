@@ -2,6 +2,9 @@
 //!
 //! [`run_over_bytes`] takes the words of a command and the records as bytes, and room for the lines. What these lines are is stated by
 //! the laws of `gix_commands`. [`commits_over_bytes`] takes slices for commits and for their parents in place of the room.
+//!
+//! Tables of ids have keys that anybody knows: these calls have no source of randomness. So whoever chooses the ids of the records can
+//! make a call slow, as its time then grows with the square of their number. No answer changes.
 #![tactic(auto)]
 
 ghost use Rattle.std.specs.Prelude.{◌≡◌, Ok, IfOk, IfErr, length, nat_le};
@@ -15,6 +18,7 @@ mod words;
 pub use answer::Answer;
 pub use commits::commits_over_bytes;
 use gix_commands::{Fault, run_in};
+use gix_parts::hash::Keys;
 use std::alloc::Global;
 use words::words_of;
 
@@ -57,7 +61,7 @@ fn lines_of(alloc: Global, words: &[u8], records: &[u8]) -> Result<Vec<u8>, Faul
 {
     let words = words_of(alloc, words)?;
     let mut lines = Vec::new(alloc);
-    match run_in(alloc, &words, records, &mut lines) {
+    match run_in(alloc, Keys::KNOWN, &words, records, &mut lines) {
         Ok(()) => Ok(lines),
         Err(Fault::Write) => Err(Fault::Memory),
         Err(fault) => Err(fault),

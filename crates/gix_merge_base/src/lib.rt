@@ -17,8 +17,8 @@ pub mod laws;
 
 use gix_commitgraph::Graph;
 use gix_contained::contained;
-use gix_hash::ObjectId;
 use gix_hash::hashtable::IdSet;
+use gix_hash::{Keys, ObjectId};
 use gix_object::decode;
 use gix_object::find::{Find, existing_iter};
 use gix_paint::Hidden;
@@ -157,7 +157,7 @@ pub fn merge_bases<F: Find>(
     let common = first_common(alloc, one, others, objects, graph)?;
     let parents = other_parents(alloc, &common, objects, graph)?;
     let reached = contained(alloc, &parents, &common, objects, graph)?;
-    let marks = set_of(alloc, &reached)?;
+    let marks = set_of(alloc, objects.keys(), &reached)?;
     let found = new_among(alloc, marks, &common)?;
     let bases = sorted(found)?;
     Ok(bases)
@@ -176,7 +176,7 @@ fn first_common<F: Find>(
     ensures err { IfErr result (λ e. e ≢ error.Memory → FailsBy (F.objects objects.now) (F.faulty objects.now) (rows_in graph.entry) one others.now e) }
 {
     let walk = walk_from(alloc, one, others, objects, graph)?;
-    let Gathered { only, named } = gather(alloc, others, walk)?;
+    let Gathered { only, named } = gather(alloc, objects.keys(), others, walk)?;
     let common = new_among(alloc, only, &named)?;
     Ok(common)
 }
@@ -220,7 +220,7 @@ struct Gathered {
 }
 
 /// The commits of a walk that is drawn to its end, and the tips with the parents of these commits.
-fn gather<I>(alloc: Global, tips: &[ObjectId], walk: I) -> Result<Gathered, Error>
+fn gather<I>(alloc: Global, keys: Keys, tips: &[ObjectId], walk: I) -> Result<Gathered, Error>
 where
     I: Iterator<Item = Result<Info, gix_simple::Error>> + Drop,
     requires can { I.can_next walk }
@@ -228,7 +228,7 @@ where
     ensures ok { IfOk result (λ all. Gathers I.next_gives tips.now walk all.only all.named.items) }
     ensures err { IfErr result (λ e. e ≢ error.Memory → GatherFails I.next_gives walk e) }
 {
-    let mut only = IdSet::new(alloc);
+    let mut only = IdSet::new(alloc, keys);
     let mut named = Vec::from_slice(alloc, tips)?;
     for answer in walk {
         let info = answer?;
@@ -261,10 +261,10 @@ fn sorted(mut ids: Vec<ObjectId>) -> Result<Vec<ObjectId>, AllocError>
 }
 
 /// The ids as a set.
-fn set_of(alloc: Global, ids: &[ObjectId]) -> Result<IdSet, AllocError>
+fn set_of(alloc: Global, keys: Keys, ids: &[ObjectId]) -> Result<IdSet, AllocError>
     ensures { IfOk result (Collects ids.now) }
 {
-    let mut those = IdSet::new(alloc);
+    let mut those = IdSet::new(alloc, keys);
     for id in ids {
         those.insert(*id)?;
     }

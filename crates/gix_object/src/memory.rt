@@ -5,8 +5,8 @@ ghost use Rattle.gix_object.specs.MemoryStore.{objects_at, AreWithin};
 
 use crate::Kind;
 use crate::find::{Error, Find};
-use gix_hash::{Keys, ObjectId};
 use gix_hash::hashtable::IdMap;
+use gix_hash::{Keys, ObjectId};
 use std::alloc::{AllocError, Global};
 use std::marker::Model;
 
@@ -26,8 +26,8 @@ pub struct Stored {
 /// A store with one commit:
 ///
 /// ```rust
-/// pub fn store_of_one(alloc: Global, id: ObjectId) -> Result<MemoryStore, AllocError> {
-///     let mut store = MemoryStore::new(alloc);
+/// pub fn store_of_one(alloc: Global, keys: Keys, id: ObjectId) -> Result<MemoryStore, AllocError> {
+///     let mut store = MemoryStore::new(alloc, keys);
 ///     let commit = b"tree 4b825dc642cb6eb9a060e54bf8d69288fbee4904
 /// author A <a@b> 100 +0000
 /// committer A <a@b> 200 +0000
@@ -61,12 +61,12 @@ impl Model for MemoryStore {
 }
 
 impl MemoryStore {
-    /// A store without objects. It takes no memory until one is put in.
-    pub fn new(alloc: Global) -> MemoryStore
+    /// A store without objects, whose table of ids has these keys. It takes no memory until one is put in.
+    pub fn new(alloc: Global, keys: Keys) -> MemoryStore
         ensures { result ≡ map.empty }
     {
         MemoryStore {
-            objects: IdMap::new(alloc),
+            objects: IdMap::new(alloc, keys),
             bytes: Vec::new(alloc),
         }
     }

@@ -4,7 +4,7 @@ ghost use Rattle.std.specs.Prelude.{◌≡◌, ◌+◌, ◌≤◌, ◌<◌, leng
 use crate::fault::Damage;
 use crate::listing::damage_of;
 use gix_hash::hashtable::IdSet;
-use gix_hash::{Kind, ObjectId};
+use gix_hash::{Keys, Kind, ObjectId};
 use gix_pack::Front;
 use std::alloc::{AllocError, Global};
 use std::fs::{self, Files};
@@ -25,12 +25,12 @@ pub(crate) struct Beginning {
 }
 
 impl Beginning {
-    /// No ids.
+    /// No ids. So few are kept that the keys of their table need be no secret.
     pub fn new(alloc: Global, front: Front, most: usize) -> Beginning {
         Beginning {
             front,
             most,
-            seen: IdSet::new(alloc),
+            seen: IdSet::new(alloc, Keys::KNOWN),
             ids: Vec::new(alloc),
         }
     }

@@ -13,8 +13,8 @@ ghost use Rattle.gix_paint.specs.Inside.Painter.{rows_in, graph_in_use, FailsAmo
 mod source;
 
 use gix_commitgraph::Graph;
-use gix_hash::ObjectId;
 use gix_hash::hashtable::{IdMap, IdSet};
+use gix_hash::{Keys, ObjectId};
 use gix_object::decode;
 use gix_object::find::{Find, existing_iter};
 use gix_revwalk::queue::PriorityQueue;
@@ -94,11 +94,11 @@ impl Model for HiddenIds {
 
 impl HiddenIds {
     /// An empty set of ids. It takes no memory.
-    pub fn new(alloc: Global) -> HiddenIds
+    pub fn new(alloc: Global, keys: Keys) -> HiddenIds
         ensures { result ≡ set.empty }
     {
         HiddenIds {
-            marks: IdMap::new(alloc),
+            marks: IdMap::new(alloc, keys),
         }
     }
 

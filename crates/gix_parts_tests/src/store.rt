@@ -1,5 +1,5 @@
 //! A store in memory, and the texts of faults.
-use gix_parts::hash::ObjectId;
+use gix_parts::hash::{Keys, ObjectId};
 use gix_parts::object::Kind;
 use gix_parts::object::find::{Find, existing_iter};
 use gix_parts::object::memory::MemoryStore;
@@ -9,7 +9,7 @@ const ID: ObjectId = ObjectId::Sha1([0x11; 20]);
 
 #[test]
 fn objects_are_kept_and_replaced(rt: HostRuntime) -> Result<(), Fail> {
-    let mut store = MemoryStore::new(rt.alloc());
+    let mut store = MemoryStore::new(rt.alloc(), Keys::KNOWN);
     let mut buf = Vec::new(rt.alloc());
     assert!(rt; store.is_empty());
     assert!(rt; store.try_find(&ID, &mut buf)?.is_none());
@@ -25,7 +25,7 @@ fn objects_are_kept_and_replaced(rt: HostRuntime) -> Result<(), Fail> {
 
 #[test]
 fn objects_of_another_kind_are_named(rt: HostRuntime) -> Result<(), Fail> {
-    let mut store = MemoryStore::new(rt.alloc());
+    let mut store = MemoryStore::new(rt.alloc(), Keys::KNOWN);
     let mut buf = Vec::new(rt.alloc());
     let missing = existing_iter::Error::NotFound { oid: ID };
     assert_eq!(rt; store.find_commit_iter(&ID, &mut buf).err(), Some(missing));

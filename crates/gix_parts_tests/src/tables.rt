@@ -1,5 +1,5 @@
 //! Sets and maps of ids.
-use gix_parts::hash::ObjectId;
+use gix_parts::hash::{Keys, ObjectId};
 use gix_parts::hashtable::{IdMap, IdSet};
 use std::test::Fail;
 
@@ -9,7 +9,7 @@ const LONG: ObjectId = ObjectId::Sha256([0x11; 32]);
 
 #[test]
 fn a_set(rt: HostRuntime) -> Result<(), Fail> {
-    let mut ids = IdSet::new(rt.alloc());
+    let mut ids = IdSet::new(rt.alloc(), Keys::KNOWN);
     assert!(rt; ids.is_empty());
     assert!(rt; ids.insert(ONE)?);
     assert!(rt; !ids.insert(ONE)?);
@@ -26,7 +26,7 @@ fn a_set(rt: HostRuntime) -> Result<(), Fail> {
 
 #[test]
 fn a_map(rt: HostRuntime) -> Result<(), Fail> {
-    let mut counts = IdMap::new(rt.alloc());
+    let mut counts = IdMap::new(rt.alloc(), Keys::KNOWN);
     assert!(rt; counts.is_empty());
     assert_eq!(rt; counts.insert(ONE, 1u32)?, None);
     assert_eq!(rt; counts.insert(ONE, 2)?, Some(1));

@@ -5,8 +5,8 @@ ghost use Rattle.std.specs.Option.{option_copied};
 ghost use Rattle.gix_object.specs.MemoryStore.{objects_at, AreWithin};
 ghost use Rattle.gix_records.specs.Places.{places_of};
 
-use gix_hash::{Keys, ObjectId};
 use gix_hash::hashtable::IdMap;
+use gix_hash::{Keys, ObjectId};
 use gix_object::Kind;
 use gix_object::find::{Error, Find};
 use gix_object::memory::Stored;

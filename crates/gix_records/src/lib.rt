@@ -21,8 +21,8 @@ mod named;
 mod objects;
 
 use front::record_at;
-use gix_hash::{Keys, ObjectId};
 use gix_hash::hashtable::IdMap;
+use gix_hash::{Keys, ObjectId};
 use gix_object::memory::{MemoryStore, Stored};
 pub use input::read_to_end;
 pub use lent::LentStore;
@@ -70,7 +70,7 @@ impl From<AllocError> for Error {
 /// The objects of the records that a reader gives until its end. Of two records of one id the later counts. An input without a byte is
 /// an empty store. That an id is the hash of its bytes isn't tested; [`named_records_in`] tests it.
 ///
-/// A read that was interrupted is made again. The whole input is held in memory, and the store keeps it.
+/// A read that was interrupted is made again. The whole input is held in memory, and the store keeps it. Its table of ids has these keys.
 ///
 /// # Errors
 /// `Read` where the reader fails, or gives no end in [`READS`] reads. `Record` with the number of the first record that isn't one, once
@@ -81,32 +81,32 @@ impl From<AllocError> for Error {
 /// In a program's `main`, under the name that users have for it (the whole is in docs/LIBRARY.md):
 ///
 /// ```rust
-///     let store = records::read(alloc, &mut rt.stdin())?;
+///     let store = records::read(alloc, Keys::random(rt)?, &mut rt.stdin())?;
 ///     let newest = Sorting::ByCommitTime(CommitTimeOrder::NewestFirst);
 ///     let walk = Simple::new(alloc, tips, store)?.sorting(newest)?;
 /// ```
-pub fn read<R: Read>(alloc: Global, reader: &mut R) -> Result<MemoryStore, Error>
+pub fn read<R: Read>(alloc: Global, keys: Keys, reader: &mut R) -> Result<MemoryStore, Error>
     ensures read { IfOk result (λ store. IsReadFrom (R.remaining reader.old) store) }
     ensures fault { IfErr result (λ e. IsReadFault (R.remaining reader.old) e) }
     // Input that is records is read, unless the reader fails or memory runs out.
     ensures only { (input : List ℕ) (records : List Record) → R.remaining reader.old ≡ Some input → AreRecords records input → MatchResult result (λ store. store ≡ stored records) (λ e. (e ≡ Error.Read) ⊎ (e ≡ Error.Memory)) }
 {
     let input = read_to_end(alloc, reader, READS)?;
-    records_of(alloc, input)
+    records_of(alloc, keys, input)
 }
 
 /// The objects of the records that the bytes are, in a store that keeps the bytes and copies no object. Of two records of one id the
-/// later counts.
+/// later counts. The table of ids has these keys.
 ///
 /// # Errors
 /// `Record` with the number of the first that isn't one, `Memory`. The bytes are dropped.
-pub fn records_of(alloc: Global, input: Vec<u8>) -> Result<MemoryStore, Error>
+pub fn records_of(alloc: Global, keys: Keys, input: Vec<u8>) -> Result<MemoryStore, Error>
     ensures read { IfOk result (λ store. (records : List Record) × AreRecords records input.items × (store ≡ stored records)) }
     ensures fault { IfErr result (λ e. IsRecordFault input.items e) }
     // Input that is records is read, unless memory runs out.
     ensures only { (records : List Record) → AreRecords records input.items → MatchResult result (λ store. store ≡ stored records) (λ e. e ≡ Error.Memory) }
 {
-    let objects = places_of(alloc, Keys::KNOWN, input.as_slice())?;
+    let objects = places_of(alloc, keys, input.as_slice())?;
     Ok(MemoryStore::over(input, objects))
 }
 

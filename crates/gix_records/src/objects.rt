@@ -5,8 +5,8 @@ ghost use Rattle.gix_names.specs.Named.{IsNamed};
 ghost use Rattle.gix_records.specs.NamedRecords.{AreNamed};
 
 use crate::LentStore;
-use gix_hash::{Keys, ObjectId};
 use gix_hash::hashtable::IdMap;
+use gix_hash::{Keys, ObjectId};
 use gix_object::Kind;
 use gix_object::memory::Stored;
 use std::alloc::{AllocError, Global};

@@ -32,7 +32,7 @@ fn check_store<F: Find>(alloc: Global, store: &F, len: usize) -> Result<(), Fail
 #[test]
 fn the_later_of_one_id_counts(rt: HostRuntime) -> Result<(), Fail> {
     let alloc = rt.alloc();
-    let store = read(alloc, &mut { RECORDS })?;
+    let store = read(alloc, Keys::KNOWN, &mut { RECORDS })?;
     check_store(alloc, &store, store.len())
 }
 
@@ -41,7 +41,7 @@ fn bytes_are_read_as_a_reader_is(rt: HostRuntime) -> Result<(), Fail> {
     let alloc = rt.alloc();
     let mut input = Vec::new(alloc);
     input.extend_from_slice(RECORDS)?;
-    let store = records_of(alloc, input)?;
+    let store = records_of(alloc, Keys::KNOWN, input)?;
     check_store(alloc, &store, store.len())
 }
 
@@ -96,7 +96,11 @@ fn objects_that_were_compared_are_found(rt: HostRuntime) -> Result<(), Fail> {
 #[test]
 fn the_first_bad_record_is_named(rt: HostRuntime) -> Result<(), Fail> {
     for (cut, number) in [(48, 1), (51, 1), (53, 2), (123, 2), (125, 3), (176, 3)] {
-        let read = read(rt.alloc(), &mut RECORDS.get(..cut).unwrap_or_default());
+        let read = read(
+            rt.alloc(),
+            Keys::KNOWN,
+            &mut RECORDS.get(..cut).unwrap_or_default(),
+        );
         let Err(error) = read else {
             return Err(Fail::new(format_args!("{cut} bytes were read")));
         };

@@ -1,7 +1,7 @@
 //! Histories to walk. Commit n has the id of forty digits n, and mostly time n.
 use crate::words::Stop;
 use gix_parts::graph::{Graph, ParentPlace, ParentPlaces, Row};
-use gix_parts::hash::ObjectId;
+use gix_parts::hash::{Keys, ObjectId};
 use gix_parts::object::Kind;
 use gix_parts::object::find::{self, Find};
 use gix_parts::object::memory::MemoryStore;
@@ -170,7 +170,7 @@ impl Odd {
 impl History<'_> {
     /// A store of all this.
     pub fn store(&self, alloc: Global) -> Result<MemoryStore, AllocError> {
-        let mut store = MemoryStore::new(alloc);
+        let mut store = MemoryStore::new(alloc, Keys::KNOWN);
         self.insert(alloc, &mut store)?;
         Ok(store)
     }

@@ -302,7 +302,7 @@ impl<F: Find + Drop, P: Predicate + Drop> Simple<F, P> {
             remembered: IdSet::new(alloc, keys),
             begun: false,
             hidden_tips: Vec::new(alloc),
-            hidden: HiddenIds::new(alloc),
+            hidden: HiddenIds::new(alloc, keys),
             text: Vec::new(alloc),
             current: None,
             buf: Vec::new(alloc),

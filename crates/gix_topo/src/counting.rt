@@ -12,8 +12,8 @@ use super::Error;
 use super::reader::Reader;
 use gix_commitgraph::GENERATION_NUMBER_INFINITY;
 use gix_frontier::{Frontier, Side, Waiting};
-use gix_hash::{Keys, ObjectId};
 use gix_hash::hashtable::IdSet;
+use gix_hash::{Keys, ObjectId};
 use gix_object::find::Find;
 use gix_revwalk::row::{NOWHERE, Near};
 use gix_revwalk::{Info, ParentIds, Parents};
@@ -85,7 +85,11 @@ where
 }
 
 /// Each id of a list at its last place. A list of at most one id takes no memory.
-pub(super) fn last_places(alloc: Global, keys: Keys, ids: &[ObjectId]) -> Result<ParentIds, AllocError>
+pub(super) fn last_places(
+    alloc: Global,
+    keys: Keys,
+    ids: &[ObjectId],
+) -> Result<ParentIds, AllocError>
     ensures { IfOk result (λ places. places.items ≡ last_places ids.now) }
 {
     if ids.len() <= FEW {

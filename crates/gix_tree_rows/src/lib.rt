@@ -5,7 +5,7 @@ pub mod calls;
 pub mod recorded;
 
 use bstr::BStr;
-use gix_parts::hash::ObjectId;
+use gix_parts::hash::{Keys, ObjectId};
 use gix_parts::object::Kind;
 use gix_parts::object::find::Find;
 use gix_parts::object::memory::MemoryStore;
@@ -46,7 +46,7 @@ pub fn tree_bytes(alloc: Global, entries: &[(&str, u8)]) -> Result<Vec<u8>, Allo
 
 /// A store of these trees.
 pub fn store(alloc: Global, trees: &[Tree<'_>]) -> Result<MemoryStore, AllocError> {
-    let mut store = MemoryStore::new(alloc);
+    let mut store = MemoryStore::new(alloc, Keys::KNOWN);
     for (digit, entries) in trees {
         let bytes = tree_bytes(alloc, entries)?;
         store.insert(id(*digit), Kind::Tree, &bytes)?;

@@ -7,6 +7,7 @@ use crate::progress::Progress;
 use crate::symmetric::common;
 use gix_commands::{Fault, run_named};
 use gix_gather::{Gathering, Order};
+use gix_hash::Keys;
 use gix_hash::hashtable::IdSet;
 use gix_options::{Name, Place, Question};
 use gix_parts::graph::Graph;
@@ -29,6 +30,7 @@ const MOST_READINGS: u32 = 64;
 #[derive(Drop)]
 struct Asking<'a> {
     rt: &'a HostRuntime,
+    keys: Keys,
     question: &'a Question,
     chosen: Chosen,
     progress: Progress,
@@ -37,6 +39,7 @@ struct Asking<'a> {
 /// Answers a question, and gives the status.
 pub(crate) fn answer<W: Write>(
     rt: &HostRuntime,
+    keys: Keys,
     question: &Question,
     output: &mut W,
 ) -> Result<u8, Failure> {
@@ -56,6 +59,7 @@ pub(crate) fn answer<W: Write>(
     }
     let mut asking = Asking {
         rt,
+        keys,
         question,
         chosen,
         progress: Progress::new(rt),
@@ -123,9 +127,9 @@ impl Asking<'_> {
             return Ok(0);
         };
         let root = *root;
-        let mut gathering = Gathering::trees(alloc, &root)?;
+        let mut gathering = Gathering::trees(alloc, self.keys, &root)?;
         self.read_all(repository, &mut gathering, None)?;
-        let words = self.chosen.words(alloc, self.question)?;
+        let words = self.chosen.words(alloc, self.keys, self.question)?;
         run_named(alloc, words.as_slice(), gathering.objects(), None, output)?;
         Ok(0)
     }
@@ -183,13 +187,14 @@ impl Asking<'_> {
                     alloc,
                     ids.as_slice(),
                     Order::Met,
-                    IdSet::new(alloc),
+                    IdSet::new(alloc, self.keys),
                 )?;
                 self.read_all(repository, &mut gathering, graph)?;
                 return self.finish(gathering.objects(), graph, output);
             }
         };
-        let mut gathering = Gathering::commits(alloc, ids.as_slice(), order, IdSet::new(alloc))?;
+        let border = IdSet::new(alloc, self.keys);
+        let mut gathering = Gathering::commits(alloc, ids.as_slice(), order, border)?;
         let lines = self.from_part(repository, &mut gathering, least, graph, output)?;
         Ok(self.status(lines.as_slice()))
     }
@@ -253,7 +258,7 @@ impl Asking<'_> {
         output: &mut W,
     ) -> Result<Vec<u8>, Failure> {
         let alloc = self.rt.alloc();
-        let words = self.chosen.words(alloc, self.question)?;
+        let words = self.chosen.words(alloc, self.keys, self.question)?;
         let mut count = least.saturating_add(FIRST_COMMITS);
         for _ in 0..MOST_READINGS {
             gathering.read_more(&mut repository.odb, graph, count)?;
@@ -304,7 +309,9 @@ impl Asking<'_> {
 
     /// Writes the id of each revision, those that are excluded with `^` and behind the others.
     fn write_ids<W: Write>(&self, output: &mut W) -> Result<u8, Failure> {
-        let words = self.chosen.words(self.rt.alloc(), self.question)?;
+        let words = self
+            .chosen
+            .words(self.rt.alloc(), self.keys, self.question)?;
         for word in words.iter().skip(1) {
             write(output, word.as_bytes())?;
             write(output, b"\n")?;
@@ -333,7 +340,7 @@ impl Asking<'_> {
         if name == Name::Resolve {
             return self.write_ids(output);
         }
-        let words = self.chosen.words(alloc, self.question)?;
+        let words = self.chosen.words(alloc, self.keys, self.question)?;
         run_named(alloc, words.as_slice(), objects, graph, output)?;
         Ok(0)
     }

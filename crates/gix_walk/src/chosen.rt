@@ -1,7 +1,7 @@
 //! The ids that revisions stand for.
 use crate::failure::Failure;
-use gix_hash::ObjectId;
 use gix_hash::hashtable::IdSet;
+use gix_hash::{Keys, ObjectId};
 use gix_object::Kind;
 use gix_options::{Asked, Misuse, Name, Question, read_lines};
 use gix_records::{READS, read_to_end};
@@ -155,7 +155,12 @@ impl Chosen {
 
     /// The words of a command that asks for these ids, with the options of the question. Each tip comes once. For `topo` the last tip
     /// comes first, since of tips of one second the walk begins with the last, and git with the first.
-    pub fn words(&self, alloc: Global, question: &Question) -> Result<Vec<String>, AllocError> {
+    pub fn words(
+        &self,
+        alloc: Global,
+        keys: Keys,
+        question: &Question,
+    ) -> Result<Vec<String>, AllocError> {
         let mut words = Vec::new(alloc);
         // Whether the second reaches the first is whether it contains it.
         let asks_the_second = question.name == Name::IsAncestor;
@@ -181,7 +186,7 @@ impl Chosen {
             words.push(limit.clone()?)?;
         }
         let mut tips = if question.name.is_list() {
-            once(alloc, self.tips.as_slice())?
+            once(alloc, keys, self.tips.as_slice())?
         } else {
             Vec::from_slice(alloc, self.tips.as_slice())?
         };
@@ -199,8 +204,8 @@ impl Chosen {
 }
 
 /// Each of the ids at its first place.
-fn once(alloc: Global, ids: &[ObjectId]) -> Result<Vec<ObjectId>, AllocError> {
-    let mut seen = IdSet::new(alloc);
+fn once(alloc: Global, keys: Keys, ids: &[ObjectId]) -> Result<Vec<ObjectId>, AllocError> {
+    let mut seen = IdSet::new(alloc, keys);
     let mut kept = Vec::new(alloc);
     for id in ids {
         if seen.insert(*id)? {

@@ -3,6 +3,7 @@ use gix_commands::Fault;
 use gix_hash::ObjectId;
 use gix_options::Misuse;
 use std::alloc::{AllocError, AllocFailed};
+use std::io;
 use thiserror::Error;
 
 /// Why the program failed.
@@ -14,6 +15,9 @@ pub(crate) enum Failure {
     /// The command failed.
     #[error("{0}")]
     Command(Fault),
+    /// The system gives no random bytes. Without them whoever chose the ids could make the run slow.
+    #[error("the system gives no random bytes: {0}")]
+    Random(io::Error),
     /// The file of this name, which is to be a layer of the commit-graph, can't be read.
     #[error("commit-graph unreadable: {0}")]
     Unreadable(String),

@@ -15,6 +15,7 @@ mod symmetric;
 
 use failure::Failure;
 use gix_commands::Fault;
+use gix_hash::Keys;
 use gix_options::{Asks, Misuse, read_arguments};
 use output::Output;
 use std::env::{self, Env};
@@ -50,12 +51,22 @@ fn run<W: io::Write + Drop>(rt: &HostRuntime, output: &mut Output<W>) -> Result<
     let _name = arguments.next();
     let words: Vec<String> = arguments.collect(rt.alloc())?;
     match read_arguments(rt.alloc(), words.as_slice())? {
-        Asks::Records => records::serve(rt, words.as_slice(), output)?,
+        Asks::Records => records::serve(rt, random_keys(rt)?, words.as_slice(), output)?,
         Asks::Help(name) => help::write_help(rt, name).map_err(fault_of_output)?,
         Asks::Version => help::write_version(rt).map_err(fault_of_output)?,
-        Asks::Question(question) => return answer::answer(rt, &question, output),
+        Asks::Question(question) => {
+            return answer::answer(rt, random_keys(rt)?, &question, output);
+        }
     }
     Ok(0)
+}
+
+/// The keys of all tables of ids of this run. Nobody can choose ids for them beforehand.
+fn random_keys(rt: &HostRuntime) -> Result<Keys, Failure> {
+    match Keys::random(rt) {
+        Ok(keys) => Ok(keys),
+        Err(error) => Err(Failure::Random(error)),
+    }
 }
 
 /// Arguments that aren't UTF-8 are no command.

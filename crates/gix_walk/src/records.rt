@@ -2,7 +2,7 @@
 use crate::failure::Failure;
 use gix_commands::{Fault, run, run_in, run_named, run_over};
 use gix_gather::{commits, trees};
-use gix_hash::ObjectId;
+use gix_hash::{Keys, ObjectId};
 use gix_odb::Odb;
 use gix_records::{NamedObjects, READS, check_names, read_to_end};
 use gix_words::{Command, read_command};
@@ -12,23 +12,25 @@ use std::io::{ErrorKind, Read, Write};
 /// Runs the command that the words are, from standard input, or from the folder of objects that they name.
 pub(crate) fn serve<W: Write>(
     rt: &HostRuntime,
+    keys: Keys,
     words: &[String],
     writer: &mut W,
 ) -> Result<(), Failure> {
     match words {
         [option, folder, command @ ..] if option.as_str() == "--objects" => {
-            serve_folder(rt, folder.as_str(), command, writer)
+            serve_folder(rt, keys, folder.as_str(), command, writer)
         }
         [option, words @ ..] if option.as_str() == "--verify-ids" => {
-            serve_named(rt, words, writer)
+            serve_named(rt, keys, words, writer)
         }
-        words => serve_input(rt, words, writer),
+        words => serve_input(rt, keys, words, writer),
     }
 }
 
 /// Runs the command over the objects of a folder.
 fn serve_folder<W: Write>(
     rt: &HostRuntime,
+    keys: Keys,
     folder: &str,
     words: &[String],
     writer: &mut W,
@@ -38,23 +40,23 @@ fn serve_folder<W: Write>(
     let objects = match read_command(alloc, words)? {
         Command::Files { tree, .. } => {
             let mut odb = Odb::open(rt, folder, tree.kind())?;
-            trees(alloc, &mut odb, &tree)?
+            trees(alloc, keys, &mut odb, &tree)?
         }
         Command::Commits { tips, hidden, .. } => {
             ids.extend_from_slice(tips.as_slice())?;
             ids.extend_from_slice(hidden.as_slice())?;
-            gather(rt, folder, ids.as_slice())?
+            gather(rt, keys, folder, ids.as_slice())?
         }
-        Command::Ahead { one, other } => gather(rt, folder, &[one, other])?,
+        Command::Ahead { one, other } => gather(rt, keys, folder, &[one, other])?,
         Command::Contained { tip, ids: others } => {
             ids.push(tip)?;
             ids.extend_from_slice(others.as_slice())?;
-            gather(rt, folder, ids.as_slice())?
+            gather(rt, keys, folder, ids.as_slice())?
         }
         Command::Bases { one, others } => {
             ids.push(one)?;
             ids.extend_from_slice(others.as_slice())?;
-            gather(rt, folder, ids.as_slice())?
+            gather(rt, keys, folder, ids.as_slice())?
         }
     };
     run_named(alloc, words, &objects, None, writer)?;
@@ -62,29 +64,36 @@ fn serve_folder<W: Write>(
 }
 
 /// The commits of a folder that these ids reach.
-fn gather(rt: &HostRuntime, folder: &str, ids: &[ObjectId]) -> Result<NamedObjects, Failure> {
+fn gather(
+    rt: &HostRuntime,
+    keys: Keys,
+    folder: &str,
+    ids: &[ObjectId],
+) -> Result<NamedObjects, Failure> {
     let Some(first) = ids.first() else {
         return Err(Failure::Command(Fault::Usage));
     };
     let mut odb = Odb::open(rt, folder, first.kind())?;
-    Ok(commits(rt.alloc(), &mut odb, ids, None)?)
+    Ok(commits(rt.alloc(), keys, &mut odb, ids, None)?)
 }
 
 /// Runs the command over the records of standard input, and the layers of a commit-graph that options name.
 fn serve_input<W: Write>(
     rt: &HostRuntime,
+    keys: Keys,
     words: &[String],
     writer: &mut W,
 ) -> Result<(), Failure> {
     let mut layers = Vec::new(rt.alloc());
     let words = read_layers(rt, words, &mut layers)?;
-    run_records(rt, words, layers.as_slice(), &mut rt.stdin(), writer)?;
+    run_records(rt, keys, words, layers.as_slice(), &mut rt.stdin(), writer)?;
     Ok(())
 }
 
 /// As `serve_input`, but each record is compared with its id before the command begins.
 fn serve_named<W: Write>(
     rt: &HostRuntime,
+    keys: Keys,
     words: &[String],
     writer: &mut W,
 ) -> Result<(), Failure> {
@@ -93,9 +102,16 @@ fn serve_named<W: Write>(
     let input = read_to_end(rt.alloc(), &mut rt.stdin(), READS)?;
     check_names(input.as_slice())?;
     if layers.is_empty() {
-        run_in(rt.alloc(), words, input.as_slice(), writer)?;
+        run_in(rt.alloc(), keys, words, input.as_slice(), writer)?;
     } else {
-        run_records(rt, words, layers.as_slice(), &mut input.as_slice(), writer)?;
+        run_records(
+            rt,
+            keys,
+            words,
+            layers.as_slice(),
+            &mut input.as_slice(),
+            writer,
+        )?;
     }
     Ok(())
 }
@@ -135,13 +151,14 @@ fn read_layer(rt: &HostRuntime, file: &String) -> Result<Vec<u8>, Failure> {
 /// Without layers the words are a command over records alone.
 fn run_records<R: Read, W: Write>(
     rt: &HostRuntime,
+    keys: Keys,
     words: &[String],
     layers: &[Vec<u8>],
     reader: &mut R,
     writer: &mut W,
 ) -> Result<(), Fault> {
     if layers.is_empty() {
-        return run(rt.alloc(), words, reader, writer);
+        return run(rt.alloc(), keys, words, reader, writer);
     }
-    run_over(rt.alloc(), words, layers, reader, writer)
+    run_over(rt.alloc(), keys, words, layers, reader, writer)
 }

@@ -1,12 +1,12 @@
 //! The example of `MemoryStore`.
-use gix_parts::hash::ObjectId;
+use gix_parts::hash::{Keys, ObjectId};
 use gix_parts::object::Kind;
 use gix_parts::object::memory::MemoryStore;
 use std::alloc::{AllocError, Global};
 
 /// A store with one commit.
-pub fn store_of_one(alloc: Global, id: ObjectId) -> Result<MemoryStore, AllocError> {
-    let mut store = MemoryStore::new(alloc);
+pub fn store_of_one(alloc: Global, keys: Keys, id: ObjectId) -> Result<MemoryStore, AllocError> {
+    let mut store = MemoryStore::new(alloc, keys);
     let commit = b"tree 4b825dc642cb6eb9a060e54bf8d69288fbee4904
 author A <a@b> 100 +0000
 committer A <a@b> 200 +0000

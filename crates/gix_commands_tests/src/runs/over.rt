@@ -120,7 +120,7 @@ fn check_told_over(
     want: &str,
 ) -> Result<(), Fail> {
     let mut told = Vec::new(alloc);
-    if let Err(fault) = run_over(alloc, words, layers, &mut { input }, &mut told) {
+    if let Err(fault) = run_over(alloc, Keys::KNOWN, words, layers, &mut { input }, &mut told) {
         push_fault(alloc, &mut told, fault)?;
     }
     compare(words, &told, &text_of(alloc, &[want])?)

@@ -132,7 +132,7 @@ fn check_trickling(
         calls: 0,
         fails_at,
     };
-    let answer = run(alloc, words, &mut { input }, &mut writer);
+    let answer = run(alloc, Keys::KNOWN, words, &mut { input }, &mut writer);
     if answer == want && writer.bytes.as_slice() == lines {
         return Ok(());
     }
@@ -252,7 +252,7 @@ fn check_full(
         bytes: Vec::new(alloc),
         room,
     };
-    let answer = run(alloc, words, &mut { input }, &mut writer);
+    let answer = run(alloc, Keys::KNOWN, words, &mut { input }, &mut writer);
     let taken = lines.get(..room).unwrap_or_default();
     if answer == Err(Fault::Write) && writer.bytes.as_slice() == taken {
         return Ok(());

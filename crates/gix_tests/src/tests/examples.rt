@@ -10,6 +10,7 @@ use gix_calls::examples::unknown::Unknown;
 use gix_calls::examples::unmerged::unmerged;
 use gix_calls::examples::{depth, levels, names};
 use gix_parts::graph::Position;
+use gix_parts::hash::Keys;
 use gix_parts::hashtable::IdSet;
 use gix_parts::object::Kind;
 use gix_parts::object::find::Find;
@@ -63,7 +64,7 @@ fn what_the_store_has_is_found(rt: HostRuntime) -> Result<(), Fail> {
 
 #[test]
 fn the_commit_has_its_time(rt: HostRuntime) -> Result<(), Fail> {
-    let store = store_of_one(rt.alloc(), id(1))?;
+    let store = store_of_one(rt.alloc(), Keys::KNOWN, id(1))?;
     let mut buf = Vec::new(rt.alloc());
     let committer = store.find_commit_iter(&id(1), &mut buf)?.committer()?;
     assert_eq!(rt; committer.seconds(), 200);
@@ -117,7 +118,7 @@ fn files_are_counted_without_a_folder(rt: HostRuntime) -> Result<(), Fail> {
 
 #[test]
 fn a_commit_is_found_with_its_tree_and_time(rt: HostRuntime) -> Result<(), Fail> {
-    let store = store_of_one(rt.alloc(), id(1))?;
+    let store = store_of_one(rt.alloc(), Keys::KNOWN, id(1))?;
     let (tree, time) = tree_and_time(rt.alloc(), None, &store, id(1))?;
     let printed = tree.to_string(rt.alloc())?;
     assert_eq!(rt;
@@ -133,7 +134,7 @@ fn a_commit_is_found_with_its_tree_and_time(rt: HostRuntime) -> Result<(), Fail>
 }
 
 fn write_unknown<F: Find + Drop>(alloc: Global, store: F, told: &mut String) -> Result<(), Stop> {
-    let mut known = IdSet::new(alloc);
+    let mut known = IdSet::new(alloc, Keys::KNOWN);
     known.insert(id(7))?;
     known.insert(id(3))?;
     for answer in Simple::filtered(alloc, [id(8)], store, Unknown { known })? {

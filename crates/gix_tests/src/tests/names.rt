@@ -7,7 +7,7 @@ pub mod graph {
 }
 
 pub mod hash {
-    pub use gix_parts::hash::{HexError, Kind, ObjectId};
+    pub use gix_parts::hash::{HexError, Keys, Kind, ObjectId};
 }
 
 pub mod hashtable {
