@@ -78,6 +78,11 @@ abbrev pub AskForOther : List (List ℕ) → Type 0
 AskForOther words = (request : Request) × (request_of words ≡ Ok request)
     × ((by : Order) (limit : Option ℕ) (tips hidden : List ObjectId) → request ≢ Commits by limit tips hidden)
 
+-- Why words ask for no list: they are no command, unless memory ran out, or they ask for something else.
+pub data AsksForNone (words : List (List ℕ)) : Fault → Type 0 where
+  rejected : (e : Fault) → (e ≢ fault.Memory → request_of words ≡ Err e) → AsksForNone words e
+  asks_another : AskForOther words → AsksForNone words fault.Usage
+
 -- Why a batch fails: as a run over these words and records does that writes into memory, whose lines are of the commits before; or its words ask
 -- for something else. None fails for a reader or a writer, or for what never happens.
 pub data Fails (words : List (List ℕ)) (records : List ℕ) : Fault → Type 0 where
