@@ -250,9 +250,9 @@ class Repository:
         self._add_objects(common / "objects", 0)
         self._files = (RawFile * len(self._given))()
         for file, (name, (held, length)) in zip(self._files, self._given.items()):
-            pointer = ctypes.c_char_p(name)
-            file.name, file.name_length = ctypes.cast(pointer, ctypes.c_void_p), len(name)
-            file.bytes, file.length = ctypes.cast(held, ctypes.c_void_p), length
+            # The names are kept as the keys, the bytes in the values.
+            file.name, file.name_length = ctypes.cast(ctypes.c_char_p(name), ctypes.c_void_p).value, len(name)
+            file.bytes, file.length = ctypes.cast(held, ctypes.c_void_p).value, length
 
     def _add_own(self, git, common):
         for name in _OWN:
@@ -265,18 +265,16 @@ class Repository:
 
     def _add(self, name, path):
         key = os.fsencode(name)
-        if key in self._given:
+        # What is no file, as a pipe, isn't opened.
+        if key in self._given or not os.path.isfile(path):
             return
-        try:
-            with open(path, "rb") as file:
-                if os.fstat(file.fileno()).st_size < _MAPPED:
-                    held = file.read()
-                    self._given[key] = (ctypes.c_char_p(held), len(held))
-                else:
-                    held = mmap.mmap(file.fileno(), 0, access=mmap.ACCESS_COPY)
-                    self._given[key] = ((ctypes.c_char * len(held)).from_buffer(held), len(held))
-        except (FileNotFoundError, NotADirectoryError, IsADirectoryError):
-            pass
+        with open(path, "rb") as file:
+            if os.fstat(file.fileno()).st_size < _MAPPED:
+                held = file.read()
+                self._given[key] = (ctypes.c_char_p(held), len(held))
+            else:
+                held = mmap.mmap(file.fileno(), 0, access=mmap.ACCESS_COPY)
+                self._given[key] = ((ctypes.c_char * len(held)).from_buffer(held), len(held))
 
     def _add_below(self, name, folder):
         if folder.is_dir():
