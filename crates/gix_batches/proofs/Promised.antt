@@ -33,10 +33,11 @@ use Rattle.gix_commands.specs.Pages.{page_objects}
 use Rattle.gix_commands.specs.Readable.{readable, reads_all_lines}
 use Rattle.gix_commands.specs.Run.{Runs, Serves, served}
 use Rattle.gix_commands.specs.StoredRuns as stored_runs
+use Rattle.gix_commands.specs.StoredRuns.{RunsStored}
 use Rattle.gix_commands.specs.Walked.{Answers, EndsBy, IsWalkFault, lines_of}
 use Rattle.gix_commands.proofs.GivenRuns.{records_unread, serves_unread, words_unread}
 use Rattle.gix_commands.proofs.ReadableTexts.{have_texts, text_kept, tree_kept}
-use Rattle.gix_commands.proofs.OverStores.{stored_words}
+use Rattle.gix_commands.proofs.MemoryFaults.{failed_so}
 use Rattle.gix_commands.proofs.RightRuns.{unrowed_read}
 use Rattle.gix_commands.proofs.RunFacts.{runs_input, runs_sound, runs_words, serves_checked, serves_sound, serves_topo, serves_walk, without_rows}
 use Rattle.gix_commands.proofs.SameCommits.{are_fed}
@@ -231,7 +232,7 @@ module _ (words : List (List ℕ)) (records : List ℕ) where
 module _ (words : List (List ℕ)) (objects : Objects) where
   pub fails_over_words : {e : Fault} → AsksForNone words e → FailsOver words objects e
   fails_over_words (rejected e h) =
-      runs_over [] (stored_words words objects [] (Some []) (Err e) e refl h) (words_unread words e h) (words_unwritten words e h)
+      runs_over [] (failed_so (λ (r : Result (Unit {0}) Fault). RunsStored words objects [] (Some []) r (Some [])) stored_runs.without_memory (Err e) e refl (λ known. stored_runs.no_command (h known))) (words_unread words e h) (words_unwritten words e h)
       (λ same. runs_sound (runs_words words None (Some []) (Err e) e refl h) (ap (λ x. Err x) same))
   fails_over_words (asks_another asks) = asks_over asks
 

@@ -96,7 +96,8 @@ fn folder_lines(
     let mut repository = Repository::open(&folder, TOP)?;
     let mut part = Part::of_command(alloc, Keys::KNOWN, &command, None)?;
     let odb = &mut repository.odb;
-    let answered = answer(alloc, &words, &mut part, odb, None, &mut Silent)?;
+    let mut silent = Silent;
+    let answered = answer(alloc, &words, &mut part, odb, None, &mut silent)?;
     match answered.ended {
         Ok(()) => Ok(answered.lines),
         Err(Fault::Write) => Err(Trouble::Command(Fault::Memory)),

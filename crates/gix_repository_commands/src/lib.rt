@@ -5,10 +5,12 @@
 //! is the clause `named` of [`answer`] and [`batch`].
 #![tactic(auto)]
 
-mod answer;
-mod batch;
-mod part;
+mod list;
 
-pub use answer::{Answered, answer};
-pub use batch::batch;
+mod part;
+mod run;
+
+pub use list::batch;
+
 pub use part::{Part, Silent, Watch};
+pub use run::{Answered, answer};

@@ -39,7 +39,8 @@ fn serve_folder<W: Write>(
     let command = read_command(alloc, words)?;
     let mut odb = Odb::open(rt, folder, kind_of(&command))?;
     let mut part = Part::of_command(alloc, keys, &command, None)?;
-    part.read_all(&mut odb, None, &mut Silent)?;
+    let mut silent = Silent;
+    part.read_all(&mut odb, None, &mut silent)?;
     run_named(alloc, words, part.gathering.objects(), None, writer)?;
     Ok(())
 }

@@ -1,4 +1,4 @@
-use Rattle.std.proofs.Common.{◌≡◌, Ok, Err, IfOk, IfErr, [], Some, refl, ap, sym, subst, map, string_bytes, ◌∙◌}
+use Rattle.std.proofs.Common.{◌≡◌, Err, IfOk, IfErr, [], Some, refl, ap, subst, map, string_bytes, ◌∙◌}
 use Rattle.std.proofs.lemmas.Result.{err_from_is_err_and}
 use Rattle.gix_object.specs.Object.{Objects}
 use Rattle.gix_graph_store.specs.WithRows.{with_rows}
@@ -19,11 +19,36 @@ returns-in_err-listing-clause-fails c =
     let p = err_from_is_err_and c.from_residual.result c.from_residual.ensures.1 in
     if_err (FailsOver (map string_bytes c.args.words.now) c.args.objects.now) _ _ (p.1 ∙ ap (λ f. Err f) p.2) (fails_over_words (map string_bytes c.args.words.now) c.args.objects.now c.in_err-listing.ensures.err)
 
+-- these objects, by the page
+abbrev IsOf : Objects → page.Objects → Type 0
+IsOf o given = page.AreNamed given × (given ≡ page_objects o)
+
 pub returns-clause-whole : goal.returns-clause-whole
-returns-clause-whole c = ?
+returns-clause-whole c =
+    let words = map string_bytes c.args.words.now in
+    let o = c.args.objects.now in
+    let l = c.in_ok-listing.listing in
+    let given = (are_named o c.store.ensures.named, refl) in
+    let ok = subst (λ (x : Objects). IfOk c.batch_of.result (λ batch. FillsBy (readable (reads_all_lines (Commits l.order l.limit l.tips.items l.hidden.items)) (with_rows [] x)) l.limit l.tips.items l.hidden.items c.args.skip c.args.commits.now c.batch_of.new.commits c.args.parents.now c.batch_of.new.parents batch l.order)) c.store.ensures.exact c.batch_of.ensures.ok in
+    filled_promised words o (IsOf o) given (FailsOver words o) l.limit l.tips.items l.hidden.items l.order c.in_ok-listing.ensures.ok
+    (served_over words o (IsOf o) given l.order l.limit l.tips.items l.hidden.items c.in_ok-listing.ensures.ok) c.args.skip c.args.commits.now c.batch_of.new.commits c.args.parents.now c.batch_of.new.parents c.batch_of.result ok
 
 pub returns-clause-ending : goal.returns-clause-ending
-returns-clause-ending c = ?
+returns-clause-ending c =
+    let words = map string_bytes c.args.words.now in
+    let o = c.args.objects.now in
+    let l = c.in_ok-listing.listing in
+    let given = (are_named o c.store.ensures.named, refl) in
+    let ok = subst (λ (x : Objects). IfOk c.batch_of.result (λ batch. FillsBy (readable (reads_all_lines (Commits l.order l.limit l.tips.items l.hidden.items)) (with_rows [] x)) l.limit l.tips.items l.hidden.items c.args.skip c.args.commits.now c.batch_of.new.commits c.args.parents.now c.batch_of.new.parents batch l.order)) c.store.ensures.exact c.batch_of.ensures.ok in
+    filled_fails words o (IsOf o) given (FailsOver words o) l.limit l.tips.items l.hidden.items l.order c.in_ok-listing.ensures.ok
+    (served_over words o (IsOf o) given l.order l.limit l.tips.items l.hidden.items c.in_ok-listing.ensures.ok) c.args.skip c.args.commits.now c.batch_of.new.commits c.args.parents.now c.batch_of.new.parents c.batch_of.result ok
 
 pub returns-clause-fails : goal.returns-clause-fails
-returns-clause-fails c = ?
+returns-clause-fails c =
+    let words = map string_bytes c.args.words.now in
+    let o = c.args.objects.now in
+    let l = c.in_ok-listing.listing in
+    let given = (are_named o c.store.ensures.named, refl) in
+    let err = subst (λ (x : Objects). IfErr c.batch_of.result (λ e. Serves (readable (reads_all_lines (Commits l.order l.limit l.tips.items l.hidden.items)) (with_rows [] x)) [] (Some []) (Commits l.order l.limit l.tips.items l.hidden.items) (Err e) (Some []))) c.store.ensures.exact c.batch_of.ensures.err in
+    unstarted_fails words o (IsOf o) given (FailsOver words o) l.limit l.tips.items l.hidden.items l.order c.in_ok-listing.ensures.ok
+    (served_over words o (IsOf o) given l.order l.limit l.tips.items l.hidden.items c.in_ok-listing.ensures.ok) c.batch_of.result err c.batch_of.ensures.unwritten

@@ -56,7 +56,8 @@ where
     R: Files + AllocGlobal + Clone + Drop,
     R::File: FileExt,
 {
-    part.read_first(odb, None, &mut Silent)?;
+    let mut silent = Silent;
+    part.read_first(odb, None, &mut silent)?;
     for _ in 0..MOST_READINGS {
         if part.gathering.is_all_read() {
             break;
@@ -64,7 +65,7 @@ where
         let Some(id) = lacks(alloc, words, part, count) else {
             break;
         };
-        if !part.read_for(&id, odb, None, &mut Silent)? {
+        if !part.read_for(&id, odb, None, &mut silent)? {
             break;
         }
     }
