@@ -6,11 +6,9 @@
 #![tactic(auto)]
 
 mod list;
-
 mod part;
 mod run;
 
 pub use list::batch;
-
 pub use part::{Part, Silent, Watch};
 pub use run::{Answered, answer};
