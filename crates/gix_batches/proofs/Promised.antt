@@ -156,37 +156,37 @@ module _ (words : List (List ℕ)) (objects : Objects) (AreGiven : page.Objects 
     seen_by order = readable (reads_all_lines (Commits order limit tips hidden)) objects
 
     by_order : (order : Order) → IsServed order → AreWordsOf words (Ok (Commits order limit tips hidden)) → FillsBy (seen_by order) limit tips hidden skip old new rooms filled batch order → IsPromised
-    by_order order served (name, option, rest, those, is, named, chosen, limits, ids, some) (breadth {m = m} walk starts f) =
+    by_order order how (name, option, rest, those, is, named, chosen, limits, ids, some) (breadth {m = m} walk starts f) =
         let request = Commits (Simple m sorting.BreadthFirst) limit tips hidden in
         let o = seen_by (Simple m sorting.BreadthFirst) in
         both_so words objects AreGiven given FailsSo skip old new rooms filled request Answers IsWalkFault limit walk batch f
         (subst (ShowsDrawn o Answers IsWalkFault limit walk) (sym is) (shown_breadth o (none_agree o [] refl) (unrowed_read o) name option rest those limit tips hidden some ids limits m sorting.BreadthFirst named chosen (have_texts request objects) walk starts refl))
-        served (λ infos e ends. serves_walk o [] (Some []) m sorting.BreadthFirst limit tips hidden (Some (lines_of infos)) walk refl starts (Err e) (written (record { infos = infos; ends = ends; appends = refl })))
+        how (λ infos e ends. serves_walk o [] (Some []) m sorting.BreadthFirst limit tips hidden (Some (lines_of infos)) walk refl starts (Err e) (written (record { infos = infos; ends = ends; appends = refl })))
         (simple_by limit walk)
-    by_order order served (name, option, rest, those, is, named, chosen, limits, ids, some) (timed {m = m} {by = by} walk other starts f) =
+    by_order order how (name, option, rest, those, is, named, chosen, limits, ids, some) (timed {m = m} {by = by} walk other starts f) =
         let request = Commits (Simple m by) limit tips hidden in
         let o = seen_by (Simple m by) in
         let checked : CheckedWalk = record { walk = walk; objects = o; rows = []; lost = None } in
         both_so words objects AreGiven given FailsSo skip old new rooms filled request Checks IsItself limit checked batch f
         (subst (ShowsDrawn o Checks IsItself limit checked) (sym is) (shown_timed o (none_agree o [] refl) (unrowed_read o) name option rest those limit tips hidden some ids limits m by named chosen (have_texts request objects) walk starts))
-        served (λ infos e ends. serves_checked o [] (Some []) m by limit tips hidden (Some (lines_of infos)) walk checked refl other starts (Err e) (written (record { infos = infos; ends = ends; appends = refl })))
+        how (λ infos e ends. serves_checked o [] (Some []) m by limit tips hidden (Some (lines_of infos)) walk checked refl other starts (Err e) (written (record { infos = infos; ends = ends; appends = refl })))
         (checked_by o walk limit)
-    by_order order served (name, option, rest, those, is, named, plain, limits, ids, some) (down {by = by} walk built f) =
+    by_order order how (name, option, rest, those, is, named, plain, limits, ids, some) (down {by = by} walk built f) =
         let request = Commits (Topo by) limit tips hidden in
         let o = seen_by (Topo by) in
         both_so words objects AreGiven given FailsSo skip old new rooms filled request topo.Answers topo.IsWalkFault limit walk batch f
         (subst (ShowsDrawn o topo.Answers topo.IsWalkFault limit walk) (sym is) (shown_down o (none_agree o [] refl) (unrowed_read o) name option rest those limit tips hidden some ids limits by named plain (have_texts request objects) walk built))
-        served (λ infos e ends. serves_topo o [] (Some []) by limit tips hidden (Some (lines_of infos)) walk built (Err e) (written (record { infos = infos; ends = ends; appends = refl })))
+        how (λ infos e ends. serves_topo o [] (Some []) by limit tips hidden (Some (lines_of infos)) walk built (Err e) (written (record { infos = infos; ends = ends; appends = refl })))
         (topo_by limit walk)
 
   -- THE LAW: what a walk filled is promised
-  module _ (order : Order) (asked : request_of words ≡ Ok (Commits order limit tips hidden)) (served : IsServed order) where
+  module _ (order : Order) (asked : request_of words ≡ Ok (Commits order limit tips hidden)) (how : IsServed order) where
     abbrev pub FillsFrom : (skip : ℕ) (old new : List Commit) (rooms filled : List CommitId) → Batch → Type 0
     FillsFrom skip old new rooms filled batch = FillsBy (readable (reads_all_lines (Commits order limit tips hidden)) (with_rows [] objects)) limit tips hidden skip old new rooms filled batch order
 
     promised : (skip : ℕ) (old new : List Commit) (rooms filled : List CommitId) (batch : Batch) → FillsFrom skip old new rooms filled batch → IsPromised skip old new rooms filled batch
     promised skip old new rooms filled batch f =
-        by_order skip old new rooms filled batch order served (subst (AreWordsOf words) asked (are_words words))
+        by_order skip old new rooms filled batch order how (subst (AreWordsOf words) asked (are_words words))
         (subst (λ (o : Objects). FillsBy (readable (reads_all_lines (Commits order limit tips hidden)) o) limit tips hidden skip old new rooms filled batch order) (without_rows objects) f)
 
     -- of a walk that could start
@@ -203,7 +203,7 @@ module _ (words : List (List ℕ)) (objects : Objects) (AreGiven : page.Objects 
         → IfErr result (λ e. e ≢ fault.Write) → IfErr result FailsSo
     unstarted_fails (Ok batch) s unwritten = tt
     unstarted_fails (Err e) s unwritten =
-        served e [] (subst (λ (o : Objects). Serves (readable (reads_all_lines (Commits order limit tips hidden)) o) [] (Some []) (Commits order limit tips hidden) (Err e) (Some [])) (without_rows objects) s) unwritten
+        how e [] (subst (λ (o : Objects). Serves (readable (reads_all_lines (Commits order limit tips hidden)) o) [] (Some []) (Commits order limit tips hidden) (Err e) (Some [])) (without_rows objects) s) unwritten
 
 -- RECORDS: why a batch over them fails
 module _ (words : List (List ℕ)) (records : List ℕ) where

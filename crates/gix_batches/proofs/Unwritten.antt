@@ -93,4 +93,4 @@ words_unwritten words e h = λ is. subst OfWords (h (λ memory. cc) ∙ ap (λ x
 
 pub records_unwritten : {text : List ℕ} {e : RecordsError} → IsRecordFault text e → fault_of_records e ≢ fault.Write
 records_unwritten (bad b) = λ e. cc
-records_unwritten (no_memory before r rest behind begins is) = λ e. cc
+records_unwritten (no_memory front r rest behind begins is) = λ e. cc

@@ -128,8 +128,8 @@ fn try_named(
     ensures parents_stay { IfErr result (λ e. parents.new ≡ parents.old) }
 {
     let listing = Listing::read(alloc, words)?;
-    let store = objects.store();
-    batch_of(alloc, listing, &store, skip, commits, parents)
+    let lent = objects.store();
+    batch_of(alloc, listing, &lent, skip, commits, parents)
 }
 
 /// Fills the slices from the walk that a list asks for, over what is stored.
