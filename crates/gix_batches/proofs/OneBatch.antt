@@ -218,20 +218,23 @@ module _ (words : List (List ℕ)) (AreGiven : Objects → Type 0) (none_clash :
         let c = cut_same b.skipped a.skipped others (told ++ p.0) (y ∙ sym x) (p.1 ∙ append_assoc a.skipped told p.0) in (
           (p.0, c.1),
           λ e.
-          let up = no_longer in
-          let down = no_shorter e in
-          let none : length (told ++ p.0) ≡ length told = length-append told p.0 ∙ omega (arith, up, down) in
-          sym (c.1 ∙ ap (λ xs. told ++ xs) (empty_when_short told p.0 none) ∙ append-nil told),
+              let up = no_longer in
+              let down = no_shorter e in
+              let none : length (told ++ p.0) ≡ length told = length-append told p.0 ∙ omega (arith, up, down) in
+              sym (c.1 ∙ ap (λ xs. told ++ xs) (empty_when_short told p.0 none) ∙ append-nil told),
         )
 
     -- the first has skipped fewer
     one_skipped : length a.skipped < skip → told ≡ [] → Beginning
-    one_skipped less none = ((others, ap (λ xs. xs ++ others) (sym none)), λ e. none ∙ sym (⊎_elim
-        (λ y.
-        let down = no_shorter e in
-        let zero : length told ≡ 0 = ap length none in
-        absurd (omega (arith, down, long_one, long_other, zero, less, y)))
-        (λ (h : (length b.skipped < skip) × (others ≡ []) × IsOver Ended). h.1) b.passed))
+    one_skipped less none = (
+      (others, ap (λ xs. xs ++ others) (sym none)),
+      λ e. none ∙ sym (⊎_elim
+          (λ y.
+          let down = no_shorter e in
+          let zero : length told ≡ 0 = ap length none in
+          absurd (omega (arith, down, long_one, long_other, zero, less, y)))
+          (λ (h : (length b.skipped < skip) × (others ≡ []) × IsOver Ended). h.1) b.passed),
+    )
 
     -- the second has
     other_skipped : length a.skipped ≡ skip → length b.skipped < skip → others ≡ [] → Beginning

@@ -14,7 +14,6 @@ pub use names::Names;
 pub use opened::Opened;
 use std::alloc::{AllocError, Global};
 
-
 /// A file of a folder, by its path below the folder, as `objects/pack/pack-1.idx`. A path that ends in `/` says that there is a folder.
 #[repr(C)]
 #[derive(Clone, Copy)]

@@ -82,11 +82,7 @@ pub fn resolve_in_folder(
 }
 
 /// The lines that a command writes over a repository. A writer in memory fails for memory alone.
-fn folder_lines(
-    alloc: Global,
-    words: &[u8],
-    files: &[NamedFile<'_>],
-) -> Result<Vec<u8>, Trouble>
+fn folder_lines(alloc: Global, words: &[u8], files: &[NamedFile<'_>]) -> Result<Vec<u8>, Trouble>
     ensures { IfOk result (λ lines. PromisesNamed words.now lines.items) }
 {
     let words = words_of(alloc, words)?;
@@ -131,11 +127,7 @@ fn folder_batch(
 }
 
 /// The words of a command over ids.
-fn folder_words(
-    alloc: Global,
-    words: &[u8],
-    files: &[NamedFile<'_>],
-) -> Result<Vec<u8>, Trouble> {
+fn folder_words(alloc: Global, words: &[u8], files: &[NamedFile<'_>]) -> Result<Vec<u8>, Trouble> {
     let words = words_of(alloc, words)?;
     let place = Place::GitDir(String::from_str(alloc, TOP)?);
     let question = read_question(alloc, place, &words)?;

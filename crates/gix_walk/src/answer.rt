@@ -155,7 +155,13 @@ impl Asking<'_> {
         let mut part = Part::of(Gathering::trees(alloc, self.keys, &root)?, None);
         part.read_all(&mut repository.odb, None, &mut self.progress)?;
         let words = self.chosen.words(alloc, self.keys, self.question)?;
-        run_named(alloc, words.as_slice(), part.gathering.objects(), None, output)?;
+        run_named(
+            alloc,
+            words.as_slice(),
+            part.gathering.objects(),
+            None,
+            output,
+        )?;
         Ok(0)
     }
 
@@ -201,7 +207,8 @@ impl Asking<'_> {
         }
         let least = self.least();
         let order = match self.question.name {
-            Name::Newest | Name::Contains | Name::IsAncestor if least.is_some() => Order::NewestFirst,
+            Name::Newest | Name::Contains | Name::IsAncestor if least.is_some() =>
+                Order::NewestFirst,
             Name::Oldest if least.is_some() => Order::OldestFirst,
             _ => Order::Met,
         };
@@ -277,7 +284,14 @@ impl Asking<'_> {
         let alloc = self.rt.alloc();
         let words = self.chosen.words(alloc, self.keys, self.question)?;
         let odb = &mut repository.odb;
-        let answered = answer_from(alloc, words.as_slice(), part, odb, graph, &mut self.progress)?;
+        let answered = answer_from(
+            alloc,
+            words.as_slice(),
+            part,
+            odb,
+            graph,
+            &mut self.progress,
+        )?;
         self.write_lines(answered.lines.as_slice(), output)?;
         in_memory(answered.ended)?;
         Ok(answered.lines)
