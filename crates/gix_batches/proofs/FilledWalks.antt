@@ -1,12 +1,13 @@
 -- What a walk that was started fills.
-use Rattle.std.proofs.Common.{◌≡◌, ℕ, List, [], Option, Some, Result, Err, IfErr, sym, subst}
+use Rattle.std.proofs.Common.{◌≡◌, ◌≢◌, ◌∙◌, ℕ, Bool, true, false, MatchBool, List, [], Option, Some, Result, Ok, Err, IfErr, ap, sym, subst}
 use Rattle.gix_hash.specs.declared.ObjectId.{ObjectId}
 use Rattle.gix_object.specs.Object.{Objects}
 use Rattle.gix_revwalk.specs.declared.Parents.{Parents}
 use Rattle.gix_simple.specs.declared.Sorting.{Sorting}
 use Rattle.gix_simple.specs.declared.Sorting.TheVariants as sorting
 use Rattle.gix_words.specs.declared.fault.Fault.{Fault}
-use Rattle.gix_words.specs.Words.{Commits}
+use Rattle.gix_words.specs.Words.{Commits, request_of}
+use Rattle.gix_words.specs.declared.words.Shown.{Shown}
 use Rattle.gix_words.specs.declared.words.Order.{Order}
 use Rattle.gix_words.specs.declared.words.Order.TheVariants.{Simple}
 use Rattle.gix_commands.specs.Readable.{readable, reads_all_lines}
@@ -18,6 +19,19 @@ use Rattle.gix_batches.specs.declared.commit.CommitId.{CommitId}
 use Rattle.gix_batches.specs.Batches.{all_lines_to}
 use Rattle.gix_batches.specs.Draws.{Fills}
 use Rattle.gix_batches.specs.Walks.{FillsBy, breadth}
+
+-- what the test of the lines says
+pub all_if : (shown : Shown) (b : Bool) → b ≡ true → MatchBool b (shown ≡ all_lines_to shown.limit) (shown ≢ all_lines_to shown.limit) → shown ≡ all_lines_to shown.limit
+all_if shown true e h = h
+all_if shown false e h = cc
+
+pub others_if : (shown : Shown) (b : Bool) → b ≡ false → MatchBool b (shown ≡ all_lines_to shown.limit) (shown ≢ all_lines_to shown.limit) → shown ≢ all_lines_to shown.limit
+others_if shown true e h = cc
+others_if shown false e h = h
+
+-- words that ask for lines which are all
+pub asked_all : (words : List (List ℕ)) (order : Order) (shown : Shown) (limit : Option ℕ) (tips hidden : List ObjectId) → request_of words ≡ Ok (Commits order shown tips hidden) → shown ≡ all_lines_to limit → request_of words ≡ Ok (Commits order (all_lines_to limit) tips hidden)
+asked_all words order shown limit tips hidden asked is = asked ∙ ap (λ s. Ok (Commits order s tips hidden)) is
 
 pub if_err : {A : Type 0} (P : Fault → Type 0) (r : Result A Fault) (e : Fault) → r ≡ Err e → P e → IfErr r P
 if_err {A} P r e is p = subst (λ (x : Result A Fault). IfErr x P) (sym is) p

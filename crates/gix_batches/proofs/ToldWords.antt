@@ -43,13 +43,13 @@ word_free word words other = λ e. other (ap (λ ws. length (first_word ws)) e)
 -- behind it no word is this option
 pub behind_free : {place : ℕ} {words : List (List ℕ)} {c : Choice} (tips hidden : List ObjectId) → Chooses tips hidden place words c → take 1 words ≢ codes "--first-parent" ∷ []
 behind_free tips hidden (everything {words = words} are) = tips_free words tips hidden are
-behind_free tips hidden (until n is late more) = word_free (codes "--until") _ (λ e. omega (arith, e))
-behind_free tips hidden (merges late more) = word_free (codes "--merges") _ (λ e. omega (arith, e))
-behind_free tips hidden (no_merges late more) = word_free (codes "--no-merges") _ (λ e. omega (arith, e))
-behind_free tips hidden (skip n is late more) = word_free (codes "--skip") _ (λ e. omega (arith, e))
-behind_free tips hidden (at_most n is late more) = word_free (codes "-n") _ (λ e. omega (arith, e))
-behind_free tips hidden (counted late more) = word_free (codes "--count") _ (λ e. omega (arith, e))
-behind_free tips hidden (reversed late more) = word_free (codes "--reverse") _ (λ e. omega (arith, e))
+behind_free tips hidden (until {number = number} {words = words} n is late more) = word_free (codes "--until") (number ∷ words) (λ e. omega (arith, e))
+behind_free tips hidden (merges {words = words} late more) = word_free (codes "--merges") words (λ e. omega (arith, e))
+behind_free tips hidden (no_merges {words = words} late more) = word_free (codes "--no-merges") words (λ e. omega (arith, e))
+behind_free tips hidden (skip {number = number} {words = words} n is late more) = word_free (codes "--skip") (number ∷ words) (λ e. omega (arith, e))
+behind_free tips hidden (at_most {number = number} {words = words} n is late more) = word_free (codes "-n") (number ∷ words) (λ e. omega (arith, e))
+behind_free tips hidden (counted {words = words} late more) = word_free (codes "--count") words (λ e. omega (arith, e))
+behind_free tips hidden (reversed {words = words} late more) = word_free (codes "--reverse") words (λ e. omega (arith, e))
 
 first_alone : (ids : List ObjectId) → by_mode mode.First ids ≡ take 1 ids
 first_alone [] = refl
@@ -82,3 +82,8 @@ module _ (r : Row) (name : List ℕ) (option rest : List (List ℕ)) (free : tak
   pub says_down : (by : TopoSorting) → IsNameOf name (Topo by) → Says r (name ∷ (option ++ rest)) (told_down r)
   says_down topo.TopoOrder named = named_so (codes "topo") _ named (timed (2, omega arith, refl))
   says_down topo.DateOrder named = named_so (codes "date") _ named (timed (3, omega arith, refl))
+
+pub says_id : (r : Row) (words : List (List ℕ)) (t : Told) → Says r words t → t.id ≡ r.id
+says_id r words t (breadth free) = refl
+says_id r words t first = refl
+says_id r words t (timed c) = refl

@@ -1,7 +1,7 @@
 mod Common
-mod WordFaults
+pub mod WordFaults
 pub mod WalkFaults
-mod MemoryFaults
+pub mod MemoryFaults
 mod OutputFacts
 mod WrittenForms
 mod ChosenFacts
@@ -13,7 +13,7 @@ mod TopoInternalFacts
 mod FileFacts
 mod NotedNames
 mod ListerFacts
-mod LostParents
+pub mod LostParents
 mod RowedParents
 pub mod CheckedWalks
 mod CheckedSteps
@@ -66,7 +66,7 @@ pub mod PageCommits
 mod PageTexts
 mod PageLists
 mod OrderNames
-mod WrittenBytes
+pub mod WrittenBytes
 pub mod RightSimple
 pub mod RightTopo
 pub mod RightRuns
@@ -75,7 +75,7 @@ pub mod ReadableTexts
 mod ReachedIsRead
 pub mod SameCommitsThere
 mod RowsAsTexts
-mod NamedOnes
+pub mod NamedOnes
 mod Promised
 mod PromisedRuns
 mod SortedRows

@@ -3,7 +3,6 @@
 #![tactic(auto)]
 
 mod answer;
-mod chosen;
 mod failure;
 mod graph;
 mod help;
@@ -11,7 +10,6 @@ mod named;
 mod output;
 mod progress;
 mod records;
-mod symmetric;
 
 use failure::Failure;
 use gix_commands::Fault;
