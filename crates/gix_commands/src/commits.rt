@@ -9,7 +9,7 @@ ghost use Rattle.gix_commands.specs.Walked.{IsStartFault, StartsFrom};
 use crate::texts::make_readable;
 use gix_graph_store::WithRows;
 use gix_parts::graph::Graph;
-use gix_parts::hash::ObjectId;
+use gix_parts::hash::{Keys, ObjectId};
 use gix_parts::object::Kind;
 use gix_parts::object::find::{self, Find};
 use gix_parts::records::LentStore;
@@ -66,6 +66,10 @@ impl Find for Lent<'_> {
         };
         make_readable(self.parents, id, kind, buf)?;
         Ok(Some(kind))
+    }
+
+    fn keys(&self) -> Keys {
+        self.store.keys()
     }
 }
 

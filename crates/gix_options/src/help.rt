@@ -146,7 +146,7 @@ with a name that is empty or holds a slash.
                --max-count=2 are the same as -n 2
   --skip NUMBER
                leaves out so many lines first, in the first five commands, and -n counts those behind them
-  --merges     leaves out the commits of fewer than two parents, in the first five commands; --no-merges those of more than one
+  --merges     takes the commits of two parents and more alone, in the first five commands; --no-merges takes those of one and none
   --until TIME leaves out the commits of a later time, in the first five commands, and goes on from them. --before TIME is the same
   --reverse    writes the lines of the first five commands with the last first, as --skip and -n have chosen them
   --count      writes the number of these lines and not the lines
