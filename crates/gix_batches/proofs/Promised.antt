@@ -8,7 +8,6 @@ use Rattle.gix_graph_store.specs.WithRows.{with_rows}
 use Rattle.gix_object.specs.Object.{Objects}
 use Rattle.gix_records.specs.Input.{Tells}
 use Rattle.gix_records.specs.Reading.{IsReadFrom}
-use Rattle.gix_records.specs.Records.{AreRecords, Record, stored}
 use Rattle.gix_revwalk.proofs.Rows.{none_agree}
 use Rattle.gix_revwalk.specs.declared.Info.{Info}
 use Rattle.gix_statement.specs.WholeStatement as page

@@ -1,4 +1,4 @@
-use Rattle.std.proofs.Common.{Ok, Err, IfErr, map, string_bytes, ap, ◌∙◌}
+use Rattle.std.proofs.Common.{Ok, Err, map, string_bytes, ap, ◌∙◌}
 use Rattle.std.proofs.lemmas.Result.{err_from_is_err_and}
 use Rattle.gix_words.specs.Words.{request_of_command}
 use Rattle.gix_batches.specs.Batches.{AsksForNone, asks_another, rejected}
