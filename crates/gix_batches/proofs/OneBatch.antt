@@ -1,10 +1,9 @@
 -- Batches one behind another are one batch, and from one place there is one list.
-use Rattle.std.proofs.Common.{◌≡◌, ◌≢◌, ◌⊎◌, ◌<◌, ◌+◌, ℕ, ℤ, Bool, true, false, List, [], ◌∷◌, ◌++◌, map, flat_map, length, take, Option, Some, None, Contains, codes, refl, sym, ap, subst, ◌∙◌, inl, inr, ⊎_elim, arith, length-append, append_assoc, append-nil}
+use Rattle.std.proofs.Common.{◌≡◌, ◌⊎◌, ◌<◌, ◌+◌, ℕ, Bool, true, false, List, [], ◌∷◌, ◌++◌, map, flat_map, length, take, Option, Some, None, Contains, codes, refl, sym, ap, subst, ◌∙◌, inl, inr, ⊎_elim, arith, length-append, append_assoc, append-nil}
 use Rattle.std.specs.List.{AllByRecursion}
-use Rattle.std.proofs.lemmas.List.{length-map, map-append}
 use Rattle.gix_hash.specs.declared.ObjectId.{ObjectId}
 use Rattle.gix_hash.proofs.Ids.Membership.{no_member}
-use Rattle.gix_statement.specs.WholeStatement.{Agree, AreFed, Clash, IsHistory, Objects, Row, id_line}
+use Rattle.gix_statement.specs.WholeStatement.{Agree, AreFed, Clash, Objects, Row, id_line}
 use Rattle.gix_statement.proofs.FedOnce.{fed_once}
 use Rattle.gix_statement.proofs.HaveHistory.{have_history}
 use Rattle.gix_statement.proofs.LinesOnce.{IsSpelled, lines_front}

@@ -1,5 +1,5 @@
 -- No fault of words, of records or of a walk is a writer's.
-use Rattle.std.proofs.Common.{◌≡◌, ◌≢◌, ℕ, List, [], Option, Some, None, Result, Ok, Err, IfErr, refl, sym, ap, subst, ◌∙◌}
+use Rattle.std.proofs.Common.{◌≡◌, ◌≢◌, ℕ, List, [], Option, Some, None, Result, Err, refl, sym, ap, subst, ◌∙◌}
 use Rattle.gix_hash.specs.declared.ObjectId.{ObjectId}
 use Rattle.gix_object.specs.Object.{Objects}
 use Rattle.gix_object.specs.declared.find.existing_iter.Error.{Error as ExistingError}
@@ -18,7 +18,7 @@ use Rattle.gix_words.specs.Faults.{fault_of_find, fault_of_records, fault_of_top
 use Rattle.gix_words.specs.Words.{request_of}
 use Rattle.gix_words.specs.declared.fault.Fault.{Fault}
 use Rattle.gix_words.specs.declared.fault.Fault.TheVariants as fault
-use Rattle.gix_commands.specs.Checked.{CheckedWalk, Checks, LacksParent}
+use Rattle.gix_commands.specs.Checked.{Checks}
 use Rattle.gix_commands.specs.TopoWalked as topo
 use Rattle.gix_commands.specs.Walked.{Answers, Ends, EndsBy, IsStartFault, IsWalkFault, Walk, before, cut_short, enough, failed, finished}
 use Rattle.gix_commands.proofs.CheckedWalks.{IsChecked, from_by, lacking, well}

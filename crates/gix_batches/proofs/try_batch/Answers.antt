@@ -1,4 +1,4 @@
-use Rattle.std.proofs.Common.{Some, Ok, Err, refl, ap, map, string_bytes, ◌∙◌}
+use Rattle.std.proofs.Common.{Some, Err, refl, ap, map, string_bytes, ◌∙◌}
 use Rattle.std.proofs.lemmas.Result.{err_from_is_err_and}
 use Rattle.gix_records.proofs.ReadingFacts.{read_from}
 use Rattle.gix_statement.specs.WholeStatement.{AreFed}

@@ -1,4 +1,4 @@
-use Rattle.std.proofs.Common.{◌≡◌, true, false, Ok, Err, IfErr, map, string_bytes, arith, ap, ◌∙◌}
+use Rattle.std.proofs.Common.{◌≡◌, true, false, Ok, Err, map, string_bytes, arith, ap, ◌∙◌}
 use Rattle.std.proofs.lemmas.Grind.{common_steps}
 use Rattle.std.proofs.lemmas.Result.{err_from_is_err_and}
 use Rattle.gix_words.specs.Words.{Commits, request_of_command}
