@@ -14,7 +14,7 @@ use Rattle.gix_revwalk.specs.Texts.{text_next}
 use Rattle.gix_revwalk.specs.declared.Info.{Info}
 use Rattle.gix_statement.specs.WholeStatement as page
 use Rattle.gix_statement.specs.WholeStatement.{AreFed, Entry, IsCommit, IsTree, Lists, Row, id_line}
-use Rattle.gix_statement.proofs.LinesOnce.{IsSpelled, fed_spelled, named_spelled}
+use Rattle.gix_statement.proofs.LinesOnce.{IsSpelled, fed_spelled}
 use Rattle.gix_words.specs.Words.{Commits, Request, request_of}
 use Rattle.gix_words.specs.declared.fault.Fault.{Fault}
 use Rattle.gix_words.specs.declared.fault.Fault.TheVariants as fault

@@ -387,10 +387,10 @@ module _ (parents : ObjectId → List ObjectId) (time : ObjectId → ℤ) where
       (λ r lines e. lines_more c.form (chosen parents time c others) (chosen parents time c ids) r full bytes lines full_so is_written e) in
       let before : close ≡ true → (left : List ℕ) × (full ≡ bytes ++ left) =
       (λ l. ⊎_elim (λ e. ([], sym (append-nil bytes ∙ same e l)))
-          (λ lines. let b = begun_before parents followed time starts hidden c by ids others [] ids others begins allows (whole_too l) refl refl in up b.0 lines b.1) may) in
+      (λ lines. let b = begun_before parents followed time starts hidden c by ids others [] ids others begins allows (whole_too l) refl refl in up b.0 lines b.1) may) in
       let behind : end ≡ true → (left : List ℕ) × (bytes ≡ full ++ left) =
       (λ e. ⊎_elim (λ l. ([], sym (append-nil full ∙ sym (same e l))))
-          (λ lines. let b = begun_before parents followed time starts hidden c by others ids [] others ids begun_too allowed_too (begins, allows, ended e) refl refl in down b.0 lines b.1) can_too) in
+      (λ lines. let b = begun_before parents followed time starts hidden c by others ids [] others ids begun_too allowed_too (begins, allows, ended e) refl refl in down b.0 lines b.1) can_too) in
       record {
         either = ⊎_elim (λ e. inr (behind e))
             (λ lines. ⊎_elim (λ b. inl (up b.0 lines b.1)) (λ b. inr (down b.0 lines b.1))
