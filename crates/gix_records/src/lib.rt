@@ -78,7 +78,7 @@ impl From<AllocError> for Error {
 ///
 /// # Examples
 ///
-/// In a program's `main`, under the name that users have for it (the whole is in docs/LIBRARY.md):
+/// In a program's `main`, under the name that users have for it (the whole is in crates/gix_example):
 ///
 /// ```rust
 ///     let store = records::read(alloc, Keys::random(rt)?, &mut rt.stdin())?;

@@ -5,7 +5,7 @@ use gix_odb::Odb;
 use gix_parts::graph::Graph;
 use gix_parts::hash::{Keys, ObjectId};
 use gix_traverse::commit::simple::{CommitTimeOrder, Sorting};
-use gix_words::{self as words, Command};
+use gix_words::{self as words, Command, Shown};
 use std::alloc::{AllocError, Global};
 use std::fs::Files;
 use std::os::unix::fs::FileExt;
@@ -70,14 +70,14 @@ impl Part {
             }
             Command::Commits {
                 order,
-                limit,
+                shown,
                 tips,
                 hidden,
             } => {
                 ids.extend_from_slice(tips.as_slice())?;
                 ids.extend_from_slice(hidden.as_slice())?;
                 let is_alone = hidden.is_empty();
-                (order_of(order), least_of(order, *limit, most, is_alone))
+                (order_of(order), least_of(order, shown, most, is_alone))
             }
             Command::Ahead { one, other } => {
                 ids.push(*one)?;
@@ -190,17 +190,17 @@ fn order_of(order: &words::Order) -> Order {
     }
 }
 
-/// How many commits of a list are asked for, where it needs no others: those of a walk by one step in which nothing is hidden.
+/// How many commits of a list are asked for or skipped, where it needs no others: those of a walk by one step in which nothing is hidden.
 fn least_of(
     order: &words::Order,
-    limit: Option<u64>,
+    shown: &Shown,
     most: Option<usize>,
     is_alone: bool,
 ) -> Option<usize> {
     match order {
-        words::Order::Simple { .. } if is_alone => match (limit, most) {
-            (Some(limit), Some(most)) => Some(most.min(limit as usize)),
-            (Some(limit), None) => Some(limit as usize),
+        words::Order::Simple { .. } if is_alone => match (shown.limit, most) {
+            (Some(limit), Some(most)) => Some(most.min(limit.saturating_add(shown.skip) as usize)),
+            (Some(limit), None) => Some(limit.saturating_add(shown.skip) as usize),
             (None, most) => most,
         },
         _ => None,
