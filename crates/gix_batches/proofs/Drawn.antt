@@ -13,7 +13,7 @@ use Rattle.gix_batches.specs.declared.commit.CommitId.{CommitId}
 use Rattle.gix_batches.specs.declared.commit.Ending.{Ending}
 use Rattle.gix_batches.specs.declared.commit.Ending.TheVariants.{Ended, More, Small, Failed}
 use Rattle.gix_commands.specs.Walked.{AsksForMore, Ends, EndsBy, before, enough, failed as fell, finished, cut_short, given}
-use Rattle.gix_batches.specs.Draws.{Draws, ended, failed, more, small, Fills, FillsFront, Holds, IsFull, IsSkipped, Passes, ending_at, ids_given, least_of, most_of}
+use Rattle.gix_batches.specs.Draws.{Draws, ended, failed, more, small, Fills, FillsFront, Holds, IsFull, IsOver, IsSkipped, Passes, ending_at, ids_given, least_of, most_of}
 use Rattle.gix_batches.specs.Slices.{Told, commit_of, commits_of, id_of, ids_of, told_by, told_of}
 use Rattle.gix_batches.proofs.Slots.{put_next}
 
@@ -178,22 +178,22 @@ module _ {W E : Type 0} (Steps : W → Option (Result Info E) → W → Type 0) 
         go false e l = (omega (arith, ltb-false n skip e, l), l)
 
     -- the walk stopped among those that are skipped
-    stopped : (infos : List Info) (ending : Ending) → length infos < least_of limit skip → (AsksForMore limit (length infos) → Draws Steps Tells limit walk infos ending) → IsFull (length old) (length rooms) (record { commits = 0; parents = 0; ending = ending })
+    stopped : (infos : List Info) (ending : Ending) → IsOver ending → length infos < least_of limit skip → (AsksForMore limit (length infos) → Draws Steps Tells limit walk infos ending) → IsFull (length old) (length rooms) (record { commits = 0; parents = 0; ending = ending })
         → Fills Steps Tells limit skip walk old old rooms rooms (record { commits = 0; parents = 0; ending = ending })
-    stopped infos ending less draws full =
+    stopped infos ending over less draws full =
         let within = least_within limit infos less in
         record {
           skipped = infos;
           infos = [];
           draws = subst (λ (xs : List Info). Draws Steps Tells limit walk xs ending) (sym (append-nil infos)) (draws within.0);
-          passed = inr (within.1, refl);
+          passed = inr (within.1, refl, over);
           holds = none_put old rooms ending;
           full = full;
         }
 
     pub none_filled : (ending : Ending) (last : W) → Passes Steps Tells (least_of limit skip) walk (Err ending) last → Fills Steps Tells limit skip walk old old rooms rooms (record { commits = 0; parents = 0; ending = ending })
-    none_filled Ended last p = stopped p.0 Ended p.2 (λ asks. ended (by_limit limit walk p.0 asks p.1)) tt
-    none_filled (Failed f) last p = stopped p.0 (Failed f) p.2 (λ asks. failed f (by_limit limit walk p.0 asks p.1)) tt
+    none_filled Ended last p = stopped p.0 Ended tt p.2 (λ asks. ended (by_limit limit walk p.0 asks p.1)) tt
+    none_filled (Failed f) last p = stopped p.0 (Failed f) tt p.2 (λ asks. failed f (by_limit limit walk p.0 asks p.1)) tt
     none_filled More last p = absurd p
     none_filled (Small n) last p = absurd p
 
@@ -208,7 +208,7 @@ module _ {W E : Type 0} (Steps : W → Option (Result Info E) → W → Type 0) 
       both = length-append some infos
 
       abbrev Behind : Option ℕ → Type 0
-      Behind limit = (ending : Ending) → length some ≡ least_of limit skip → Draws Steps Tells (option_map (λ n. n - skip) limit) mid infos ending → Draws Steps Tells limit walk (some ++ infos) ending × IsSkipped skip some infos
+      Behind limit = (ending : Ending) → length some ≡ least_of limit skip → Draws Steps Tells (option_map (λ n. n - skip) limit) mid infos ending → Draws Steps Tells limit walk (some ++ infos) ending × IsSkipped skip some infos ending
 
       small_more : (limit : Option ℕ) (at : W) (next : Info) → Yields Steps mid (given (infos ++ next ∷ [])) at → AsksForMore limit (length (some ++ infos)) → Draws Steps Tells limit walk (some ++ infos) (Small (length next.parent_ids.items))
       small_more limit at next h asks = small at next (subst (λ (xs : List Info). Yields Steps walk (given xs) at) (sym (append_assoc some infos (next ∷ []))) (given_more walk mid at some (infos ++ next ∷ []) passed h)) asks
@@ -220,7 +220,7 @@ module _ {W E : Type 0} (Steps : W → Option (Result Info E) → W → Type 0) 
       open_end (Small n) all (small at next h asks) = (small_more None at next h tt, inl all)
 
       abbrev From : ℕ → Bool → Type 0
-      From n t = (ending : Ending) → length some ≡ cond t n skip → Draws Steps Tells (Some (n - skip)) mid infos ending → Draws Steps Tells (Some n) walk (some ++ infos) ending × IsSkipped skip some infos
+      From n t = (ending : Ending) → length some ≡ cond t n skip → Draws Steps Tells (Some (n - skip)) mid infos ending → Draws Steps Tells (Some n) walk (some ++ infos) ending × IsSkipped skip some infos ending
 
       limited : (n : ℕ) → Behind (Some n)
       limited n = go (nat_lt n skip) refl
@@ -233,7 +233,7 @@ module _ {W E : Type 0} (Steps : W → Option (Result Info E) → W → Type 0) 
           early : nat_lt n skip ≡ true → From n true
           early less Ended all (ended (enough at h e)) =
               let l = ltb-true n skip less in
-              (ended (enough at (given_more walk mid at some infos passed h) (omega (arith, both, all, e, l, many infos, many (some ++ infos)))), inr (omega (arith, all, l), nothing infos (omega (arith, e, l, many infos))))
+              (ended (enough at (given_more walk mid at some infos passed h) (omega (arith, both, all, e, l, many infos, many (some ++ infos)))), inr (omega (arith, all, l), nothing infos (omega (arith, e, l, many infos)), tt))
           early less Ended all (ended (before ends few)) = absurd (omega (arith, few, ltb-true n skip less))
           early less (Failed f) all (failed f2 (before ends few)) = absurd (omega (arith, few, ltb-true n skip less))
           early less More all (more at h few) = absurd (omega (arith, few, ltb-true n skip less))

@@ -6,3 +6,5 @@ mod ToldWords
 mod ShownWalks
 mod FilledWalks
 mod Promised
+mod OneBatch
+mod Unwritten

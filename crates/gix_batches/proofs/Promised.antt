@@ -1,5 +1,5 @@
 -- What the slices hold is what the page promises of the records.
-use Rattle.std.proofs.Common.{◌≡◌, ◌≢◌, ◌<◌, ℕ, Bool, false, List, [], ◌∷◌, ◌++◌, flat_map, Option, Some, None, Result, Ok, Err, IfErr, IfOk, refl, sym, ap, subst, ◌∙◌, inl, inr}
+use Rattle.std.proofs.Common.{◌≡◌, ◌≢◌, ◌<◌, ℕ, Bool, false, List, [], ◌∷◌, ◌++◌, flat_map, Option, Some, None, Result, Ok, Err, IfErr, IfOk, refl, sym, ap, subst, ◌∙◌, inl, inr, arith}
 use Rattle.std.specs.List.{AllByRecursion}
 use Rattle.std.proofs.lemmas.List.{length-map, map-append}
 use Rattle.gix_hash.specs.declared.ObjectId.{ObjectId}
@@ -8,12 +8,13 @@ use Rattle.gix_graph_store.specs.WithRows.{with_rows}
 use Rattle.gix_object.specs.Object.{Objects}
 use Rattle.gix_records.specs.Input.{Tells}
 use Rattle.gix_records.specs.Reading.{IsReadFrom}
-use Rattle.gix_records.specs.Records.{AreRecords, Record, stored}
 use Rattle.gix_revwalk.proofs.Rows.{none_agree}
 use Rattle.gix_revwalk.specs.Commits.{time_of}
 use Rattle.gix_revwalk.specs.Texts.{text_next}
 use Rattle.gix_revwalk.specs.declared.Info.{Info}
-use Rattle.gix_statement.specs.WholeStatement.{Entry, IsCommit, IsTree, Lists, Row, id_line}
+use Rattle.gix_statement.specs.WholeStatement as page
+use Rattle.gix_statement.specs.WholeStatement.{AreFed, Entry, IsCommit, IsTree, Lists, Row, id_line}
+use Rattle.gix_statement.proofs.LinesOnce.{IsSpelled, fed_spelled}
 use Rattle.gix_words.specs.Words.{Commits, Request, request_of}
 use Rattle.gix_words.specs.declared.fault.Fault.{Fault}
 use Rattle.gix_words.specs.declared.fault.Fault.TheVariants as fault
@@ -36,11 +37,14 @@ use Rattle.gix_commands.specs.TopoWalked as topo
 use Rattle.gix_commands.specs.Pages.{page_objects}
 use Rattle.gix_commands.specs.Readable.{readable, reads_all_lines}
 use Rattle.gix_commands.specs.Run.{Runs, Serves, served}
+use Rattle.gix_commands.specs.StoredRuns as stored_runs
+use Rattle.gix_commands.specs.StoredRuns.{RunsStored}
 use Rattle.gix_commands.specs.Walked.{Answers, EndsBy, IsWalkFault, line_of}
 use Rattle.gix_commands.proofs.GivenRuns.{records_unread, serves_unread, words_unread}
 use Rattle.gix_commands.proofs.ReadableTexts.{have_texts, text_kept, tree_kept}
+use Rattle.gix_commands.proofs.MemoryFaults.{failed_so}
 use Rattle.gix_commands.proofs.RightRuns.{unrowed_read}
-use Rattle.gix_commands.proofs.RunFacts.{runs_input, runs_served, runs_sound, runs_words, serves_checked, serves_topo, serves_walk, without_rows}
+use Rattle.gix_commands.proofs.RunFacts.{runs_input, runs_sound, runs_words, serves_checked, serves_sound, serves_topo, serves_walk, without_rows}
 use Rattle.gix_commands.proofs.SameCommits.{are_fed}
 use Rattle.gix_commands.proofs.SameCommitsThere.{each_on, lists_on}
 use Rattle.gix_commands.proofs.SameWords.{AreWordsOf, are_words}
@@ -49,11 +53,20 @@ use Rattle.gix_batches.specs.declared.commit.Commit.{Commit}
 use Rattle.gix_batches.specs.declared.commit.CommitId.{CommitId}
 use Rattle.gix_batches.specs.declared.commit.Ending.{Ending}
 use Rattle.gix_batches.specs.declared.commit.Ending.TheVariants.{Ended, More, Small, Failed}
-use Rattle.gix_batches.specs.Batches.{Fails, IfFailed, IsNext, IsTold, Promises, Shows, all_lines_to, gives, has_ended, runs}
+use Rattle.gix_batches.specs.Batches.{AsksForNone, Fails, FailsOver, IfFailed, IsNext, IsTold, Promises, Shows, asks_another, asks_for_other, asks_over, all_lines_to, gives, gives_none, has_ended, rejected, runs, runs_over}
 use Rattle.gix_batches.specs.Draws.{Draws, Fills, IsSkipped, failed, ids_given}
 use Rattle.gix_batches.specs.Slices.{Told, told_by, told_of}
 use Rattle.gix_batches.specs.Walks.{FillsBy, IsItself, breadth, down, timed}
 use Rattle.gix_batches.proofs.ShownWalks.{IsNextGood, all_kept, shown_breadth, shown_down, shown_timed}
+use Rattle.gix_batches.proofs.ToldWords.{says_id}
+use Rattle.gix_batches.proofs.Unwritten.{checked_by, records_unwritten, simple_by, topo_by, words_unwritten}
+
+-- each id of these objects is spelled
+abbrev pub AreSpelled : page.Objects → Type 0
+AreSpelled objects = (i : ObjectId) (o : page.Object) → objects i ≡ Some o → IsSpelled i
+
+has_text : {objects : page.Objects} → AreSpelled objects → (r : Row) → page.IsText objects r → IsSpelled r.id
+has_text spelled r (id, lines, rest, tree, names, time, is) = spelled r.id _ is
 
 -- FROM WHAT IS READ OF OBJECTS TO THE OBJECTS
 module _ (all_lines : Bool) (objects : Objects) (words : List (List ℕ)) where
@@ -79,161 +92,220 @@ module _ (all_lines : Bool) (objects : Objects) (words : List (List ℕ)) where
     texts = texts_on told s.texts;
   }
 
+-- each id that has a text is spelled
+told_spelled : (objects : page.Objects) (words : List (List ℕ)) → AreSpelled objects → (told : List Told) → AllByRecursion (IsTold objects words) told → AllByRecursion (λ t. IsSpelled t.id) told
+told_spelled objects words spelled [] texts = tt
+told_spelled objects words spelled (t ∷ told) ((r, text, says), texts) = (subst IsSpelled (sym (says_id r words t says)) (has_text spelled r text), told_spelled objects words spelled told texts)
+
 told_both : (some infos : List Info) → told_by (some ++ infos) ≡ told_by some ++ told_by infos
 told_both some infos = map-append told_of some infos
 
-told_skipped : (skip : ℕ) (some infos : List Info) → IsSkipped skip some infos → IsSkipped skip (told_by some) (told_by infos)
-told_skipped skip some infos (inl e) = inl (length-map some told_of ∙ e)
-told_skipped skip some infos (inr (less, none)) = inr (subst (λ n. n < skip) (sym (length-map some told_of)) less, ap told_by none)
+told_skipped : (skip : ℕ) (some infos : List Info) (ending : Ending) → IsSkipped skip some infos ending → IsSkipped skip (told_by some) (told_by infos) ending
+told_skipped skip some infos ending (inl e) = inl (length-map some told_of ∙ e)
+told_skipped skip some infos ending (inr (less, none, over)) = inr (subst (λ n. n < skip) (sym (length-map some told_of)) less, ap told_by none, over)
 
-module _ (request : Request) (rs : List Record) (words : List (List ℕ)) (records input : List ℕ) (told : Tells (Some records) input) (are : AreRecords rs input) (skip : ℕ) (old new : List Commit) (rooms filled : List CommitId) where
-  abbrev read : Objects
-  read = readable (reads_all_lines request) (stored rs)
+-- a served run that fails for no writer is why a batch fails
+abbrev pub OfServed : Objects → (Fault → Type 0) → Request → Type 0
+OfServed objects FailsSo request = (e : Fault) (lines : List ℕ) → Serves (readable (reads_all_lines request) objects) [] (Some []) request (Err e) (Some lines)
+    → e ≢ fault.Write → FailsSo e
 
-  abbrev GoodRead : Bool → List Info → Type 0
-  GoodRead ended infos = Shows (page_objects read) words (told_by infos) ended
+-- over objects that are given so
+module _ (words : List (List ℕ)) (objects : Objects) (AreGiven : page.Objects → Type 0) (given : AreGiven (page_objects objects)) (spelled : AreSpelled (page_objects objects)) (FailsSo : Fault → Type 0) (skip : ℕ) (old new : List Commit) (rooms filled : List CommitId) where
+  module _ (request : Request) where
+    abbrev read : Objects
+    read = readable (reads_all_lines request) objects
 
-  next_told : (infos : List Info) (ending : Ending) → IsNextGood GoodRead infos ending → IsNext (page_objects (stored rs)) words (told_by infos) ending
-  next_told infos Ended next = tt
-  next_told infos More next = tt
-  next_told infos (Failed e) next = tt
-  next_told infos (Small n) (info, good, many) =
-      (told_of info, shows_on (reads_all_lines request) (stored rs) words (told_by infos ++ told_of info ∷ []) false (subst (λ those. Shows (page_objects read) words those false) (told_both infos (info ∷ [])) good), many)
+    abbrev GoodRead : Bool → List Info → Type 0
+    GoodRead ended infos = Shows (page_objects read) words (told_by infos) ended
 
-  -- what a walk filled
-  module _ {W E : Type 0} (Steps : W → Option (Result Info E) → W → Type 0) (Tells : E → Fault → Type 0) (limit : Option ℕ) (walk : W) (batch : Batch) (f : Fills Steps Tells limit skip walk old new rooms filled batch)
-      (shown : (infos : List Info) (ending : Ending) → Draws Steps Tells limit walk infos ending → GoodRead (has_ended ending) infos × IsNextGood GoodRead infos ending) where
-    gives_so : Promises words records skip old new rooms filled batch
-    gives_so =
-        let s = shown (f.skipped ++ f.infos) batch.ending f.draws in
-        gives (record {
-          objects = page_objects (stored rs);
-          fed = are_fed rs (Some records) input told are;
-          skipped = told_by f.skipped;
-          told = told_by f.infos;
-          shows = shows_on (reads_all_lines request) (stored rs) words (told_by f.skipped ++ told_by f.infos) (has_ended batch.ending) (subst (λ those. Shows (page_objects read) words those (has_ended batch.ending)) (told_both f.skipped f.infos) s.0);
-          next = subst (λ those. IsNext (page_objects (stored rs)) words those batch.ending) (told_both f.skipped f.infos) (next_told (f.skipped ++ f.infos) batch.ending s.1);
-          passed = told_skipped skip f.skipped f.infos f.passed;
-          holds = f.holds;
-          full = f.full;
-        })
+    next_told : (infos : List Info) (ending : Ending) → IsNextGood GoodRead infos ending → IsNext (page_objects objects) words (told_by infos) ending
+    next_told infos Ended next = tt
+    next_told infos More next = tt
+    next_told infos (Failed e) next = tt
+    next_told infos (Small n) (info, good, many) =
+        (told_of info, shows_on (reads_all_lines request) objects words (told_by infos ++ told_of info ∷ []) false (subst (λ those. Shows (page_objects read) words those false) (told_both infos (info ∷ [])) good), many)
 
-    module _ (asked : request_of words ≡ Ok request) (lines : List Info → List ℕ) (serves : (infos : List Info) (e : Fault) → EndsBy Steps Tells ids_given limit walk infos (Err e) → Serves read [] (Some []) request (Err e) (Some (lines infos))) where
-      fails_so : (infos : List Info) (ending : Ending) → Draws Steps Tells limit walk infos ending → IfFailed (Fails words records) ending
-      fails_so infos Ended d = tt
-      fails_so infos More d = tt
-      fails_so infos (Small n) d = tt
-      fails_so infos (Failed e) (failed e2 ends) =
-          let s = serves infos e2 ends in
-          let r : Runs words (Some records) (Some []) (Err e2) (Some (lines infos)) = served request input rs asked told are s in
-          runs (lines infos) r (λ same. serves_unread s (ap (λ x. Err x) same)) (λ same. runs_sound r (ap (λ x. Err x) same))
+    -- what a walk filled
+    module _ {W E : Type 0} (Steps : W → Option (Result Info E) → W → Type 0) (Tells : E → Fault → Type 0) (limit : Option ℕ) (walk : W) (batch : Batch) (f : Fills Steps Tells limit skip walk old new rooms filled batch)
+        (shown : (infos : List Info) (ending : Ending) → Draws Steps Tells limit walk infos ending → GoodRead (has_ended ending) infos × IsNextGood GoodRead infos ending) where
+      gives_so : Promises words AreGiven skip old new rooms filled batch
+      gives_so =
+          let s = shown (f.skipped ++ f.infos) batch.ending f.draws in
+          let good = shows_on (reads_all_lines request) objects words (told_by f.skipped ++ told_by f.infos) (has_ended batch.ending) (subst (λ those. Shows (page_objects read) words those (has_ended batch.ending)) (told_both f.skipped f.infos) s.0) in
+          gives (record {
+            told = told_by f.infos;
+            part = record {
+              objects = page_objects objects;
+              given = given;
+              skipped = told_by f.skipped;
+              shows = good;
+              spelled = told_spelled (page_objects objects) words spelled (told_by f.skipped ++ told_by f.infos) good.texts;
+              next = subst (λ those. IsNext (page_objects objects) words those batch.ending) (told_both f.skipped f.infos) (next_told (f.skipped ++ f.infos) batch.ending s.1);
+              passed = told_skipped skip f.skipped f.infos batch.ending f.passed;
+            };
+            holds = f.holds;
+            full = f.full;
+          })
 
-      pub both_so : Promises words records skip old new rooms filled batch × IfFailed (Fails words records) batch.ending
-      both_so = (gives_so, fails_so (f.skipped ++ f.infos) batch.ending f.draws)
+      module _ (of_served : OfServed objects FailsSo request) (lines : List Info → List ℕ) (serves : (infos : List Info) (e : Fault) → EndsBy Steps Tells ids_given limit walk infos (Err e) → Serves read [] (Some []) request (Err e) (Some (lines infos)))
+          (unwritten : (infos : List Info) (e : Fault) → EndsBy Steps Tells ids_given limit walk infos (Err e) → e ≢ fault.Write) where
+        fails_so : (infos : List Info) (ending : Ending) → Draws Steps Tells limit walk infos ending → IfFailed FailsSo ending
+        fails_so infos Ended d = tt
+        fails_so infos More d = tt
+        fails_so infos (Small n) d = tt
+        fails_so infos (Failed e) (failed e2 ends) = of_served e2 (lines infos) (serves infos e2 ends) (unwritten infos e2 ends)
+
+        pub both_so : Promises words AreGiven skip old new rooms filled batch × IfFailed FailsSo batch.ending
+        both_so = (gives_so, fails_so (f.skipped ++ f.infos) batch.ending f.draws)
 
 -- what is drawn of a walk is shown by these words
 abbrev ShowsDrawn : {W E : Type 0} → Objects → (W → Option (Result Info E) → W → Type 0) → (E → Fault → Type 0) → Option ℕ → W → List (List ℕ) → Type 0
 ShowsDrawn objects Steps Tells limit walk words = (infos : List Info) (ending : Ending) → Draws Steps Tells limit walk infos ending
     → Shows (page_objects objects) words (told_by infos) (has_ended ending) × IsNextGood (λ ended infos. Shows (page_objects objects) words (told_by infos) ended) infos ending
 
-module _ (words : List (List ℕ)) (records : List ℕ) (skip : ℕ) (old new : List Commit) (rooms filled : List CommitId) (batch : Batch) where
-  abbrev pub IsPromised : Type 0
-  IsPromised = Promises words records skip old new rooms filled batch × IfFailed (Fails words records) batch.ending
+module _ (words : List (List ℕ)) (objects : Objects) (AreGiven : page.Objects → Type 0) (given : AreGiven (page_objects objects)) (spelled : AreSpelled (page_objects objects)) (FailsSo : Fault → Type 0) (limit : Option ℕ) (tips hidden : List ObjectId) where
+  -- why a batch fails over a list in this order
+  abbrev pub IsServed : Order → Type 0
+  IsServed order = OfServed objects FailsSo (Commits order (all_lines_to limit) tips hidden)
 
-  module _ (limit : Option ℕ) (tips hidden : List ObjectId) (rs : List Record) (input : List ℕ) (told : Tells (Some records) input) (are : AreRecords rs input) where
+  module _ (skip : ℕ) (old new : List Commit) (rooms filled : List CommitId) (batch : Batch) where
+    abbrev pub IsPromised : Type 0
+    IsPromised = Promises words AreGiven skip old new rooms filled batch × IfFailed FailsSo batch.ending
+
     abbrev shown_all : Shown
     shown_all = all_lines_to limit
 
     abbrev seen_by : Order → Objects
-    seen_by order = readable (reads_all_lines (Commits order shown_all tips hidden)) (stored rs)
+    seen_by order = readable (reads_all_lines (Commits order shown_all tips hidden)) objects
 
     -- the lines of the commits that a walk gave before its fault
     abbrev lines_by : Objects → List Info → List ℕ
-    lines_by objects infos = flat_map line_of (kept_in objects shown_all infos)
+    lines_by o infos = flat_map line_of (kept_in o shown_all infos)
 
-    module _ {W E : Type 0} (Steps : W → Option (Result Info E) → W → Type 0) (Tells : E → Fault → Type 0) (objects : Objects) (walk : W) where
-      writes_lines : (infos : List Info) (e : Fault) → EndsBy Steps Tells ids_given limit walk infos (Err e) → WritesBegun Steps Tells (kept_in objects shown_all) limit form.Lines walk (Some []) (Err e) (Some (lines_by objects infos))
+    module _ {W E : Type 0} (Steps : W → Option (Result Info E) → W → Type 0) (Tells : E → Fault → Type 0) (o : Objects) (walk : W) where
+      writes_lines : (infos : List Info) (e : Fault) → EndsBy Steps Tells ids_given limit walk infos (Err e) → WritesBegun Steps Tells (kept_in o shown_all) limit form.Lines walk (Some []) (Err e) (Some (lines_by o infos))
       writes_lines infos e ends = written (record {
         infos = infos;
-        ends = subst (λ (those : List Info → List ObjectId). EndsBy Steps Tells those limit walk infos (Err e)) (λ k xs. sym (all_kept limit (text_next objects) (time_of objects) (ids_given xs)) k) ends;
+        ends = subst (λ (those : List Info → List ObjectId). EndsBy Steps Tells those limit walk infos (Err e)) (λ k xs. sym (all_kept limit (text_next o) (time_of o) (ids_given xs)) k) ends;
         writes = refl;
       })
 
-    by_order : (order : Order) → request_of words ≡ Ok (Commits order shown_all tips hidden) → AreWordsOf words (Ok (Commits order shown_all tips hidden)) → FillsBy (seen_by order) limit tips hidden skip old new rooms filled batch order → IsPromised
-    by_order order asked (name, option, rest, is, named, chosen, place, chooses, some) (breadth {m = m} walk starts f) =
+    by_order : (order : Order) → IsServed order → AreWordsOf words (Ok (Commits order shown_all tips hidden)) → FillsBy (seen_by order) limit tips hidden skip old new rooms filled batch order → IsPromised
+    by_order order how (name, option, rest, is, named, chosen, place, chooses, some) (breadth {m = m} walk starts f) =
         let request = Commits (Simple m sorting.BreadthFirst) shown_all tips hidden in
         let o = seen_by (Simple m sorting.BreadthFirst) in
-        both_so request rs words records input told are skip old new rooms filled Answers IsWalkFault limit walk batch f
-        (subst (ShowsDrawn o Answers IsWalkFault limit walk) (sym is) (shown_breadth o (none_agree o [] refl) (unrowed_read o) name option rest limit tips hidden some place chooses m sorting.BreadthFirst named chosen (have_texts request (stored rs)) walk starts refl))
-        asked (lines_by o) (λ infos e ends. serves_walk o [] (Some []) m sorting.BreadthFirst shown_all tips hidden (Some (lines_by o infos)) walk (fresh_choosing o shown_all) refl refl starts (Err e) (writes_lines Answers IsWalkFault o walk infos e ends))
-    by_order order asked (name, option, rest, is, named, chosen, place, chooses, some) (timed {m = m} {by = by} walk other starts f) =
+        both_so words objects AreGiven given spelled FailsSo skip old new rooms filled request Answers IsWalkFault limit walk batch f
+        (subst (ShowsDrawn o Answers IsWalkFault limit walk) (sym is) (shown_breadth o (none_agree o [] refl) (unrowed_read o) name option rest limit tips hidden some place chooses m sorting.BreadthFirst named chosen (have_texts request objects) walk starts refl))
+        how (lines_by o) (λ infos e ends. serves_walk o [] (Some []) m sorting.BreadthFirst shown_all tips hidden (Some (lines_by o infos)) walk (fresh_choosing o shown_all) refl refl starts (Err e) (writes_lines Answers IsWalkFault o walk infos e ends))
+        (simple_by limit walk)
+    by_order order how (name, option, rest, is, named, chosen, place, chooses, some) (timed {m = m} {by = by} walk other starts f) =
         let request = Commits (Simple m by) shown_all tips hidden in
         let o = seen_by (Simple m by) in
         let checked : CheckedWalk = record { walk = walk; objects = o; rows = []; lost = None } in
-        both_so request rs words records input told are skip old new rooms filled Checks IsItself limit checked batch f
-        (subst (ShowsDrawn o Checks IsItself limit checked) (sym is) (shown_timed o (none_agree o [] refl) (unrowed_read o) name option rest limit tips hidden some place chooses m by named chosen (have_texts request (stored rs)) walk starts))
-        asked (lines_by o) (λ infos e ends. serves_checked o [] (Some []) m by shown_all tips hidden (Some (lines_by o infos)) walk checked (fresh_choosing o shown_all) refl refl other starts (Err e) (writes_lines Checks IsItself o checked infos e ends))
-    by_order order asked (name, option, rest, is, named, plain, place, chooses, some) (down {by = by} walk built f) =
+        both_so words objects AreGiven given spelled FailsSo skip old new rooms filled request Checks IsItself limit checked batch f
+        (subst (ShowsDrawn o Checks IsItself limit checked) (sym is) (shown_timed o (none_agree o [] refl) (unrowed_read o) name option rest limit tips hidden some place chooses m by named chosen (have_texts request objects) walk starts))
+        how (lines_by o) (λ infos e ends. serves_checked o [] (Some []) m by shown_all tips hidden (Some (lines_by o infos)) walk checked (fresh_choosing o shown_all) refl refl other starts (Err e) (writes_lines Checks IsItself o checked infos e ends))
+        (checked_by o walk limit)
+    by_order order how (name, option, rest, is, named, plain, place, chooses, some) (down {by = by} walk built f) =
         let request = Commits (Topo by) shown_all tips hidden in
         let o = seen_by (Topo by) in
-        both_so request rs words records input told are skip old new rooms filled topo.Answers topo.IsWalkFault limit walk batch f
-        (subst (ShowsDrawn o topo.Answers topo.IsWalkFault limit walk) (sym is) (shown_down o (none_agree o [] refl) (unrowed_read o) name option rest limit tips hidden some place chooses by named plain (have_texts request (stored rs)) walk built))
-        asked (lines_by o) (λ infos e ends. serves_topo o [] (Some []) by shown_all tips hidden (Some (lines_by o infos)) walk (fresh_choosing o shown_all) refl built (Err e) (writes_lines topo.Answers topo.IsWalkFault o walk infos e ends))
+        both_so words objects AreGiven given spelled FailsSo skip old new rooms filled request topo.Answers topo.IsWalkFault limit walk batch f
+        (subst (ShowsDrawn o topo.Answers topo.IsWalkFault limit walk) (sym is) (shown_down o (none_agree o [] refl) (unrowed_read o) name option rest limit tips hidden some place chooses by named plain (have_texts request objects) walk built))
+        how (lines_by o) (λ infos e ends. serves_topo o [] (Some []) by shown_all tips hidden (Some (lines_by o infos)) walk (fresh_choosing o shown_all) refl built (Err e) (writes_lines topo.Answers topo.IsWalkFault o walk infos e ends))
+        (topo_by limit walk)
 
   -- THE LAW: what a walk filled is promised
-  pub promised : (order : Order) (limit : Option ℕ) (tips hidden : List ObjectId) → request_of words ≡ Ok (Commits order (all_lines_to limit) tips hidden) → (objects : Objects) → IsReadFrom (Some records) objects
-      → FillsBy (readable (reads_all_lines (Commits order (all_lines_to limit) tips hidden)) (with_rows [] objects)) limit tips hidden skip old new rooms filled batch order → IsPromised
-  promised order limit tips hidden asked objects read f =
-      by_order limit tips hidden read.1 read.0 read.2 read.3 order asked (subst (AreWordsOf words) asked (are_words words))
-      (subst (λ (o : Objects). FillsBy (readable (reads_all_lines (Commits order (all_lines_to limit) tips hidden)) o) limit tips hidden skip old new rooms filled batch order) (without_rows objects ∙ read.4) f)
+  module _ (order : Order) (asked : request_of words ≡ Ok (Commits order (all_lines_to limit) tips hidden)) (how : IsServed order) where
+    abbrev pub FillsFrom : (skip : ℕ) (old new : List Commit) (rooms filled : List CommitId) → Batch → Type 0
+    FillsFrom skip old new rooms filled batch = FillsBy (readable (reads_all_lines (Commits order (all_lines_to limit) tips hidden)) (with_rows [] objects)) limit tips hidden skip old new rooms filled batch order
 
--- FAULTS BEFORE A WALK
+    promised : (skip : ℕ) (old new : List Commit) (rooms filled : List CommitId) (batch : Batch) → FillsFrom skip old new rooms filled batch → IsPromised skip old new rooms filled batch
+    promised skip old new rooms filled batch f =
+        by_order skip old new rooms filled batch order how (subst (AreWordsOf words) asked (are_words words))
+        (subst (λ (o : Objects). FillsBy (readable (reads_all_lines (Commits order (all_lines_to limit) tips hidden)) o) limit tips hidden skip old new rooms filled batch order) (without_rows objects) f)
+
+    -- of a walk that could start
+    pub filled_promised : (skip : ℕ) (old new : List Commit) (rooms filled : List CommitId) (result : Result Batch Fault) → IfOk result (FillsFrom skip old new rooms filled) → IfOk result (Promises words AreGiven skip old new rooms filled)
+    filled_promised skip old new rooms filled (Ok batch) f = (promised skip old new rooms filled batch f).0
+    filled_promised skip old new rooms filled (Err e) f = tt
+
+    pub filled_fails : (skip : ℕ) (old new : List Commit) (rooms filled : List CommitId) (result : Result Batch Fault) → IfOk result (FillsFrom skip old new rooms filled) → IfOk result (λ batch. IfFailed FailsSo batch.ending)
+    filled_fails skip old new rooms filled (Ok batch) f = (promised skip old new rooms filled batch f).1
+    filled_fails skip old new rooms filled (Err e) f = tt
+
+    -- and what one answers that couldn't
+    pub unstarted_fails : (result : Result Batch Fault) → IfErr result (λ e. Serves (readable (reads_all_lines (Commits order (all_lines_to limit) tips hidden)) (with_rows [] objects)) [] (Some []) (Commits order (all_lines_to limit) tips hidden) (Err e) (Some []))
+        → IfErr result (λ e. e ≢ fault.Write) → IfErr result FailsSo
+    unstarted_fails (Ok batch) s unwritten = tt
+    unstarted_fails (Err e) s unwritten =
+        how e [] (subst (λ (o : Objects). Serves (readable (reads_all_lines (Commits order (all_lines_to limit) tips hidden)) o) [] (Some []) (Commits order (all_lines_to limit) tips hidden) (Err e) (Some [])) (without_rows objects) s) unwritten
+
+-- RECORDS: why a batch over them fails
 module _ (words : List (List ℕ)) (records : List ℕ) where
-  as_run : (e : Fault) (lines : List ℕ) → Runs words (Some records) (Some []) (Err e) (Some lines) → e ≢ fault.Read → Fails words records e
-  as_run e lines r unread = runs lines r unread (λ same. runs_sound r (ap (λ x. Err x) same))
+  as_run : (e : Fault) (lines : List ℕ) → Runs words (Some records) (Some []) (Err e) (Some lines) → e ≢ fault.Read → e ≢ fault.Write → Fails words records e
+  as_run e lines r unread unwritten = runs lines r unread unwritten (λ same. runs_sound r (ap (λ x. Err x) same))
 
-  pub fails_words : (e : Fault) → (e ≢ fault.Memory → request_of words ≡ Err e) → Fails words records e
-  fails_words e h = as_run e [] (runs_words words (Some records) (Some []) (Err e) e refl h) (words_unread words e h)
+  pub fails_words : {e : Fault} → AsksForNone words e → Fails words records e
+  fails_words (rejected e h) = as_run e [] (runs_words words (Some records) (Some []) (Err e) e refl h) (words_unread words e h) (words_unwritten words e h)
+  fails_words (asks_another asks) = asks_for_other asks
 
   pub fails_records : (request : Request) (e : RecordsError) → request_of words ≡ Ok request → IsRecordFault records e → Fails words records (fault_of_records e)
   fails_records request e asked h =
-      as_run (fault_of_records e) [] (runs_input words (Some records) (Some []) request (Err (fault_of_records e)) e (fault_of_records e) asked refl refl (fails_from (Some records) records _ _ refl refl h)) (records_unread h)
+      as_run (fault_of_records e) [] (runs_input words (Some records) (Some []) request (Err (fault_of_records e)) e (fault_of_records e) asked refl refl (fails_from (Some records) records _ _ refl refl h)) (records_unread h) (records_unwritten h)
 
-  pub fails_served : (request : Request) (e : Fault) (objects : Objects) → request_of words ≡ Ok request → IsReadFrom (Some records) objects → Serves (readable (reads_all_lines request) (with_rows [] objects)) [] (Some []) request (Err e) (Some []) → Fails words records e
-  fails_served request e objects asked read s =
-      as_run e [] (runs_served words (Some records) (Some []) request asked objects read (Some []) (Err e) s) (λ same. serves_unread s (ap (λ x. Err x) same))
+  -- what was read of them is fed
+  module _ (objects : Objects) (read : IsReadFrom (Some records) objects) where
+    pub is_fed : AreFed (Some records) (page_objects objects)
+    is_fed = subst (λ o. AreFed (Some records) (page_objects o)) (sym read.4) (are_fed read.1 (Some records) read.0 read.2 read.3)
 
-  -- another command
-  pub is_other : (command : Command) → ((order : Order) (shown : Shown) (tips hidden : _) → command ≡ command_of.Commits order shown tips hidden → ⊥) → (by : Order) (limit : Option ℕ) (tips hidden : List ObjectId) → request_of_command command ≢ Commits by (all_lines_to limit) tips hidden
-  is_other (command_of.Commits order some shown below) other by limit tips hidden = λ e. other order some shown below refl
-  is_other (command_of.Files ending tree) other by limit tips hidden = λ e. cc
-  is_other (command_of.Ahead one two) other by limit tips hidden = λ e. cc
-  is_other (command_of.Contained tip ids) other by limit tips hidden = λ e. cc
-  is_other (command_of.Containing target ids) other by limit tips hidden = λ e. cc
-  is_other (command_of.Bases one others) other by limit tips hidden = λ e. cc
+    pub fed_so : AreSpelled (page_objects objects)
+    fed_so = fed_spelled (Some records) (page_objects objects) is_fed
 
-  -- or other lines than all
-  pub is_chosen : (order : Order) (shown : Shown) (tips hidden : List ObjectId) → shown ≢ all_lines_to shown.limit → (by : Order) (limit : Option ℕ) (others below : List ObjectId) → Commits order shown tips hidden ≢ Commits by (all_lines_to limit) others below
-  is_chosen order shown tips hidden other by limit others below = λ e.
-      let same : shown ≡ all_lines_to limit = cc in
-      let limits : shown.limit ≡ limit = ap (λ (s : Shown). s.limit) same in
-      other (same ∙ ap all_lines_to (sym limits))
+    pub served_fails : (order : Order) (limit : Option ℕ) (tips hidden : List ObjectId) → request_of words ≡ Ok (Commits order (all_lines_to limit) tips hidden) → IsServed words objects (AreFed (Some records)) is_fed fed_so (Fails words records) limit tips hidden order
+    served_fails order limit tips hidden asked e lines s unwritten =
+        as_run e lines (served (Commits order (all_lines_to limit) tips hidden) read.0 read.1 asked read.2 read.3 (subst (λ (o : Objects). Serves (readable (reads_all_lines (Commits order (all_lines_to limit) tips hidden)) o) [] (Some []) (Commits order (all_lines_to limit) tips hidden) (Err e) (Some lines)) read.4 s))
+        (λ same. serves_unread s (ap (λ x. Err x) same)) unwritten
 
-module _ (words : List (List ℕ)) (records : List ℕ) (order : Order) (limit : Option ℕ) (tips hidden : List ObjectId) (asked : request_of words ≡ Ok (Commits order (all_lines_to limit) tips hidden)) (objects : Objects) (read : IsReadFrom (Some records) objects) where
-  -- what a walk filled that could start
-  pub filled_promised : (skip : ℕ) (old new : List Commit) (rooms filled : List CommitId) (result : Result Batch Fault)
-      → IfOk result (λ batch. FillsBy (readable (reads_all_lines (Commits order (all_lines_to limit) tips hidden)) (with_rows [] objects)) limit tips hidden skip old new rooms filled batch order)
-      → IfOk result (Promises words records skip old new rooms filled)
-  filled_promised skip old new rooms filled (Ok batch) f = (promised words records skip old new rooms filled batch order limit tips hidden asked objects read f).0
-  filled_promised skip old new rooms filled (Err e) f = tt
+-- OBJECTS that are there: why a batch over them fails
+module _ (words : List (List ℕ)) (objects : Objects) where
+  pub fails_over_words : {e : Fault} → AsksForNone words e → FailsOver words objects e
+  fails_over_words (rejected e h) =
+      runs_over [] (failed_so (λ (r : Result (Unit {0}) Fault). RunsStored words objects [] (Some []) r (Some [])) stored_runs.without_memory (Err e) e refl (λ known. stored_runs.no_command (h known))) (words_unread words e h) (words_unwritten words e h)
+      (λ same. runs_sound (runs_words words None (Some []) (Err e) e refl h) (ap (λ x. Err x) same))
+  fails_over_words (asks_another asks) = asks_over asks
 
-  pub filled_fails : (skip : ℕ) (old new : List Commit) (rooms filled : List CommitId) (result : Result Batch Fault)
-      → IfOk result (λ batch. FillsBy (readable (reads_all_lines (Commits order (all_lines_to limit) tips hidden)) (with_rows [] objects)) limit tips hidden skip old new rooms filled batch order)
-      → IfOk result (λ batch. IfFailed (Fails words records) batch.ending)
-  filled_fails skip old new rooms filled (Ok batch) f = (promised words records skip old new rooms filled batch order limit tips hidden asked objects read f).1
-  filled_fails skip old new rooms filled (Err e) f = tt
+  module _ (AreGiven : page.Objects → Type 0) (given : AreGiven (page_objects objects)) (spelled : AreSpelled (page_objects objects)) where
+    pub served_over : (order : Order) (limit : Option ℕ) (tips hidden : List ObjectId) → request_of words ≡ Ok (Commits order (all_lines_to limit) tips hidden) → IsServed words objects AreGiven given spelled (FailsOver words objects) limit tips hidden order
+    served_over order limit tips hidden asked e lines s unwritten =
+        runs_over lines
+        (stored_runs.served (Commits order (all_lines_to limit) tips hidden) asked (λ i row l. absurd (omega (arith, l))) (λ row object c. absurd (no_member row c))
+        (subst (λ (o : Objects). Serves (readable (reads_all_lines (Commits order (all_lines_to limit) tips hidden)) o) [] (Some []) (Commits order (all_lines_to limit) tips hidden) (Err e) (Some lines)) (sym (without_rows objects)) s))
+        (λ same. serves_unread s (ap (λ x. Err x) same)) unwritten
+        (λ same. serves_sound (none_agree (readable (reads_all_lines (Commits order (all_lines_to limit) tips hidden)) objects) [] refl) s (ap (λ x. Err x) same))
 
-  -- and what one answers that couldn't
-  pub unstarted_fails : (result : Result Batch Fault) → IfErr result (λ e. Serves (readable (reads_all_lines (Commits order (all_lines_to limit) tips hidden)) (with_rows [] objects)) [] (Some []) (Commits order (all_lines_to limit) tips hidden) (Err e) (Some [])) → IfErr result (Fails words records)
-  unstarted_fails (Ok batch) s = tt
-  unstarted_fails (Err e) s = fails_served words records (Commits order (all_lines_to limit) tips hidden) e objects asked read s
+-- ANOTHER COMMAND
+pub is_other : (command : Command) → ((order : Order) (shown : Shown) (tips hidden : _) → command ≡ command_of.Commits order shown tips hidden → ⊥) → (by : Order) (limit : Option ℕ) (tips hidden : List ObjectId) → request_of_command command ≢ Commits by (all_lines_to limit) tips hidden
+is_other (command_of.Commits order some shown below) other by limit tips hidden = λ e. other order some shown below refl
+is_other (command_of.Files ending tree) other by limit tips hidden = λ e. cc
+is_other (command_of.Ahead one two) other by limit tips hidden = λ e. cc
+is_other (command_of.Contained tip ids) other by limit tips hidden = λ e. cc
+is_other (command_of.Containing target ids) other by limit tips hidden = λ e. cc
+is_other (command_of.Bases one others) other by limit tips hidden = λ e. cc
+
+-- or other lines than all
+pub is_chosen : (order : Order) (shown : Shown) (tips hidden : List ObjectId) → shown ≢ all_lines_to shown.limit → (by : Order) (limit : Option ℕ) (others below : List ObjectId) → Commits order shown tips hidden ≢ Commits by (all_lines_to limit) others below
+is_chosen order shown tips hidden other by limit others below = λ e.
+    let same : shown ≡ all_lines_to limit = cc in
+    let limits : shown.limit ≡ limit = ap (λ (s : Shown). s.limit) same in
+    other (same ∙ ap all_lines_to (sym limits))
+
+-- WHAT IS GIVEN may be said in more words
+pub gives_more : {AreGiven AreToo : page.Objects → Type 0} (more : (objects : page.Objects) → AreGiven objects → AreToo objects) (words : List (List ℕ)) (skip : ℕ) (old new : List Commit) (rooms filled : List CommitId) (batch : Batch)
+    → Promises words AreGiven skip old new rooms filled batch → Promises words AreToo skip old new rooms filled batch
+gives_more more words skip old new rooms filled batch (gives g) = gives (record {
+  told = g.told;
+  part = record { objects = g.part.objects; given = more g.part.objects g.part.given; skipped = g.part.skipped; shows = g.part.shows; spelled = g.part.spelled; next = g.part.next; passed = g.part.passed };
+  holds = g.holds;
+  full = g.full;
+})
+gives_more more words skip old new rooms filled batch (gives_none e is a b) = gives_none e is a b

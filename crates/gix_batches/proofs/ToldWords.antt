@@ -1,5 +1,5 @@
 -- What is told of a commit by the words of each order.
-use Rattle.std.proofs.Common.{◌≡◌, ◌≢◌, ◌⊎◌, ℕ, suc, List, [], ◌∷◌, ◌++◌, length, take, Option, Some, None, codes, refl, sym, ap, subst, ◌∙◌, inl, inr, ⊎_elim, arith}
+use Rattle.std.proofs.Common.{◌≡◌, ◌≢◌, ◌⊎◌, ℕ, suc, List, [], ◌∷◌, ◌++◌, length, take, Some, None, codes, refl, sym, ap, subst, ◌∙◌, inl, inr, ⊎_elim, arith}
 use Rattle.gix_hash.specs.declared.ObjectId.{ObjectId}
 use Rattle.gix_hash.specs.declared.ObjectId.TheVariants.{Sha1, Sha256}
 use Rattle.gix_revwalk.specs.Commits.{by_mode}
@@ -82,3 +82,8 @@ module _ (r : Row) (name : List ℕ) (option rest : List (List ℕ)) (free : tak
   pub says_down : (by : TopoSorting) → IsNameOf name (Topo by) → Says r (name ∷ (option ++ rest)) (told_down r)
   says_down topo.TopoOrder named = named_so (codes "topo") _ named (timed (2, omega arith, refl))
   says_down topo.DateOrder named = named_so (codes "date") _ named (timed (3, omega arith, refl))
+
+pub says_id : (r : Row) (words : List (List ℕ)) (t : Told) → Says r words t → t.id ≡ r.id
+says_id r words t (breadth free) = refl
+says_id r words t first = refl
+says_id r words t (timed c) = refl

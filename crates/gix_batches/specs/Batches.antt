@@ -2,13 +2,15 @@
 use Rattle.std.specs.Prelude.{◌≡◌, ◌≢◌, ℕ, List, [], ◌∷◌, ◌++◌, flat_map, take, length, Bool, true, false, Option, Some, None, Ok, Err, Contains, codes}
 use Rattle.std.specs.List.{AllByRecursion}
 use Rattle.gix_hash.specs.declared.ObjectId.{ObjectId}
-use Rattle.gix_statement.specs.WholeStatement.{AreFed, InEach, IsText, Lists, Objects, Row, id_line}
+use Rattle.gix_object.specs.Object.{Objects as Stored}
+use Rattle.gix_statement.specs.WholeStatement.{InEach, IsText, Lists, Objects, Row, Spells, digits_in, id_line}
 use Rattle.gix_words.specs.declared.fault.Fault.{Fault}
 use Rattle.gix_words.specs.declared.fault.Fault.TheVariants as fault
 use Rattle.gix_words.specs.Words.{Request, Commits, all_lines, request_of}
 use Rattle.gix_words.specs.declared.words.Order.{Order}
 use Rattle.gix_words.specs.declared.words.Shown.{Shown}
 use Rattle.gix_commands.specs.Run.{Runs}
+use Rattle.gix_commands.specs.StoredRuns.{RunsStored}
 use Rattle.gix_batches.specs.declared.commit.Batch.{Batch}
 use Rattle.gix_batches.specs.declared.commit.Commit.{Commit}
 use Rattle.gix_batches.specs.declared.commit.CommitId.{CommitId}
@@ -47,25 +49,32 @@ IsNext objects words told More = Unit {0}
 IsNext objects words told (Small n) = (next : Told) × Shows objects words (told ++ next ∷ []) false × (n ≡ length next.parents)
 IsNext objects words told (Failed e) = Unit {0}
 
--- of the objects of records: behind those that are skipped, the slices hold the next commits of the list, and the rest of both is as it was
-pub record Gives (words : List (List ℕ)) (records : List ℕ) (skip : ℕ) (old new : List Commit) (before after : List CommitId) (batch : Batch)
-    : Type 0 where
+-- Of objects that are given so: behind those that are skipped, these are the next commits of the list, and this is why no more are told.
+-- Hex digits spell the id of each.
+pub record IsPart (words : List (List ℕ)) (AreGiven : Objects → Type 0) (skip : ℕ) (told : List Told) (ending : Ending) : Type 0 where
   pub objects : Objects
-  pub fed : AreFed (Some records) objects
+  pub given : AreGiven objects
   pub skipped : List Told
+  pub shows : Shows objects words (skipped ++ told) (has_ended ending)
+  pub spelled : AllByRecursion (λ t. (text : List ℕ) × Spells (digits_in t.id) text t.id) (skipped ++ told)
+  pub next : IsNext objects words (skipped ++ told) ending
+  pub passed : IsSkipped skip skipped told ending
+
+-- the slices hold such commits, and the rest of both is as it was
+pub record Gives (words : List (List ℕ)) (AreGiven : Objects → Type 0) (skip : ℕ) (old new : List Commit) (before after : List CommitId) (batch : Batch)
+    : Type 0 where
   pub told : List Told
-  pub shows : Shows objects words (skipped ++ told) (has_ended batch.ending)
-  pub next : IsNext objects words (skipped ++ told) batch.ending
-  pub passed : IsSkipped skip skipped told
+  pub part : IsPart words AreGiven skip told batch.ending
   pub holds : Holds told old new before after batch
   pub full : IsFull (length old) (length before) batch
 
--- what a call promises of a batch: that, or a fault behind which both slices are as they were
-pub data Promises (words : List (List ℕ)) (records : List ℕ) (skip : ℕ) (old new : List Commit) (before after : List CommitId) (batch : Batch)
+-- What a call promises of a batch: that, or a fault behind which both slices are as they were. Given are the objects of records, which
+-- `AreFed`, or of a repository, which `AreNamed`.
+pub data Promises (words : List (List ℕ)) (AreGiven : Objects → Type 0) (skip : ℕ) (old new : List Commit) (before after : List CommitId) (batch : Batch)
     : Type 0 where
-  gives : Gives words records skip old new before after batch → Promises words records skip old new before after batch
+  gives : Gives words AreGiven skip old new before after batch → Promises words AreGiven skip old new before after batch
   gives_none : (e : Fault) → batch ≡ record { commits = 0; parents = 0; ending = Failed e } → new ≡ old → after ≡ before
-      → Promises words records skip old new before after batch
+      → Promises words AreGiven skip old new before after batch
 
 -- all lines up to a limit
 abbrev pub all_lines_to : Option ℕ → Shown
@@ -76,12 +85,23 @@ abbrev pub AskForOther : List (List ℕ) → Type 0
 AskForOther words = (request : Request) × (request_of words ≡ Ok request)
     × ((by : Order) (limit : Option ℕ) (tips hidden : List ObjectId) → request ≢ Commits by (all_lines_to limit) tips hidden)
 
+-- Why words ask for no list: they are no command, unless memory ran out, or they ask for something else.
+pub data AsksForNone (words : List (List ℕ)) : Fault → Type 0 where
+  rejected : (e : Fault) → (e ≢ fault.Memory → request_of words ≡ Err e) → AsksForNone words e
+  asks_another : AskForOther words → AsksForNone words fault.Usage
+
 -- Why a batch fails: as a run over these words and records does that writes into memory, whose lines are of the commits before; or its words ask
--- for something else.
+-- for something else. None fails for a reader or a writer, or for what never happens.
 pub data Fails (words : List (List ℕ)) (records : List ℕ) : Fault → Type 0 where
-  runs : {e : Fault} (lines : List ℕ) → Runs words (Some records) (Some []) (Err e) (Some lines) → e ≢ fault.Read → e ≢ fault.Internal
-      → Fails words records e
+  runs : {e : Fault} (lines : List ℕ) → Runs words (Some records) (Some []) (Err e) (Some lines) → e ≢ fault.Read → e ≢ fault.Write
+      → e ≢ fault.Internal → Fails words records e
   asks_for_other : AskForOther words → Fails words records fault.Usage
+
+-- the same over objects that are there
+pub data FailsOver (words : List (List ℕ)) (objects : Stored) : Fault → Type 0 where
+  runs_over : {e : Fault} (lines : List ℕ) → RunsStored words objects [] (Some []) (Err e) (Some lines) → e ≢ fault.Read → e ≢ fault.Write
+      → e ≢ fault.Internal → FailsOver words objects e
+  asks_over : AskForOther words → FailsOver words objects fault.Usage
 
 abbrev pub IfFailed : (Fault → Type 0) → Ending → Type 0
 IfFailed P Ended = Unit {0}

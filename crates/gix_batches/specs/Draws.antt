@@ -72,9 +72,16 @@ pub record FillsFront {W E : Type 0} (Steps : W → Option (Result Info E) → W
   pub holds : Holds (told_by infos) old new before after batch
   pub full : IsFull (length old) (length before) batch
 
--- so many were skipped, or fewer, and then nothing was given
-abbrev pub IsSkipped : {A B : Type 0} → ℕ → List A → List B → Type 0
-IsSkipped skip skipped those = (length skipped ≡ skip) ⊎ ((length skipped < skip) × (those ≡ []))
+-- nothing comes behind such an end
+abbrev pub IsOver : Ending → Type 0
+IsOver Ended = Unit {0}
+IsOver More = ⊥
+IsOver (Small n) = ⊥
+IsOver (Failed e) = Unit {0}
+
+-- so many were skipped; or fewer, and then nothing was given, and nothing comes behind
+abbrev pub IsSkipped : {A B : Type 0} → ℕ → List A → List B → Ending → Type 0
+IsSkipped skip skipped those ending = (length skipped ≡ skip) ⊎ ((length skipped < skip) × (those ≡ []) × IsOver ending)
 
 -- the slices hold what a walk gave behind those that are skipped
 pub record Fills {W E : Type 0} (Steps : W → Option (Result Info E) → W → Type 0) (Tells : E → Fault → Type 0) (limit : Option ℕ) (skip : ℕ) (walk : W)
@@ -82,6 +89,6 @@ pub record Fills {W E : Type 0} (Steps : W → Option (Result Info E) → W → 
   pub skipped : List Info
   pub infos : List Info
   pub draws : Draws Steps Tells limit walk (skipped ++ infos) batch.ending
-  pub passed : IsSkipped skip skipped infos
+  pub passed : IsSkipped skip skipped infos batch.ending
   pub holds : Holds (told_by infos) old new before after batch
   pub full : IsFull (length old) (length before) batch

@@ -6,3 +6,5 @@ pub mod Draws
 pub mod Walks
 -- What a batch is, by the page.
 pub mod Batches
+-- Batches one behind another.
+pub mod InRow

@@ -1,29 +1,34 @@
-//! Commits in batches: a list command over records in memory, whose commits are put into slices that the caller has.
+//! Commits in batches: a list command over records or named objects in memory, whose commits are put into slices that the caller has.
 //!
-//! [`batch_in`] skips commits and gives the next: of each its id, its parents, its time. What they are is stated by its clause `whole`, in
-//! the words of the page of `gix_statement`. Nothing is kept between two calls.
+//! [`batch_in`] and [`batch_named`] skip commits and give the next: of each its id, its parents, its time. What they are is stated by the
+//! clause `whole` of each, in the words of the page of `gix_statement`. Nothing is kept between two calls; that batches one behind another
+//! are the list is a law of [`laws`].
 #![tactic(auto)]
 
-ghost use Rattle.std.specs.Prelude.{◌≡◌, ◌≢◌, ℕ, List, [], map, Some, Err, IfOk, IfErr, MatchBool, string_bytes};
+ghost use Rattle.std.specs.Prelude.{◌≡◌, ◌≢◌, ℕ, List, [], map, Some, Err, IfOk, IfErr, string_bytes};
+ghost use Rattle.gix_commands.specs.Pages.{page_objects};
 ghost use Rattle.gix_commands.specs.Readable.{readable, reads_all_lines};
 ghost use Rattle.gix_commands.specs.Run.{Serves};
 ghost use Rattle.gix_graph_store.specs.WithRows.{with_rows};
-ghost use Rattle.gix_records.specs.Records.{Record, AreRecords};
+ghost use Rattle.gix_statement.specs.WholeStatement.{AreFed, AreNamed, Objects};
 ghost use Rattle.gix_words.specs.Words.{Commits};
-ghost use Rattle.gix_batches.specs.Batches.{Fails, IfFailed, Promises, all_lines_to};
+ghost use Rattle.gix_batches.specs.Batches.{Fails, FailsOver, IfFailed, Promises, all_lines_to};
 ghost use Rattle.gix_batches.specs.Walks.{FillsBy};
 
 mod commit;
 mod fill;
+pub mod laws;
+mod listing;
 
 pub use commit::{Batch, Commit, CommitId, Ending};
 use fill::fill_from;
 use gix_commands::checked::Checked;
 use gix_commands::commits::{topo_walk_from, walk_from};
-use gix_parts::hash::{Keys, ObjectId};
-use gix_parts::records::{LentStore, records_in};
+use gix_parts::hash::Keys;
+use gix_parts::records::{LentStore, NamedObjects, records_in};
 use gix_traverse::commit::simple::Sorting;
-use gix_words::{Command, Fault, Form, Merges, Order, Shown, read_command};
+use gix_words::{Fault, Order};
+use listing::Listing;
 use std::alloc::Global;
 
 /// Runs a list command over records that are in memory, and puts the commits behind those that are skipped at the front of the slices, as
@@ -47,7 +52,7 @@ pub fn batch_in(
     parents: &mut [CommitId],
 ) -> Batch
     // What the slices hold, from lists of bytes up.
-    ensures whole { Promises (map string_bytes words.now) records.now skip commits.old commits.new parents.old parents.new result }
+    ensures whole { Promises (map string_bytes words.now) (AreFed (Some records.now)) skip commits.old commits.new parents.old parents.new result }
     ensures fails { IfFailed (Fails (map string_bytes words.now) records.now) result.ending }
 {
     match try_batch(alloc, words, records, skip, commits, parents) {
@@ -60,7 +65,35 @@ pub fn batch_in(
     }
 }
 
-/// The same. At a fault before the first step of a walk nothing is put.
+/// The same over objects that were compared with their ids, as those of a repository.
+///
+/// # Errors
+/// Those of [`batch_in`], but never `Record`.
+pub fn batch_named(
+    alloc: Global,
+    words: &[String],
+    objects: &NamedObjects,
+    skip: u64,
+    commits: &mut [Commit],
+    parents: &mut [CommitId],
+) -> Batch
+    // What the slices hold, from lists of bytes up: it is right of these objects, each of whose ids is the hash of its object.
+    ensures whole { Promises (map string_bytes words.now) (λ (given : Objects). AreNamed given × (given ≡ page_objects objects.now)) skip commits.old commits.new parents.old parents.new result }
+    // The same in the words of the page alone.
+    ensures named { Promises (map string_bytes words.now) AreNamed skip commits.old commits.new parents.old parents.new result }
+    ensures fails { IfFailed (FailsOver (map string_bytes words.now) objects.now) result.ending }
+{
+    match try_named(alloc, words, objects, skip, commits, parents) {
+        Ok(batch) => batch,
+        Err(fault) => Batch {
+            commits: 0,
+            parents: 0,
+            ending: Ending::Failed(fault),
+        },
+    }
+}
+
+/// As [`batch_in`]. At a fault before the first step of a walk nothing is put.
 fn try_batch(
     alloc: Global,
     words: &[String],
@@ -69,69 +102,61 @@ fn try_batch(
     commits: &mut [Commit],
     parents: &mut [CommitId],
 ) -> Result<Batch, Fault>
-    ensures whole { IfOk result (Promises (map string_bytes words.now) records.now skip commits.old commits.new parents.old parents.new) }
+    ensures whole { IfOk result (Promises (map string_bytes words.now) (AreFed (Some records.now)) skip commits.old commits.new parents.old parents.new) }
     ensures ending { IfOk result (λ batch. IfFailed (Fails (map string_bytes words.now) records.now) batch.ending) }
     ensures fails { IfErr result (Fails (map string_bytes words.now) records.now) }
     ensures commits_stay { IfErr result (λ e. commits.new ≡ commits.old) }
     ensures parents_stay { IfErr result (λ e. parents.new ≡ parents.old) }
 {
-    let command = read_command(alloc, words)?;
-    let Command::Commits {
-        order,
-        shown,
-        tips,
-        hidden,
-    } = command
-    else {
-        return Err(Fault::Usage);
-    };
-    if !are_all_lines(shown) {
-        return Err(Fault::Usage);
-    }
+    let listing = Listing::read(alloc, words)?;
     let store = records_in(alloc, Keys::KNOWN, records)?;
-    batch_of(
-        alloc,
-        order,
-        shown.limit,
-        tips,
-        hidden,
-        &store,
-        skip,
-        commits,
-        parents,
-    )
+    batch_of(alloc, listing, &store, skip, commits, parents)
 }
 
-/// Whether all lines of a list are asked for, up to a limit.
-fn are_all_lines(shown: Shown) -> bool
-    ensures { MatchBool result (shown ≡ all_lines_to shown.limit) (shown ≢ all_lines_to shown.limit) }
+/// As [`batch_named`]. At a fault before the first step of a walk nothing is put.
+fn try_named(
+    alloc: Global,
+    words: &[String],
+    objects: &NamedObjects,
+    skip: u64,
+    commits: &mut [Commit],
+    parents: &mut [CommitId],
+) -> Result<Batch, Fault>
+    ensures whole { IfOk result (Promises (map string_bytes words.now) (λ (given : Objects). AreNamed given × (given ≡ page_objects objects.now)) skip commits.old commits.new parents.old parents.new) }
+    ensures ending { IfOk result (λ batch. IfFailed (FailsOver (map string_bytes words.now) objects.now) batch.ending) }
+    ensures fails { IfErr result (FailsOver (map string_bytes words.now) objects.now) }
+    ensures commits_stay { IfErr result (λ e. commits.new ≡ commits.old) }
+    ensures parents_stay { IfErr result (λ e. parents.new ≡ parents.old) }
 {
-    shown.until.is_none()
-        && matches!(shown.merges, Merges::Any)
-        && shown.skip == 0
-        && matches!(shown.form, Form::Lines)
+    let listing = Listing::read(alloc, words)?;
+    let lent = objects.store();
+    batch_of(alloc, listing, &lent, skip, commits, parents)
 }
 
-/// Fills the slices from the walk in this order over what is stored.
+/// Fills the slices from the walk that a list asks for, over what is stored.
 ///
 /// # Errors
 /// The walk can't start. Nothing is put.
 fn batch_of(
     alloc: Global,
-    order: Order,
-    limit: Option<u64>,
-    tips: Vec<ObjectId>,
-    hidden: Vec<ObjectId>,
+    listing: Listing,
     store: &LentStore<'_>,
     skip: u64,
     commits: &mut [Commit],
     parents: &mut [CommitId],
 ) -> Result<Batch, Fault>
-    ensures ok { IfOk result (λ batch. FillsBy (readable (reads_all_lines (Commits order (all_lines_to limit) tips.items hidden.items)) (with_rows [] store.now)) limit tips.items hidden.items skip commits.old commits.new parents.old parents.new batch order) }
-    ensures err { IfErr result (λ e. Serves (readable (reads_all_lines (Commits order (all_lines_to limit) tips.items hidden.items)) (with_rows [] store.now)) [] (Some []) (Commits order (all_lines_to limit) tips.items hidden.items) (Err e) (Some [])) }
+    ensures ok { IfOk result (λ batch. FillsBy (readable (reads_all_lines (Commits listing.order (all_lines_to listing.limit) listing.tips.items listing.hidden.items)) (with_rows [] store.now)) listing.limit listing.tips.items listing.hidden.items skip commits.old commits.new parents.old parents.new batch listing.order) }
+    ensures err { IfErr result (λ e. Serves (readable (reads_all_lines (Commits listing.order (all_lines_to listing.limit) listing.tips.items listing.hidden.items)) (with_rows [] store.now)) [] (Some []) (Commits listing.order (all_lines_to listing.limit) listing.tips.items listing.hidden.items) (Err e) (Some [])) }
+    ensures unwritten { IfErr result (λ e. e ≢ Fault.Write) }
     ensures commits_stay { IfErr result (λ e. commits.new ≡ commits.old) }
     ensures parents_stay { IfErr result (λ e. parents.new ≡ parents.old) }
 {
+    let Listing {
+        order,
+        limit,
+        tips,
+        hidden,
+    } = listing;
     match order {
         Order::Simple {
             parents: through,

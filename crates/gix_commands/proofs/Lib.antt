@@ -1,7 +1,7 @@
 mod Common
-mod WordFaults
+pub mod WordFaults
 pub mod WalkFaults
-mod MemoryFaults
+pub mod MemoryFaults
 mod OutputFacts
 mod WrittenForms
 mod ChosenFacts
@@ -13,7 +13,7 @@ mod TopoInternalFacts
 mod FileFacts
 mod NotedNames
 mod ListerFacts
-mod LostParents
+pub mod LostParents
 mod RowedParents
 pub mod CheckedWalks
 mod CheckedSteps
@@ -78,7 +78,7 @@ pub mod ReadableTexts
 mod ReachedIsRead
 pub mod SameCommitsThere
 mod RowsAsTexts
-mod NamedOnes
+pub mod NamedOnes
 mod Promised
 mod PromisedRuns
 mod SortedRows

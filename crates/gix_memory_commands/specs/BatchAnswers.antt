@@ -1,6 +1,7 @@
 -- What a call for a batch of commits answers, and what it leaves in the slices.
-use Rattle.std.specs.Prelude.{◌≡◌, ℕ, nat_eq, List, map, if◌then◌else◌}
+use Rattle.std.specs.Prelude.{◌≡◌, ℕ, nat_eq, List, map, Some, if◌then◌else◌}
 use Rattle.std.specs.Str.Lossy.{utf8_lossy}
+use Rattle.gix_statement.specs.WholeStatement.{AreFed}
 use Rattle.gix_batches.specs.declared.commit.Batch.{Batch}
 use Rattle.gix_batches.specs.declared.commit.Commit.{Commit}
 use Rattle.gix_batches.specs.declared.commit.CommitId.{CommitId}
@@ -29,6 +30,6 @@ of_batch batch = of_ending batch.commits batch.ending
 pub record AnswersBatch (words records : List ℕ) (skip : ℕ) (old new : List Commit) (before after : List CommitId) (answer : Answer)
     : Type 0 where
   pub batch : Batch
-  pub promises : Promises (map utf8_lossy (words_of words)) records skip old new before after batch
+  pub promises : Promises (map utf8_lossy (words_of words)) (AreFed (Some records)) skip old new before after batch
   pub fails : IfFailed (Fails (map utf8_lossy (words_of words)) records) batch.ending
   pub is : answer ≡ of_batch batch

@@ -1,7 +1,6 @@
 -- Attacks, as theorems: what is refused because there is one right output, and what is admitted and harmless.
-use Rattle.std.proofs.Common.{◌≡◌, ℕ, ℤ, List, [], ◌∷◌, ◌++◌, length, Some, None, Ok, Err, codes, refl, sym, ap, ◌∙◌, arith, inl, inr}
+use Rattle.std.proofs.Common.{◌≡◌, ℕ, ℤ, List, [], ◌∷◌, ◌++◌, length, Some, None, Ok, Err, codes, refl, ap, arith, inl, inr}
 use Rattle.std.proofs.lemmas.List.Elements.{All-nil}
-use Rattle.std.specs.Str.Parse.{digits_value}
 use Rattle.gix_hash.specs.declared.ObjectId.{ObjectId}
 use Rattle.gix_hash.proofs.Ids.Membership.{no_member}
 use Rattle.gix_statement.specs.WholeStatement as page

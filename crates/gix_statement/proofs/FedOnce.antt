@@ -18,11 +18,11 @@ digits_plain : (base b : ℕ) → (digit_value b < base → ⊥) → (text : Lis
 digits_plain base b n [] d = All-nil (λ x. x ≢ b)
 digits_plain base b n (c ∷ cs) d = All-cons (λ x. x ≢ b) c cs (λ e. n (subst (λ x. digit_value x < base) e d.0)) (digits_plain base b n cs d.1)
 
-hex_plain : {text bytes : List ℕ} → IsHex text bytes → All (λ x. x ≢ 32) text
-hex_plain none = All-nil (λ x. x ≢ 32)
-hex_plain (byte {a = a} {b = b} {text = text} d h) =
-    let two = digits_plain 16 32 (λ l. omega (arith, l)) (a ∷ b ∷ []) d in
-    All-cons (λ x. x ≢ 32) a (b ∷ text) (two 0 a (omega arith)) (All-cons (λ x. x ≢ 32) b text (two 1 b (omega arith)) (hex_plain h))
+pub hex_plain : (c : ℕ) → (digit_value c < 16 → ⊥) → {text bytes : List ℕ} → IsHex text bytes → All (λ x. x ≢ c) text
+hex_plain c n none = All-nil (λ x. x ≢ c)
+hex_plain c n (byte {a = a} {b = b} {text = text} d h) =
+    let two = digits_plain 16 c n (a ∷ b ∷ []) d in
+    All-cons (λ x. x ≢ c) a (b ∷ text) (two 0 a (omega arith)) (All-cons (λ x. x ≢ c) b text (two 1 b (omega arith)) (hex_plain c n h))
 
 records_once : (records others : List (ObjectId × Object)) (text : List ℕ) → AreRecords records text → AreRecords others text → records ≡ others
 records_once [] [] text a b = refl
@@ -30,7 +30,7 @@ records_once [] ((j, p) ∷ others) text a (id, number, rest, kind, spells, coun
 records_once ((i, o) ∷ records) [] text (id, number, rest, kind, spells, counts, are, is) b = absurd (empty_kind o.kind _ (sym b ∙ is))
 records_once ((i, o) ∷ records) ((j, p) ∷ others) text (id, number, rest, kind, spells, counts, are, is) (word, figures, more, sort, spell, value, too, same) =
     let k = first_same 32 o.kind p.kind _ _ (kind_plain o.kind kind) (kind_plain p.kind sort) (sym is ∙ same) in
-    let w = first_same 32 id word _ _ (hex_plain spells.2) (hex_plain spell.2) k.1 in
+    let w = first_same 32 id word _ _ (hex_plain 32 (λ l. omega (arith, l)) spells.2) (hex_plain 32 (λ l. omega (arith, l)) spell.2) k.1 in
     let n = first_same 10 number figures _ _ (digits_plain 10 10 (λ l. omega (arith, l)) number counts.2) (digits_plain 10 10 (λ l. omega (arith, l)) figures value.2) w.1 in
     let long : length o.bytes ≡ length p.bytes = counts.3 ∙ ap (digits_value 10) n.0 ∙ sym value.3 in
     let bytes = append_same o.bytes p.bytes (10 ∷ rest) (10 ∷ more) long n.1 in

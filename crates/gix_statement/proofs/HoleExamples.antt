@@ -1,10 +1,10 @@
 -- What the statement refuses: a run over empty input that ends well has written nothing of what isn't there.
-use Rattle.std.proofs.Common.{◌≡◌, ◌⊎◌, ℕ, zero, suc, drop, length, ℤ, pos, List, [], ◌∷◌, ◌++◌, Option, Some, None, Ok, All, Contains, codes, flat_map, refl, sym, ap, subst, ◌∙◌, arith, ⊎_elim, inl, inr}
+use Rattle.std.proofs.Common.{◌≡◌, ◌⊎◌, ℕ, zero, suc, drop, length, ℤ, pos, List, [], ◌∷◌, ◌++◌, Option, Some, None, Ok, All, Contains, codes, refl, sym, ap, subst, ◌∙◌, arith, ⊎_elim, inl, inr}
 use Rattle.std.specs.Fmt.{digits}
 use Rattle.gix_hash.proofs.Ids.Membership.{no_member}
 use Rattle.gix_hash.specs.declared.ObjectId.{ObjectId}
 use Rattle.gix_statement.proofs.Tests.{not_among}
-use Rattle.gix_statement.specs.WholeStatement.{Object, Objects, Row, AreRecords, AreFed, IsLast, IsCommit, IsThere, IsHistory, Promises, Serves, commits, ahead, contains, containing, bases, files, lists, id_line, Choice, Form, Lines, Reversed, Number, chosen, written}
+use Rattle.gix_statement.specs.WholeStatement.{Object, Objects, Row, AreRecords, AreFed, IsLast, IsCommit, IsThere, IsHistory, Promises, Serves, commits, ahead, contains, containing, bases, files, lists, Choice, Form, Lines, Reversed, Number, chosen, written}
 
 pub none : ObjectId → List ObjectId
 none i = []

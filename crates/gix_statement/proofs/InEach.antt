@@ -6,7 +6,7 @@ use Rattle.std.specs.Io.KnownBytes.{Appends}
 use Rattle.std.proofs.lemmas.List.Elements.{All-contains, All-nil}
 use Rattle.gix_hash.proofs.Ids.Membership.{no_member}
 use Rattle.gix_hash.specs.declared.ObjectId.{ObjectId}
-use Rattle.gix_statement.specs.WholeStatement.{Objects, Row, IsThere, IsHistory, InEach, Allows, AreTips, Begins, IsWhole, IsNext, breadth, newest, oldest, date, topo, parent, Follows, all, id_line, digits_in, Spells, Keeps, Lists, lists, HasBegun, Serves, commits, ahead, contains, containing, bases, IsBase, by_bytes, files, Reaches, start, IsNumberShown, IsTree, Unfolds, Entry, entry_line, Choice, Chooses, Lines, chosen, written}
+use Rattle.gix_statement.specs.WholeStatement.{Objects, Row, IsThere, IsHistory, InEach, Allows, AreTips, Begins, IsWhole, IsNext, breadth, newest, oldest, date, topo, parent, Follows, all, id_line, digits_in, Spells, Keeps, Lists, lists, Serves, ahead, contains, containing, bases, IsBase, by_bytes, files, Reaches, start, IsNumberShown, IsTree, Unfolds, Entry, entry_line, Choice, Chooses, Lines, chosen, written}
 use Rattle.gix_statement.proofs.Heart.{IsSimple}
 use Rattle.gix_statement.proofs.EachHistory.{base_back, base_there, containing_there, counted_there, kept_there, moved, same_parents, same_time, filter_same}
 use Rattle.gix_statement.proofs.Descents.{IsDown, begins_down, whole_down}

@@ -12,9 +12,10 @@ pub mod Descents
 pub mod InEach
 -- One answer: of one history, of one input, of the files of a commit-graph, and from end to end.
 pub mod OneAnswer
-mod FedOnce
+pub mod FedOnce
 mod LayersOnce
-mod OneOutput
+pub mod OneOutput
+pub mod LinesOnce
 mod NamedClash
 -- Worked examples, and attacks that are refused.
 pub mod Tests

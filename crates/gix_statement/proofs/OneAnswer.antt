@@ -10,7 +10,7 @@ use Rattle.std.specs.Str.Parse.{AllDigits, digits_value}
 use Rattle.gix_hash.proofs.Ids.Membership.{Contains-here, Contains-there, Contains-cons_cases, no_member}
 use Rattle.gix_hash.specs.declared.ObjectId.{ObjectId}
 use Rattle.gix_hash.specs.declared.ObjectId.TheVariants.{Sha1, Sha256}
-use Rattle.gix_statement.specs.WholeStatement.{Objects, Row, IsPending, IsReady, IsFirst, IsBest, Keeps, empty, kept, passed, IsNext, breadth, newest, oldest, date, topo, AreMadeReady, by_time, Begins, IsWhole, Allows, AreTips, Follows, all, first, since, Spells, digits_in, bytes_in, Lists, lists, HasBegun, IsCutOff, OneAnswer, Serves, commits, ahead, contains, containing, bases, IsBase, by_bytes, files, Entry, Object, AreEntries, IsTree, Unfolds, whole, other, tree, Clash, Reaches, id_line, entry_line, IsNumberShown, Choice, Chooses, everything, until, merges, no_merges, skip, at_most, reversed, counted, chosen, written, Lines, Reversed, Number}
+use Rattle.gix_statement.specs.WholeStatement.{Objects, Row, IsPending, IsReady, IsFirst, IsBest, Keeps, empty, kept, passed, IsNext, breadth, newest, oldest, date, topo, AreMadeReady, by_time, Begins, IsWhole, Allows, AreTips, Follows, all, first, since, Spells, digits_in, bytes_in, Lists, lists, HasBegun, IsCutOff, OneAnswer, Serves, commits, ahead, contains, containing, bases, IsBase, by_bytes, files, Entry, Object, AreEntries, IsTree, Unfolds, whole, other, tree, Clash, Reaches, id_line, entry_line, IsNumberShown, Form, Choice, Chooses, everything, until, merges, no_merges, skip, at_most, reversed, counted, chosen, written, Lines, Reversed, Number}
 use Rattle.gix_statement.proofs.OneCommit.{spelled_same, append_same, first_same, id_same}
 use Rattle.gix_statement.proofs.Carried.{same_object}
 use Rattle.gix_statement.proofs.Tests.{not_among, other_head}
@@ -136,6 +136,19 @@ module _ {I : Type 0} (parents followed : I → List I) (time : I → ℤ) (star
         let h : x ≡ y = next_once taken x y by (l.2 taken xs x is) (m.0.2 taken ys y same) in
         begun_before by ids others (taken ++ x ∷ []) xs ys l few m (is ∙ sym (append_assoc taken (x ∷ []) xs)) (same ∙ ap (λ z. taken ++ z ∷ ys) (sym h) ∙ sym (append_assoc taken (x ∷ []) ys))
     begun_before by ids others taken (x ∷ xs) [] l few m is same = ([], sym (append-nil (left ids) ∙ stops by others ids taken x xs m l few same is))
+
+    -- two beginnings: what is chosen of one of them is a beginning of what is of the other
+    begun_either : (by : List ℕ) (ids others taken xs ys : List I) → Begins parents followed time starts hidden by ids → Begins parents followed time starts hidden by others → ids ≡ taken ++ xs → others ≡ taken ++ ys
+        → ((more : List I) × (left others ≡ left ids ++ more)) ⊎ ((more : List I) × (left ids ≡ left others ++ more))
+    begun_either by ids others taken [] ys l m is same =
+        let d = left_more taken ys in
+        inl (d.0, ap left same ∙ d.1 ∙ ap (λ xs. left xs ++ d.0) (sym (is ∙ append-nil taken)))
+    begun_either by ids others taken (x ∷ xs) [] l m is same =
+        let d = left_more taken (x ∷ xs) in
+        inr (d.0, ap left is ∙ d.1 ∙ ap (λ xs. left xs ++ d.0) (sym (same ∙ append-nil taken)))
+    begun_either by ids others taken (x ∷ xs) (y ∷ ys) l m is same =
+        let h : x ≡ y = next_once taken x y by (l.2 taken xs x is) (m.2 taken ys y same) in
+        begun_either by ids others (taken ++ x ∷ []) xs ys l m (is ∙ sym (append_assoc taken (x ∷ []) xs)) (same ∙ ap (λ z. taken ++ z ∷ ys) (sym h) ∙ sym (append_assoc taken (x ∷ []) ys))
 
 -- COUNTS: two lists without repeats that have the same members are as long as each another
 split : {I : Type 0} (ys : List I) (x : I) → Contains ys x → (before after : List I) × (ys ≡ before ++ x ∷ after)
@@ -338,10 +351,21 @@ module _ (parents : ObjectId → List ObjectId) (time : ObjectId → ℤ) where
       let same : n ≡ m = num.3 ∙ sym counts.3 in
       ((λ k i. filter (λ p. not (int_lt (time p) (pos (same k)))) (parents i)), (λ k. filter (λ i. not (int_lt (time i) (pos (same k)))) tips))
 
-  -- LISTS: what is written of the first is a beginning of what is of the second; and if it has ended, it is that
-  lists_before : (read objects : Objects) (rows more : List Row) (bytes full : List ℕ) (ended : Bool) (asked words : List (List ℕ)) → Lists read rows parents time bytes ended asked
-      → Lists objects more parents time full true words → asked ≡ words → ((left : List ℕ) × (full ≡ bytes ++ left)) × (ended ≡ true → bytes ≡ full)
-  lists_before read objects rows more bytes full end asked words (lists {by = by} option ws c ids {tips = tips} {hidden = hidden} {starts = starts} {followed = followed} named chooses some follows there begins allows ended may is_written)
+  -- lines of ids that go on
+  lines_more : (form : Form) (xs ys rest : List ObjectId) (some full : List ℕ) → form ≡ Lines → some ≡ written form xs → full ≡ written form ys → ys ≡ xs ++ rest → (left : List ℕ) × (full ≡ some ++ left)
+  lines_more form xs ys rest some full lines is same e =
+      (flat_map id_line rest, same ∙ ap (λ f. written f ys) lines ∙ ap (flat_map id_line) e ∙ flat_more xs rest ∙ ap (λ x. x ++ flat_map id_line rest) (ap (λ f. written f xs) (sym lines) ∙ sym is))
+
+  -- LISTS: what is written of one of two is a beginning of what is of the other, and what is of one that has ended is a beginning of nothing else
+  pub record AreOneList (bytes full : List ℕ) (ended end : Bool) : Type 0 where
+    pub either : ((left : List ℕ) × (full ≡ bytes ++ left)) ⊎ ((left : List ℕ) × (bytes ≡ full ++ left))
+    pub first : end ≡ true → (left : List ℕ) × (full ≡ bytes ++ left)
+    pub second : ended ≡ true → (left : List ℕ) × (bytes ≡ full ++ left)
+    pub both : ended ≡ true → end ≡ true → bytes ≡ full
+
+  pub lists_are_one : (read objects : Objects) (rows more : List Row) (bytes full : List ℕ) (ended end : Bool) (asked words : List (List ℕ)) → Lists read rows parents time bytes ended asked
+      → Lists objects more parents time full end words → asked ≡ words → AreOneList bytes full ended end
+  lists_are_one read objects rows more bytes full end close asked words (lists {by = by} option ws c ids {tips = tips} {hidden = hidden} {starts = starts} {followed = followed} named chooses some follows there begins allows ended may is_written)
       (lists {by = name} {place = late} choice vs d others {tips = those} {hidden = below} {starts = from} {followed = names} called picks any goes are_there begun allowed stopped can full_written) is =
       let first_word : by ≡ name = cc in
       let others_too : option ++ ws ≡ choice ++ vs = cc in
@@ -349,18 +373,37 @@ module _ (parents : ObjectId → List ObjectId) (time : ObjectId → ℤ) where
       let t = chosen_once ws c d chooses (subst (λ x. Chooses those below late x d) (sym o.1) picks) in
       let goes_too : Follows parents time tips by option names from = subst (λ (T : Type 0). T) (λ k. Follows parents time (sym t.1 k) (sym first_word k) (sym o.0 k) names from) goes in
       let f = follows_once option follows goes_too in
-      let second : Long parents followed time starts hidden c by others =
-      subst (λ (T : Type 0). T) (λ k. Long parents (sym f.0 k) time (sym f.1 k) (sym t.2 k) (sym t.0 k) (sym first_word k) others) (begun, allowed, stopped refl) in
+      let begun_too : Begins parents followed time starts hidden by others = subst (λ (T : Type 0). T) (λ k. Begins parents (sym f.0 k) time (sym f.1 k) (sym t.2 k) (sym first_word k) others) begun in
+      let allowed_too : Allows c.limit (length (chosen parents time c others)) = subst (λ (x : Choice). Allows x.limit (length (chosen parents time x others))) (sym t.0) allowed in
+      let can_too : (close ≡ true) ⊎ (c.form ≡ Lines) = subst (λ (x : Choice). (close ≡ true) ⊎ (x.form ≡ Lines)) (sym t.0) can in
+      let whole_too : close ≡ true → Long parents followed time starts hidden c by others =
+      (λ e. subst (λ (T : Type 0). T) (λ k. Long parents (sym f.0 k) time (sym f.1 k) (sym t.2 k) (sym t.0 k) (sym first_word k) others) (begun, allowed, stopped e)) in
       let full_so : full ≡ written c.form (chosen parents time c others) = full_written ∙ ap (λ x. written x.form (chosen parents time x others)) (sym t.0) in
-      let same : end ≡ true → bytes ≡ full = (λ e. is_written ∙ ap (written c.form) (begun_once parents followed time starts hidden c by ids others [] ids others (begins, allows, ended e) second refl refl) ∙ sym full_so) in (
-        ⊎_elim
-            (λ e. ([], sym (append-nil bytes ∙ same e)))
-            (λ (lines : c.form ≡ Lines).
-            let b = begun_before parents followed time starts hidden c by ids others [] ids others begins allows second refl refl in
-            (flat_map id_line b.0, full_so ∙ ap (λ f. written f (chosen parents time c others)) lines ∙ ap (flat_map id_line) b.1 ∙ flat_more (chosen parents time c ids) b.0 ∙ ap (λ x. x ++ flat_map id_line b.0) (ap (λ f. written f (chosen parents time c ids)) (sym lines) ∙ sym is_written)))
-            may,
-        same,
-      )
+      let same : end ≡ true → close ≡ true → bytes ≡ full =
+      (λ e l. is_written ∙ ap (written c.form) (begun_once parents followed time starts hidden c by ids others [] ids others (begins, allows, ended e) (whole_too l) refl refl) ∙ sym full_so) in
+      let up : (r : List ObjectId) → c.form ≡ Lines → chosen parents time c others ≡ chosen parents time c ids ++ r → (left : List ℕ) × (full ≡ bytes ++ left) =
+      (λ r lines e. lines_more c.form (chosen parents time c ids) (chosen parents time c others) r bytes full lines is_written full_so e) in
+      let down : (r : List ObjectId) → c.form ≡ Lines → chosen parents time c ids ≡ chosen parents time c others ++ r → (left : List ℕ) × (bytes ≡ full ++ left) =
+      (λ r lines e. lines_more c.form (chosen parents time c others) (chosen parents time c ids) r full bytes lines full_so is_written e) in
+      let before : close ≡ true → (left : List ℕ) × (full ≡ bytes ++ left) =
+      (λ l. ⊎_elim (λ e. ([], sym (append-nil bytes ∙ same e l)))
+      (λ lines. let b = begun_before parents followed time starts hidden c by ids others [] ids others begins allows (whole_too l) refl refl in up b.0 lines b.1) may) in
+      let behind : end ≡ true → (left : List ℕ) × (bytes ≡ full ++ left) =
+      (λ e. ⊎_elim (λ l. ([], sym (append-nil full ∙ sym (same e l))))
+      (λ lines. let b = begun_before parents followed time starts hidden c by others ids [] others ids begun_too allowed_too (begins, allows, ended e) refl refl in down b.0 lines b.1) can_too) in
+      record {
+        either = ⊎_elim (λ e. inr (behind e))
+            (λ lines. ⊎_elim (λ b. inl (up b.0 lines b.1)) (λ b. inr (down b.0 lines b.1))
+            (begun_either parents followed time starts hidden c by ids others [] ids others begins begun_too refl refl)) may;
+        first = before;
+        second = behind;
+        both = same;
+      }
+
+  -- what is written of the first is a beginning of what is of the second; and if it has ended, it is that
+  lists_before : (read objects : Objects) (rows more : List Row) (bytes full : List ℕ) (ended : Bool) (asked words : List (List ℕ)) → Lists read rows parents time bytes ended asked
+      → Lists objects more parents time full true words → asked ≡ words → ((left : List ℕ) × (full ≡ bytes ++ left)) × (ended ≡ true → bytes ≡ full)
+  lists_before read objects rows more bytes full end asked words l m is = let one = lists_are_one read objects rows more bytes full end true asked words l m is in (one.first refl, λ e. one.both e refl)
 
 -- TREES
 no_space : (mode : List ℕ) → AllDigits 8 mode → All (λ x. x ≢ 32) mode

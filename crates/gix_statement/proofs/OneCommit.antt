@@ -47,7 +47,7 @@ spaces_same zero (suc m) zs bs p q e = absurd (p (ap (take 1) e))
 spaces_same (suc n) zero zs bs p q e = absurd (q (sym (ap (take 1) e)))
 spaces_same (suc n) (suc m) zs bs p q e = let more : replicate n 32 ++ zs ≡ replicate m 32 ++ bs = cc in spaces_same n m zs bs p q more
 
-hex_same : {text bytes others : List ℕ} → IsHex text bytes → IsHex text others → bytes ≡ others
+pub hex_same : {text bytes others : List ℕ} → IsHex text bytes → IsHex text others → bytes ≡ others
 hex_same none none = refl
 hex_same (byte {a = a} {b = b} d h) (byte e i) = (λ k. digits_value 16 (a ∷ b ∷ []) ∷ hex_same h i k)
 

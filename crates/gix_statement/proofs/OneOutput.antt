@@ -76,25 +76,25 @@ module _ (objects others : Objects) (rows : List Row) (agree : Agree objects row
   abbrev pub both : Objects
   both i = or_else (objects i) (others i)
 
-  text_of_one : (r : Row) → IsText objects r → IsText both r
+  pub text_of_one : (r : Row) → IsText objects r → IsText both r
   text_of_one r (id, lines, rest, tree, names, time, is) = (id, lines, rest, tree, names, time, ap (λ o. or_else o (others r.id)) is)
 
   module _ (clash : Clash objects others → ⊥) where
-    text_of_other : (r : Row) → IsText others r → IsText both r
+    pub text_of_other : (r : Row) → IsText others r → IsText both r
     text_of_other r (id, lines, rest, tree, names, time, is) = (id, lines, rest, tree, names, time, go (objects r.id) refl)
       where
         go : (o : Option Object) → objects r.id ≡ o → or_else o (others r.id) ≡ Some (record { kind = codes "commit"; bytes = codes "tree " ++ id ++ 10 ∷ lines })
         go None e = is
         go (Some o) e = ap Some (same_object o _ (λ differ. clash (r.id, o, _, e, is, differ)))
 
-    both_agree : Agree both rows
+    pub both_agree : Agree both rows
     both_agree = (agree.0, λ r c n. go r c n (objects r.id) refl)
       where
         go : (r : Row) → Contains rows r → both r.id ≢ None → (o : Option Object) → objects r.id ≡ o → IsText both r
         go r c n (Some o) e = text_of_one r (agree.1 r c (λ f. let no : Some o ≡ None = sym e ∙ f in cc))
         go r c n None e = text_of_other r (agree_too.1 r c (λ f. n (ap (λ o. or_else o (others r.id)) e ∙ f)))
 
-    commit_of_one : (r : Row) → IsCommit objects rows r → IsCommit both rows r
+    pub commit_of_one : (r : Row) → IsCommit objects rows r → IsCommit both rows r
     commit_of_one r (inl text) = inl (text_of_one r text)
     commit_of_one r (inr (none, c)) = go (others r.id) refl
       where
@@ -102,7 +102,7 @@ module _ (objects others : Objects) (rows : List Row) (agree : Agree objects row
         go None e = inr (ap (λ o. or_else o (others r.id)) none ∙ e, c)
         go (Some o) e = inl (text_of_other r (agree_too.1 r c (λ f. let no : Some o ≡ None = sym e ∙ f in cc)))
 
-    commit_of_other : (r : Row) → IsCommit others rows r → IsCommit both rows r
+    pub commit_of_other : (r : Row) → IsCommit others rows r → IsCommit both rows r
     commit_of_other r (inl text) = inl (text_of_other r text)
     commit_of_other r (inr (none, c)) = go (objects r.id) refl
       where

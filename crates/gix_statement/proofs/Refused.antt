@@ -3,7 +3,7 @@ use Rattle.std.proofs.Common.{true, false, ◌≡◌, ◌⊎◌, ◌+◌, ◌*�
 use Rattle.std.specs.Int.{w32, to_be_bytes}
 use Rattle.gix_hash.specs.declared.ObjectId.{ObjectId}
 use Rattle.gix_statement.proofs.HoleExamples.{Read, fed_nothing, served_nothing, a_history, none_there, none_chosen, none, no_time}
-use Rattle.gix_statement.specs.WholeStatement.{Objects, Row, Promises, HasBegun, IsCutOff, lists, Form, Lines, chosen, written, id_line}
+use Rattle.gix_statement.specs.WholeStatement.{Objects, Row, Promises, HasBegun, IsCutOff, lists, Lines, chosen, written, id_line}
 use Rattle.gix_statement.specs.CommitGraph.{AreLayers, IsChunk}
 use Rattle.gix_statement.proofs.Tests.{other_head}
 

@@ -7,7 +7,7 @@ use Rattle.std.specs.Char.{digit_value}
 use Rattle.std.specs.Str.Parse.{AllDigits, digits_value}
 use Rattle.std.specs.Io.KnownBytes.{Appends}
 use Rattle.gix_hash.specs.declared.ObjectId.{ObjectId}
-use Rattle.gix_statement.specs.WholeStatement.{IsHex, none, byte, Objects, Row, HasBegun, lists, Choice, Form, Lines, chosen, written, id_line}
+use Rattle.gix_statement.specs.WholeStatement.{IsHex, none, byte, Objects, Row, HasBegun, lists, Lines, chosen, written, id_line}
 
 -- all of these are digits
 abbrev pub are_digits : ℕ → List ℕ → Bool

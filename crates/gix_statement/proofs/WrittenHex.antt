@@ -146,7 +146,7 @@ hex_pairs i (byte {a = a} {b = b} {text = text} {bytes = bytes} all h) =
     ap (λ x. x >>= (λ v. decode_pairs (i + 2) text >>= (λ those. Ok (v ∷ those)))) (pair_back a b i all)
     ∙ ap (λ y. y >>= (λ those. Ok (digits_value 16 (a ∷ b ∷ []) ∷ those))) (hex_pairs (i + 2) h)
 
-even : {text bytes : List ℕ} → IsHex text bytes → (length text ≡ 2 * length bytes)
+pub even : {text bytes : List ℕ} → IsHex text bytes → (length text ≡ 2 * length bytes)
 even none = refl
 even (byte all h) = let e = even h in omega (arith, e)
 

@@ -9,7 +9,7 @@ use Rattle.gix_statement.proofs.OneCommit.{one_commit}
 use Rattle.gix_statement.proofs.OneOutput.{output_of_both}
 use Rattle.gix_statement.proofs.Tests.{begun_lines}
 use Rattle.gix_statement.specs.CommitGraph.{AreLayers}
-use Rattle.gix_statement.specs.WholeStatement.{Objects, Row, Promises, HasBegun, Serves, commits, ahead, contains, containing, bases, files, Lists, lists, Allows, AreTips, Follows, all, first, since, digits_in, bytes_in, id_line, Agree, AreNamed, InEach, IsHash, IsText, Choice, Chooses, everything, until, merges, no_merges, skip, at_most, counted, reversed}
+use Rattle.gix_statement.specs.WholeStatement.{Objects, Row, Promises, HasBegun, Serves, commits, ahead, contains, containing, bases, files, Lists, lists, AreTips, Follows, all, first, since, digits_in, bytes_in, id_line, Agree, AreNamed, InEach, IsHash, IsText, Choice, Chooses, everything, until, merges, no_merges, skip, at_most, counted, reversed}
 
 -- HALF A LINE is left only by a run whose writer failed.
 abbrev last_of : ℕ → List ℕ → ℕ

@@ -9,6 +9,6 @@ pub returns-in-Err : goal.returns-in-Err
 returns-in-Err c = record {
   batch = record { commits = 0; parents = 0; ending = Failed fault.Memory };
   promises = gives_none fault.Memory refl refl refl;
-  fails = runs [] without_memory (λ e. cc) (λ e. cc);
+  fails = runs [] without_memory (λ e. cc) (λ e. cc) (λ e. cc);
   is = c.of_fault.ensures;
 }
