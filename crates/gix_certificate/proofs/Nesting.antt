@@ -24,7 +24,6 @@ program_nests : (program : Program) → depth (program_data program) ≤ 1
 program_nests program =
     let commit = optional_nests program.commit in
     let proved_by = optional_nests program.proved_by in
-    let members = max-le commit (max-le proved_by (omega arith)) in
     omega arith
 
 meaning_nests : (word : Data) → depth word ≤ 0 → (meaning : Meaning) → depth (meaning_data word meaning) ≤ 1
