@@ -406,13 +406,7 @@ impl Asking<'_> {
             return Ok(0);
         }
         let mut lines = Vec::new(alloc);
-        in_memory(run_named(
-            alloc,
-            words.as_slice(),
-            objects,
-            graph,
-            &mut lines,
-        ))?;
+        in_memory(run_named(alloc, words.as_slice(), objects, graph, &mut lines))?;
         self.write_lines(lines.as_slice(), output)?;
         Ok(self.status(lines.as_slice()))
     }

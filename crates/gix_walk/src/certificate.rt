@@ -60,14 +60,7 @@ fn certify<W: Write>(
     let resolved = resolve(rt, &mut repository, question)?;
     let revisions = revisions_of(rt, resolved.as_slice())?;
     let mut hashing = Hashing::new(output);
-    let answered = answer_from(
-        rt,
-        keys,
-        &mut repository,
-        question,
-        resolved,
-        &mut hashing,
-    )?;
+    let answered = answer_from(rt, keys, &mut repository, question, resolved, &mut hashing)?;
     certificate_of(rt, given, revisions, answered, hashing.finish())
 }
 
