@@ -4,7 +4,7 @@
 ghost use Rattle.std.specs.Prelude.{◌≡◌, ◌≢◌, ◌∷◌, [], filter, not, true, IfOk, IfErr};
 ghost use Rattle.std.specs.FinSet as set;
 ghost use Rattle.gix_containing.specs.Containing.{FindsContaining, FailsBy};
-ghost use Rattle.gix_containing.specs.Inside.Steps.{TellsReach, MarksOnly, Selects};
+ghost use Rattle.gix_containing.specs.Inside.Steps.{TellsReach, MarksOnly, SelectsTips};
 ghost use Rattle.gix_merge_base.specs.declared.Error.TheVariants as error;
 ghost use Rattle.gix_revwalk.specs.Agreeing.{rows_in};
 
@@ -107,7 +107,7 @@ fn each_alone<F: Find>(
     objects: &F,
     graph: Option<&Graph>,
 ) -> Result<Vec<ObjectId>, Error>
-    ensures ok { IfOk result (λ those. Selects (F.objects objects.now) (rows_in graph.entry) target tips.now those.items) }
+    ensures ok { IfOk result (λ those. SelectsTips (F.objects objects.now) (rows_in graph.entry) target tips.now those.items) }
     ensures err { IfErr result (λ e. e ≢ error.Memory → FailsBy (F.objects objects.now) (F.faulty objects.now) (rows_in graph.entry) target tips.now e) }
 {
     let mut those = Vec::new(alloc);

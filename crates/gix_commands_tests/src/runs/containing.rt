@@ -8,7 +8,10 @@ fn writes_what_contains_an_id(rt: HostRuntime) -> Result<(), Fail> {
         &[SAMPLE],
         &[
             (&["containing", "#4", "#8", "#6", "#7"], "#8\n#7\n"),
-            (&["containing", "#3", "#5", "#4", "#5", "#8"], "#5\n#5\n#8\n"),
+            (
+                &["containing", "#3", "#5", "#4", "#5", "#8"],
+                "#5\n#5\n#8\n",
+            ),
             (&["containing", "#8", "#1", "#7"], ""),
             (&["containing", "#1", "#1"], "#1\n"),
             (&["containing", "#6", "#a"], "! missing #a"),

@@ -21,8 +21,8 @@ abbrev pub TellsReach : Objects → List GraphRow → List ObjectId → ObjectId
 TellsReach objects rows tips target any = IsAgreeing objects rows → (any ≡ true) ↔ Reaches (parents_of objects) tips target
 
 -- the tips that reach the target
-abbrev pub Selects : Objects → List GraphRow → ObjectId → List ObjectId → List ObjectId → Type 0
-Selects objects rows target tips those = IsAgreeing objects rows → AreContaining (parents_of objects) target tips those
+abbrev pub SelectsTips : Objects → List GraphRow → ObjectId → List ObjectId → List ObjectId → Type 0
+SelectsTips objects rows target tips those = IsAgreeing objects rows → AreContaining (parents_of objects) target tips those
 
 -- only what reaches the target is marked, and all that the target and the tips reach was read
 pub record MarksOnly (objects : Objects) (rows : List GraphRow) (target : ObjectId) (tips : List ObjectId) (marks : set.FinSet id_cmp) : Type 0 where
