@@ -8,7 +8,7 @@ use std::alloc::Global;
 pub const PAGES: &[(&str, &str)] = &[
     (
         "crates/gix_statement/specs/WholeStatement.antt",
-        "fd7491995cd69f8df4b556010871738bfeec79593c72dc119797978800a38942",
+        "a8128902273b0cf707a935f3ce2f0b4028ea1cef3d3c482970c95a5bb83df604",
     ),
     (
         "crates/gix_statement/specs/CommitGraph.antt",
