@@ -46,7 +46,11 @@ enum {
     KESTRELRACK_ROW = 14,       /* never answered */
     KESTRELRACK_DISAGREES = 15, /* never answered */
     KESTRELRACK_NAME = 16,      /* the tree of this `id` has an entry whose name is empty or holds a '/' */
-    KESTRELRACK_MORE = 17       /* of kestrelrack_commits alone: there is no room for more commits, and there may be more */
+    KESTRELRACK_MORE = 17,      /* of commits alone: there is no room for more, and there may be more */
+    KESTRELRACK_REPOSITORY = 18, /* the files are no repository that is known, or one of them is damaged that has no objects */
+    KESTRELRACK_REVISION = 19,  /* the revision number `place`, from 1 on, stands for nothing; at 0 there is no commit */
+    KESTRELRACK_OBJECTS = 20,   /* a file of objects is damaged */
+    KESTRELRACK_HASH = 21       /* the object that is stored for this `id` is another's */
 };
 
 struct kestrelrack_answer {
@@ -123,6 +127,52 @@ enum { KESTRELRACK_TIME = 1, KESTRELRACK_GENERATION = 2 };
 struct kestrelrack_answer kestrelrack_commits(const void *words, size_t words_length, const void *records, size_t records_length,
                                               uint64_t skip, struct kestrelrack_commit *commits, size_t commits_length,
                                               struct kestrelrack_id *parents, size_t parents_length);
+
+/* A file of a repository: its path below the repository's folder, as "HEAD" or "objects/pack/pack-1.idx", and what it holds, mapped or read.
+ * A path that ends in '/' says that there is a folder, as "refs/" where all refs are packed. No pointer is NULL, also that of 0 bytes.
+ */
+struct kestrelrack_file {
+    const void *name;
+    size_t name_length;
+    const void *bytes;
+    size_t length;
+};
+
+/* The three calls below are over a repository: a folder such as .git, whose files the caller maps or reads. It gives those that hold what is
+ * asked for, in any order: HEAD, config, packed-refs, shallow, all below refs and all below objects; of several of one path the first
+ * counts. Nothing of them is kept or written, and what a call reads is copied as far as it is needed. While a call runs no one may change
+ * these bytes, or cut a mapped file short, which git never does: it writes new files.
+ *
+ * Each object is compared with its id before it is used, so the answer is right of every repository that has these objects. Git's
+ * commit-graph isn't taken. No other folder is followed: where there is objects/info/alternates, give the files of the folders of objects
+ * that it names below "objects/" too; of a linked worktree give the files of the folder that its commondir names, and in place of HEAD that of
+ * the worktree. The commands end before the parents of a shallow clone's border with KESTRELRACK_MISSING.
+ *
+ * These calls need 256 KiB of stack.
+ */
+
+/* Puts the words of a command at the front of the room, with a newline between two, and with ids in place of its revisions.
+ *
+ * words    A command as for kestrelrack_run, or "resolve", whose revisions are as the program takes them: "main~2", "^v1.0", "A..B",
+ *          "A...B", "HEAD^{tree}", an id or the first digits of one; and "--all", "--branches" and "--tags".
+ *
+ * At KESTRELRACK_WELL the first `length` bytes of the room are words for the two calls below; those of "resolve" are none of a command: its
+ * ids are behind its name. At KESTRELRACK_ROOM they need `length` bytes. At every number but KESTRELRACK_WELL the room is as it was.
+ */
+struct kestrelrack_answer kestrelrack_resolve_in(const void *words, size_t words_length, const struct kestrelrack_file *files,
+                                                 size_t files_length, void *room, size_t room_length);
+
+/* As kestrelrack_run, over a repository: the words have ids. Of few lines of a list ("-n") only as many commits are read as they need. */
+struct kestrelrack_answer kestrelrack_run_in(const void *words, size_t words_length, const struct kestrelrack_file *files, size_t files_length,
+                                             void *room, size_t room_length);
+
+/* As kestrelrack_commits, over a repository: the words have ids. By breadth, newest and oldest only as many commits are read as a batch
+ * needs. Over ids each call walks the same commits, also where the repository has grown meanwhile. A fault of the files comes with `length`
+ * 0, and both slices are as they were.
+ */
+struct kestrelrack_answer kestrelrack_commits_in(const void *words, size_t words_length, const struct kestrelrack_file *files,
+                                                 size_t files_length, uint64_t skip, struct kestrelrack_commit *commits, size_t commits_length,
+                                                 struct kestrelrack_id *parents, size_t parents_length);
 
 /* Puts the text of a number at the front of the room, in English, without a place, an id or a zero byte at the end: "missing". Gives the
  * length of the text in bytes, at most 32. Where the room is smaller it is as it was; the rest of a larger room is too.

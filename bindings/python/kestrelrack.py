@@ -4,11 +4,16 @@
     for commit in kestrelrack.commits(["newest", tip], records):
         print(commit.id.hex(), commit.time, len(commit.parents))
 
+    for commit in kestrelrack.Repository(".").commits(["newest", "main", "^v1.0"]):
+        print(commit.id.hex(), commit.time, len(commit.parents))
+
 Tables hash ids with keys that anybody knows, so whoever chooses the ids of the records can make a call slow. No answer changes.
 """
 
 import ctypes
 import enum
+import mmap
+import os
 import pathlib
 import struct
 import typing
@@ -35,6 +40,10 @@ class Number(enum.IntEnum):
     DISAGREES = 15
     NAME = 16
     MORE = 17
+    REPOSITORY = 18
+    REVISION = 19
+    OBJECTS = 20
+    HASH = 21
 
 
 class Answer(ctypes.Structure):
@@ -69,6 +78,17 @@ class RawCommit(ctypes.Structure):
     ]
 
 
+class RawFile(ctypes.Structure):
+    """`struct kestrelrack_file`."""
+
+    _fields_ = [
+        ("name", ctypes.c_void_p),
+        ("name_length", ctypes.c_size_t),
+        ("bytes", ctypes.c_void_p),
+        ("length", ctypes.c_size_t),
+    ]
+
+
 class Fault(Exception):
     """Why a run failed: its `number`, one of Number, the number of the word or of the record that it names as `place`, or 0, and the id that
     it names as `id`, bytes, or none. For ROOM `length` is the number of bytes that are needed."""
@@ -97,6 +117,10 @@ _run, _commits, _text = _library.kestrelrack_run, _library.kestrelrack_commits, 
 _run.argtypes, _run.restype = [*_slice, *_slice, *_slice], Answer
 _commits.argtypes, _commits.restype = [*_slice, *_slice, ctypes.c_uint64, *_slice, *_slice], Answer
 _text.argtypes, _text.restype = [ctypes.c_uint32, *_slice], ctypes.c_size_t
+_run_in, _commits_in, _resolve_in = _library.kestrelrack_run_in, _library.kestrelrack_commits_in, _library.kestrelrack_resolve_in
+_run_in.argtypes, _run_in.restype = [*_slice, *_slice, *_slice], Answer
+_resolve_in.argtypes, _resolve_in.restype = [*_slice, *_slice, *_slice], Answer
+_commits_in.argtypes, _commits_in.restype = [*_slice, *_slice, ctypes.c_uint64, *_slice, *_slice], Answer
 _commit = struct.Struct("@32sqNNIHH")
 # A record of a commit has no fewer bytes: a head, the line of a tree, and newlines.
 _LEAST = 98
@@ -162,16 +186,15 @@ def commits(words, records, first=1000):
     text = _joined(words)
     if first < 1:
         raise ValueError("no commit in a batch")
-    return _batches(text, *_lent(records), first)
+    return _batches(_commits, text, *_lent(records), first, len(records) // _LEAST + 1)
 
 
-def _batches(text, records, length, size):
-    most = length // _LEAST + 1
+def _batches(call, text, given, length, size, most):
     skip, size = 0, min(size, most)
     room = 2 * size
     while True:
         batch, parents = (RawCommit * size)(), (RawId * room)()
-        answer = _commits(text, len(text), records, length, skip, batch, size, parents, room)
+        answer = call(text, len(text), given, length, skip, batch, size, parents, room)
         yield from _decoded(batch, parents, answer.length)
         skip += answer.length
         if answer.number == Number.WELL:
@@ -194,3 +217,127 @@ def _decoded(batch, parents, number):
             time if known & 1 else None,
             generation if known & 2 else None,
         )
+
+
+# The most commits of a batch over a repository, whose number of commits isn't known.
+_MOST = 1 << 18
+# Files that are as long are mapped, shorter ones are read.
+_MAPPED = 1 << 16
+# How many folders of objects lead from the first to one that is given, at the most, as in git.
+_LEVELS = 6
+# What a worktree has for itself.
+_OWN = ("HEAD", "refs/bisect/", "refs/rewritten/", "refs/worktree/")
+
+
+class Repository:
+    """A repository: a folder that has a `.git` or is one, or the first above it that does. Its files are mapped or read when it is opened:
+    what is written later isn't seen. A mapped file may not be cut short by anybody, or the process ends by SIGBUS; git cuts none.
+
+    The files of alternates and of the folder that a linked worktree belongs to are given too."""
+
+    def __init__(self, folder="."):
+        self._given = {}
+        git = _git_folder(pathlib.Path(folder))
+        common = git
+        if (git / "commondir").is_file():
+            common = (git / (git / "commondir").read_text().rstrip("\n")).resolve()
+        if common != git:
+            self._add_own(git, common)
+        for name in ("HEAD", "config", "packed-refs", "shallow", "info/grafts"):
+            self._add(name, common / name)
+        for name in ("refs", "worktrees"):
+            self._add_below(name, common / name)
+        self._add_objects(common / "objects", 0)
+        self._files = (RawFile * len(self._given))()
+        for file, (name, (held, length)) in zip(self._files, self._given.items()):
+            # The names are kept as the keys, the bytes in the values.
+            file.name, file.name_length = ctypes.cast(ctypes.c_char_p(name), ctypes.c_void_p).value, len(name)
+            file.bytes, file.length = ctypes.cast(held, ctypes.c_void_p).value, length
+
+    def _add_own(self, git, common):
+        for name in _OWN:
+            if name.endswith("/"):
+                self._add_below(name[:-1], git / name)
+            else:
+                self._add(name, git / name)
+        self._add("worktrees/main-worktree/HEAD", common / "HEAD")
+        self._add("worktrees/main-worktree/gitdir", common / "HEAD")
+
+    def _add(self, name, path):
+        key = os.fsencode(name)
+        # What is no file, as a pipe, isn't opened.
+        if key in self._given or not os.path.isfile(path):
+            return
+        with open(path, "rb") as file:
+            if os.fstat(file.fileno()).st_size < _MAPPED:
+                held = file.read()
+                self._given[key] = (ctypes.c_char_p(held), len(held))
+            else:
+                held = mmap.mmap(file.fileno(), 0, access=mmap.ACCESS_COPY)
+                self._given[key] = ((ctypes.c_char * len(held)).from_buffer(held), len(held))
+
+    def _add_below(self, name, folder):
+        if folder.is_dir():
+            self._given.setdefault(os.fsencode(name) + b"/", (ctypes.c_char_p(b""), 0))
+        for path, folders, files in os.walk(folder):
+            below = os.path.relpath(path, folder)
+            front = name if below == "." else f"{name}/{below}"
+            for inner in folders:
+                self._given.setdefault(os.fsencode(f"{front}/{inner}/"), (ctypes.c_char_p(b""), 0))
+            for file in files:
+                self._add(f"{front}/{file}", os.path.join(path, file))
+
+    def _add_objects(self, folder, level):
+        self._add_below("objects", folder)
+        self._given.pop(b"objects/info/alternates", None)
+        alternates = folder / "info" / "alternates"
+        if level < _LEVELS and alternates.is_file():
+            for line in alternates.read_bytes().split(b"\n"):
+                if line and not line.startswith(b"#"):
+                    self._add_objects(folder / os.fsdecode(line), level + 1)
+
+    def _text(self, call, text):
+        room = (ctypes.c_char * 65536)()
+        while True:
+            answer = call(text, len(text), self._files, len(self._files), room, len(room))
+            if answer.number == Number.WELL:
+                return bytes(memoryview(room)[: answer.length])
+            if answer.number != Number.ROOM:
+                raise Fault(answer)
+            room = (ctypes.c_char * answer.length)()
+
+    def resolve(self, words):
+        """The words with ids in place of the revisions, as a list: `resolve(["newest", "main~2", "^v1.0"])`."""
+        return self._text(_resolve_in, _joined(words)).decode().split("\n")
+
+    def run(self, words):
+        """Runs a command, whose revisions are as the program takes them, and gives the lines that it writes, as bytes."""
+        resolved = self.resolve(words)
+        if resolved[0] == "resolve":
+            return "".join(f"{word}\n" for word in resolved[1:]).encode()
+        return self._text(_run_in, _joined(resolved))
+
+    def commits(self, words, first=1000):
+        """Gives the commits of a list command one at a time, as `commits` does over records. Its revisions are resolved once."""
+        text = _joined(self.resolve(words))
+        if first < 1:
+            raise ValueError("no commit in a batch")
+        return self._batches(text, first)
+
+    def _batches(self, text, first):
+        yield from _batches(_commits_in, text, self._files, len(self._files), first, _MOST)
+
+
+def _git_folder(folder):
+    """The folder of the repository that a folder is in, as `.git` or that of a linked worktree."""
+    start = folder.resolve()
+    for place in (start, *start.parents):
+        git = place / ".git"
+        if git.is_file():
+            text = git.read_text()
+            if text.startswith("gitdir: "):
+                return (place / text[len("gitdir: ") :].rstrip("\n")).resolve()
+        for found in (git, place):
+            if (found / "HEAD").is_file() and ((found / "objects").is_dir() or (found / "commondir").is_file()):
+                return found
+    raise FileNotFoundError(f"no repository is at {str(folder)!r}")

@@ -5,8 +5,15 @@
 //!
 //! Tables hash ids with keys that anybody knows, so whoever chooses the ids of the records can make a call slow. No answer changes.
 
+use std::collections::HashSet;
+use std::ffi::{OsStr, OsString, c_void};
 use std::fmt;
+use std::fs::{self, File};
+use std::io::{self, Read};
 use std::iter::FusedIterator;
+use std::os::fd::AsRawFd;
+use std::os::unix::ffi::{OsStrExt, OsStringExt};
+use std::path::{Path, PathBuf};
 
 /// The numbers of answers, as in `kestrelrack.h`. Those from `READ` to `DISAGREES` are never answered.
 pub mod number {
@@ -28,6 +35,10 @@ pub mod number {
     pub const DISAGREES: u32 = 15;
     pub const NAME: u32 = 16;
     pub const MORE: u32 = 17;
+    pub const REPOSITORY: u32 = 18;
+    pub const REVISION: u32 = 19;
+    pub const OBJECTS: u32 = 20;
+    pub const HASH: u32 = 21;
 }
 
 #[repr(C)]
@@ -57,6 +68,15 @@ pub struct RawCommit {
     pub generation: u32,
     pub id_length: u16,
     pub known: u16,
+}
+
+/// `struct kestrelrack_file`.
+#[repr(C)]
+struct RawFile {
+    name: *const u8,
+    name_length: usize,
+    bytes: *const u8,
+    length: usize,
 }
 
 impl RawId {
@@ -97,7 +117,37 @@ unsafe extern "C" {
         parents: *mut RawId,
         parents_length: usize,
     ) -> Answer;
+    fn kestrelrack_resolve_in(
+        words: *const u8,
+        words_length: usize,
+        files: *const RawFile,
+        files_length: usize,
+        room: *mut u8,
+        room_length: usize,
+    ) -> Answer;
+    fn kestrelrack_run_in(
+        words: *const u8,
+        words_length: usize,
+        files: *const RawFile,
+        files_length: usize,
+        room: *mut u8,
+        room_length: usize,
+    ) -> Answer;
+    fn kestrelrack_commits_in(
+        words: *const u8,
+        words_length: usize,
+        files: *const RawFile,
+        files_length: usize,
+        skip: u64,
+        commits: *mut RawCommit,
+        commits_length: usize,
+        parents: *mut RawId,
+        parents_length: usize,
+    ) -> Answer;
     fn kestrelrack_text(number: u32, room: *mut u8, room_length: usize) -> usize;
+    // Of the C library.
+    fn mmap(at: *mut c_void, length: usize, protection: i32, flags: i32, file: i32, offset: i64) -> *mut c_void;
+    fn munmap(at: *mut c_void, length: usize) -> i32;
 }
 
 /// Why no lines were written, or no more commits were given.
@@ -195,23 +245,49 @@ pub fn commits_into(
     commits: &mut [RawCommit],
     parents: &mut [RawId],
 ) -> Result<(usize, Ending), Error> {
-    Ok(batch(&joined(words)?, records, skip, commits, parents))
+    Ok(batch(&joined(words)?, Source::Records(records), skip, commits, parents))
 }
 
-fn batch(words: &str, records: &[u8], skip: u64, commits: &mut [RawCommit], parents: &mut [RawId]) -> (usize, Ending) {
-    // SAFETY: each pointer and length are those of one slice, which is borrowed for the call, the last two alone for writing.
-    let answer = unsafe {
-        kestrelrack_commits(
-            words.as_ptr(),
-            words.len(),
-            records.as_ptr(),
-            records.len(),
-            skip,
-            commits.as_mut_ptr(),
-            commits.len(),
-            parents.as_mut_ptr(),
-            parents.len(),
-        )
+/// Where the objects of a list are.
+#[derive(Clone, Copy)]
+enum Source<'a> {
+    Records(&'a [u8]),
+    Repository(&'a Repository),
+}
+
+fn batch(words: &str, source: Source<'_>, skip: u64, commits: &mut [RawCommit], parents: &mut [RawId]) -> (usize, Ending) {
+    // SAFETY: each pointer and length are those of one slice, which is borrowed for the call, the last two alone for writing. The pointers
+    // of the files are those of names and bytes that the repository keeps.
+    let answer = match source {
+        Source::Records(records) => unsafe {
+            kestrelrack_commits(
+                words.as_ptr(),
+                words.len(),
+                records.as_ptr(),
+                records.len(),
+                skip,
+                commits.as_mut_ptr(),
+                commits.len(),
+                parents.as_mut_ptr(),
+                parents.len(),
+            )
+        },
+        Source::Repository(repository) => {
+            let files = repository.raw();
+            unsafe {
+                kestrelrack_commits_in(
+                    words.as_ptr(),
+                    words.len(),
+                    files.as_ptr(),
+                    files.len(),
+                    skip,
+                    commits.as_mut_ptr(),
+                    commits.len(),
+                    parents.as_mut_ptr(),
+                    parents.len(),
+                )
+            }
+        }
     };
     let ending = match answer.number {
         number::WELL => Ending::Ended,
@@ -235,13 +311,15 @@ pub struct Commit {
     pub generation: Option<u32>,
 }
 
-/// The commits of a list command over records, one at a time, and behind them the fault of the walk, if there is one.
+/// The commits of a list command, one at a time, and behind them the fault of the walk, if there is one.
 ///
 /// They come in batches: of 1,000 commits, then of eight times as many, and so on. Nothing is kept between two batches: each walks from the
 /// start.
 pub struct Commits<'a> {
     words: String,
-    records: &'a [u8],
+    source: Source<'a>,
+    /// The most commits of a batch.
+    most: usize,
     batch: Vec<RawCommit>,
     parents: Vec<RawId>,
     at: usize,
@@ -252,6 +330,8 @@ pub struct Commits<'a> {
 
 /// A record of a commit has no fewer bytes: a head, the line of a tree, and newlines.
 const LEAST: usize = 98;
+/// The most commits of a batch over a repository, whose number of commits isn't known.
+const MOST: usize = 1 << 18;
 
 /// The commits of a list command over records.
 ///
@@ -266,30 +346,35 @@ pub fn commits<'a>(words: &[&str], records: &'a [u8]) -> Result<Commits<'a>, Err
 /// # Errors
 /// A word that isn't one.
 pub fn commits_by<'a>(words: &[&str], records: &'a [u8], first: usize) -> Result<Commits<'a>, Error> {
-    let size = first.clamp(1, records.len() / LEAST + 1);
-    Ok(Commits {
-        words: joined(words)?,
-        records,
-        batch: vec![RawCommit::NONE; size],
-        parents: vec![RawId::NONE; 2 * size],
-        at: 0,
-        length: 0,
-        skip: 0,
-        ending: Ending::More,
-    })
+    Ok(Commits::of(joined(words)?, Source::Records(records), records.len() / LEAST + 1, first))
 }
 
-impl Commits<'_> {
+impl<'a> Commits<'a> {
+    fn of(words: String, source: Source<'a>, most: usize, first: usize) -> Commits<'a> {
+        let size = first.clamp(1, most);
+        Commits {
+            words,
+            source,
+            most,
+            batch: vec![RawCommit::NONE; size],
+            parents: vec![RawId::NONE; 2 * size],
+            at: 0,
+            length: 0,
+            skip: 0,
+            ending: Ending::More,
+        }
+    }
+
     /// Makes the next call.
     fn fill(&mut self) {
-        (self.length, self.ending) = batch(&self.words, self.records, self.skip, &mut self.batch, &mut self.parents);
+        (self.length, self.ending) = batch(&self.words, self.source, self.skip, &mut self.batch, &mut self.parents);
         self.at = 0;
         self.skip += self.length as u64;
     }
 
     /// Has more room for the next call.
     fn grow(&mut self) {
-        let size = self.batch.len().saturating_mul(8).min(self.records.len() / LEAST + 1).max(self.batch.len());
+        let size = self.batch.len().saturating_mul(8).min(self.most).max(self.batch.len());
         self.batch.resize(size, RawCommit::NONE);
         self.parents.resize(self.parents.len().max(2 * size), RawId::NONE);
     }
@@ -332,6 +417,242 @@ impl Iterator for Commits<'_> {
 }
 
 impl FusedIterator for Commits<'_> {}
+
+/// The bytes of a file.
+enum Held {
+    Read(Vec<u8>),
+    Mapped { at: *mut c_void, length: usize },
+}
+
+impl Held {
+    fn bytes(&self) -> (*const u8, usize) {
+        match self {
+            Held::Read(bytes) => (bytes.as_ptr(), bytes.len()),
+            Held::Mapped { at, length } => (at.cast(), *length),
+        }
+    }
+}
+
+impl Drop for Held {
+    fn drop(&mut self) {
+        if let Held::Mapped { at, length } = self {
+            // SAFETY: these are the place and the length of a mapping that nothing else has.
+            unsafe { munmap(*at, *length) };
+        }
+    }
+}
+
+/// A repository: a folder that has a `.git` or is one, or the first above it that does. Its files are mapped or read when it is opened: what
+/// is written later isn't seen. A mapped file may not be cut short by anybody, or the process ends by SIGBUS; git cuts none.
+///
+/// The files of alternates and of the folder that a linked worktree belongs to are given too.
+pub struct Repository {
+    files: Vec<(Vec<u8>, Held)>,
+    names: HashSet<Vec<u8>>,
+}
+
+// SAFETY: the mappings are only read, and are the repository's own.
+unsafe impl Send for Repository {}
+// SAFETY: the same.
+unsafe impl Sync for Repository {}
+
+/// Files that are as long are mapped, shorter ones are read.
+const MAPPED: u64 = 1 << 16;
+/// How many folders of objects lead from the first to one that is given, at the most, as in git.
+const LEVELS: u32 = 6;
+
+impl Repository {
+    /// Opens the repository that a folder is in.
+    ///
+    /// # Errors
+    /// `NotFound` where there is none; a file or a folder can't be read.
+    pub fn open(folder: impl AsRef<Path>) -> io::Result<Repository> {
+        let git = git_folder(folder.as_ref())?;
+        let common = match fs::read(git.join("commondir")) {
+            Ok(text) => fs::canonicalize(git.join(first_line(&text)))?,
+            Err(_) => git.clone(),
+        };
+        let mut repository = Repository { files: Vec::new(), names: HashSet::new() };
+        if common != git {
+            repository.add("HEAD".into(), &git.join("HEAD"))?;
+            for name in ["refs/bisect", "refs/rewritten", "refs/worktree"] {
+                repository.add_below(name.into(), &git.join(name))?;
+            }
+            repository.add("worktrees/main-worktree/HEAD".into(), &common.join("HEAD"))?;
+            repository.add("worktrees/main-worktree/gitdir".into(), &common.join("HEAD"))?;
+        }
+        for name in ["HEAD", "config", "packed-refs", "shallow", "info/grafts"] {
+            repository.add(name.into(), &common.join(name))?;
+        }
+        for name in ["refs", "worktrees"] {
+            repository.add_below(name.into(), &common.join(name))?;
+        }
+        repository.add_objects(&common.join("objects"), 0)?;
+        Ok(repository)
+    }
+
+    /// Adds a file, unless there is one of its name.
+    fn add(&mut self, name: OsString, path: &Path) -> io::Result<()> {
+        let name = name.into_vec();
+        if self.names.contains(&name) || !path.is_file() {
+            return Ok(());
+        }
+        let mut file = File::open(path)?;
+        let length = file.metadata()?.len();
+        let held = if length < MAPPED {
+            let mut bytes = Vec::new();
+            file.read_to_end(&mut bytes)?;
+            Held::Read(bytes)
+        } else {
+            let length = length as usize;
+            // SAFETY: a private mapping of an open file, to be read (1), at a place that the system chooses.
+            let at = unsafe { mmap(std::ptr::null_mut(), length, 1, 2, file.as_raw_fd(), 0) };
+            if at as isize == -1 {
+                return Err(io::Error::last_os_error());
+            }
+            Held::Mapped { at, length }
+        };
+        self.names.insert(name.clone());
+        self.files.push((name, held));
+        Ok(())
+    }
+
+    /// Adds a folder and what is below it.
+    fn add_below(&mut self, name: OsString, folder: &Path) -> io::Result<()> {
+        if !folder.is_dir() {
+            return Ok(());
+        }
+        let mut own = name.clone().into_vec();
+        own.push(b'/');
+        if self.names.insert(own.clone()) {
+            self.files.push((own, Held::Read(Vec::new())));
+        }
+        for entry in fs::read_dir(folder)? {
+            let path = entry?.path();
+            let mut inner = name.clone();
+            inner.push("/");
+            inner.push(path.file_name().unwrap_or_default());
+            if path.is_dir() {
+                self.add_below(inner, &path)?;
+            } else {
+                self.add(inner, &path)?;
+            }
+        }
+        Ok(())
+    }
+
+    /// Adds a folder of objects, and those whose objects it borrows.
+    fn add_objects(&mut self, folder: &Path, level: u32) -> io::Result<()> {
+        // The folders that it names are given here, and not followed by the library.
+        self.names.insert(b"objects/info/alternates".to_vec());
+        self.add_below("objects".into(), folder)?;
+        if level >= LEVELS {
+            return Ok(());
+        }
+        if let Ok(text) = fs::read(folder.join("info/alternates")) {
+            for line in text.split(|byte| *byte == b'\n') {
+                if !line.is_empty() && !line.starts_with(b"#") {
+                    self.add_objects(&folder.join(OsStr::from_bytes(line)), level + 1)?;
+                }
+            }
+        }
+        Ok(())
+    }
+
+    fn raw(&self) -> Vec<RawFile> {
+        let raw = |(name, held): &(Vec<u8>, Held)| {
+            let (bytes, length) = held.bytes();
+            RawFile { name: name.as_ptr(), name_length: name.len(), bytes, length }
+        };
+        self.files.iter().map(raw).collect()
+    }
+
+    /// Makes a call that puts a text into a room, as large as it needs.
+    fn text(
+        &self,
+        words: &str,
+        call: unsafe extern "C" fn(*const u8, usize, *const RawFile, usize, *mut u8, usize) -> Answer,
+    ) -> Result<Vec<u8>, Error> {
+        let files = self.raw();
+        let mut room = vec![0; 1 << 16];
+        loop {
+            // SAFETY: each pointer and length are those of one slice, which is borrowed for the call, the room alone for writing.
+            let answer = unsafe {
+                call(words.as_ptr(), words.len(), files.as_ptr(), files.len(), room.as_mut_ptr(), room.len())
+            };
+            match answer.number {
+                number::WELL => {
+                    room.truncate(answer.length);
+                    return Ok(room);
+                }
+                number::ROOM => room = vec![0; answer.length],
+                _ => return Err(Error::of_fault(&answer)),
+            }
+        }
+    }
+
+    /// The words with ids in place of the revisions, as a text with a newline between two words.
+    ///
+    /// # Errors
+    /// A word that isn't one, or a fault: that of a revision that stands for nothing among them.
+    pub fn resolve(&self, words: &[&str]) -> Result<String, Error> {
+        let text = self.text(&joined(words)?, kestrelrack_resolve_in)?;
+        Ok(String::from_utf8_lossy(&text).into_owned())
+    }
+
+    /// Runs a command, whose revisions are as the program takes them, and gives the lines that it writes.
+    ///
+    /// # Errors
+    /// Those of [`resolve`](Repository::resolve), and the fault of the run.
+    pub fn run(&self, words: &[&str]) -> Result<Vec<u8>, Error> {
+        let resolved = self.resolve(words)?;
+        match resolved.strip_prefix("resolve\n") {
+            Some(ids) => Ok(format!("{ids}\n").into_bytes()),
+            None => self.text(&resolved, kestrelrack_run_in),
+        }
+    }
+
+    /// The commits of a list command, whose revisions are resolved once.
+    ///
+    /// # Errors
+    /// Those of [`resolve`](Repository::resolve).
+    pub fn commits(&self, words: &[&str]) -> Result<Commits<'_>, Error> {
+        self.commits_by(words, 1000)
+    }
+
+    /// The same, with so many commits in the first batch, one at least.
+    ///
+    /// # Errors
+    /// Those of [`resolve`](Repository::resolve).
+    pub fn commits_by(&self, words: &[&str], first: usize) -> Result<Commits<'_>, Error> {
+        Ok(Commits::of(self.resolve(words)?, Source::Repository(self), MOST, first))
+    }
+}
+
+/// The path that a file of one line says.
+fn first_line(text: &[u8]) -> &OsStr {
+    OsStr::from_bytes(text.split(|byte| *byte == b'\n').next().unwrap_or_default())
+}
+
+/// The folder of the repository that a folder is in, as `.git` or that of a linked worktree.
+fn git_folder(folder: &Path) -> io::Result<PathBuf> {
+    let start = fs::canonicalize(folder)?;
+    for place in start.ancestors() {
+        let git = place.join(".git");
+        if git.is_file() {
+            let text = fs::read(&git)?;
+            if let Some(path) = text.strip_prefix(b"gitdir: ") {
+                return fs::canonicalize(place.join(first_line(path)));
+            }
+        }
+        for found in [git, place.to_path_buf()] {
+            if found.join("HEAD").is_file() && (found.join("objects").is_dir() || found.join("commondir").is_file()) {
+                return Ok(found);
+            }
+        }
+    }
+    Err(io::Error::new(io::ErrorKind::NotFound, "no repository is here"))
+}
 
 impl fmt::Display for Error {
     fn fmt(&self, f: &mut fmt::Formatter<'_>) -> fmt::Result {

@@ -3,8 +3,11 @@ use Rattle.std.proofs.Common.{◌≡◌, ◌≢◌, ◌≤◌, ℕ, nat_le, List
 use Rattle.gix_words.specs.declared.fault.Fault.{Fault}
 use Rattle.gix_words.specs.declared.fault.Fault.TheVariants as fault
 use Rattle.gix_memory_commands.specs.Answers.{of_fault}
+use Rattle.gix_memory_commands.specs.FolderAnswers.{of_trouble}
 use Rattle.gix_memory_commands.specs.Room.{answer_to, put_in, too_small, well}
 use Rattle.gix_memory_commands.specs.declared.answer.Answer.{Answer}
+use Rattle.gix_memory_commands.specs.declared.trouble.Trouble.{Trouble}
+use Rattle.gix_memory_commands.specs.declared.trouble.Trouble.TheVariants as trouble
 
 pub room_stays : (lines room : List ℕ) → (answer_to lines room).number ≢ 0 → put_in lines room ≡ room
 room_stays lines room = go (nat_le (length lines) (length room))
@@ -33,3 +36,10 @@ numbered fault.Memory = λ h. omega arith
 numbered fault.Read = λ h. omega arith
 numbered fault.Write = λ h. omega arith
 numbered fault.Internal = λ h. omega arith
+
+pub trouble_numbered : (t : Trouble) → (of_trouble t).number ≤ 1 → ⊥
+trouble_numbered (trouble.Command e) = numbered e
+trouble_numbered trouble.Repository = λ h. omega arith
+trouble_numbered (trouble.Revision n) = λ h. omega arith
+trouble_numbered trouble.Objects = λ h. omega arith
+trouble_numbered (trouble.Hash i) = λ h. omega arith

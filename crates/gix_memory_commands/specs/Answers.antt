@@ -74,4 +74,8 @@ text_of n =
     else if nat_eq n 15 then codes "commit-graph disagrees"
     else if nat_eq n 16 then codes "bad name in tree"
     else if nat_eq n 17 then codes "more commits"
+    else if nat_eq n 18 then codes "no repository"
+    else if nat_eq n 19 then codes "unknown revision"
+    else if nat_eq n 20 then codes "damaged files of objects"
+    else if nat_eq n 21 then codes "another object than the id's"
     else codes "unknown fault"

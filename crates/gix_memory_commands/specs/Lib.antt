@@ -6,4 +6,6 @@ pub mod Room
 pub mod Answers
 -- What a call for a batch of commits answers, and what it leaves in the slices.
 pub mod BatchAnswers
+-- The same over a repository in memory.
+pub mod FolderAnswers
 pub mod Examples

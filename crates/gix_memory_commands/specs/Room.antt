@@ -32,9 +32,12 @@ PromisesOver words records lines =
     Promises fault.Write (map utf8_lossy (words_of words))
     (λ (objects : Objects) (rows : List Row). AreFed (Some records) objects × (rows ≡ [])) (Some []) (Ok tt) (Some lines)
 
--- By the numbers 0 and 1 the run ended well, and its lines are those that the page promises: by 0 they are at the front of the room, and by
--- 1 the answer says how many bytes they have. By each number but 0 the room is as it was.
-abbrev pub IsWhole : (words records room : List ℕ) → Answer → List ℕ → Type 0
-IsWhole words records room answer new =
-    (answer.number ≤ 1 → (lines : List ℕ) × PromisesOver words records lines × (answer ≡ answer_to lines room) × (new ≡ put_in lines room))
+-- By the numbers 0 and 1 there are lines of which this is promised: by 0 they are at the front of the room, and by 1 the answer says how many
+-- bytes they have. By each number but 0 the room is as it was.
+abbrev pub IsWholeOf : (IsPromised : List ℕ → Type 0) (room : List ℕ) → Answer → List ℕ → Type 0
+IsWholeOf IsPromised room answer new =
+    (answer.number ≤ 1 → (lines : List ℕ) × IsPromised lines × (answer ≡ answer_to lines room) × (new ≡ put_in lines room))
     × (answer.number ≢ 0 → new ≡ room)
+
+abbrev pub IsWhole : (words records room : List ℕ) → Answer → List ℕ → Type 0
+IsWhole words records = IsWholeOf (PromisesOver words records)

@@ -2,8 +2,10 @@
 ghost use Rattle.std.specs.Prelude.{◌≡◌};
 ghost use Rattle.gix_memory_commands.specs.Answers.{of_fault, of_id, of_place, text_of};
 ghost use Rattle.gix_memory_commands.specs.BatchAnswers.{of_batch, of_full};
+ghost use Rattle.gix_memory_commands.specs.FolderAnswers.{of_trouble};
 ghost use Rattle.gix_memory_commands.specs.Room.{of_length, too_small, well};
 
+use crate::trouble::Trouble;
 use gix_batches::{Batch, Ending};
 use gix_commands::Fault;
 use gix_parts::hash::ObjectId;
@@ -14,13 +16,15 @@ use gix_parts::hash::ObjectId;
 pub struct Answer {
     /// 0 where all went well, 1 where the room was too small, or the number of the fault: 2 `Usage`, 3 `Id`, 4 `Record`, 5 `Missing`,
     /// 6 `WrongKind`, 7 `Broken`, 8 `Cycle`, 9 `Memory`, 10 `Read`, 11 `Write`, 12 `Internal`, 13 `Graph`, 14 `Row`, 15 `Disagrees`,
-    /// 16 `Name`. Those from 10 to 15 never come. 17 where a batch of commits is full, and there may be more.
+    /// 16 `Name`. Those from 10 to 15 never come. 17 where a batch of commits is full, and there may be more. Over a repository 18 where the
+    /// files are none, 19 where a revision stands for nothing, 20 where a file of objects is damaged, and 21 where an object is stored for
+    /// the id of another.
     pub number: u32,
     /// How many bytes of `id` are an id: 20 or 32 where the fault names an object, otherwise 0.
     pub id_length: u32,
     /// How many bytes were put into the room, or, where it was too small, how many there are. 0 at a fault. Of a batch, how many commits.
     pub length: usize,
-    /// The number of the word or of the record that the fault names, from 1; or of a batch in which not one commit fits the room for
+    /// The number of the word, of the record or of the revision that the fault names, from 1; or of a batch in which not one commit fits the room for
     /// parents that the next one needs; otherwise 0.
     pub place: usize,
     /// The id of the object that the fault names, and zeros behind it.
@@ -62,6 +66,19 @@ impl Answer {
             Fault::Row(id) => Answer::of_id(14, id),
             Fault::Disagrees(id) => Answer::of_id(15, id),
             Fault::Name(id) => Answer::of_id(16, id),
+        }
+    }
+
+    /// The trouble of a call over a repository.
+    pub(crate) fn of_trouble(trouble: Trouble) -> Answer
+        ensures { result ≡ of_trouble trouble }
+    {
+        match trouble {
+            Trouble::Command(fault) => Answer::of_fault(fault),
+            Trouble::Repository => Answer::of_length(18, 0),
+            Trouble::Revision(place) => Answer::of_place(19, place),
+            Trouble::Objects => Answer::of_length(20, 0),
+            Trouble::Hash(id) => Answer::of_id(21, id),
         }
     }
 
@@ -167,6 +184,10 @@ pub fn text_of(number: u32) -> &'static str
         15 => "commit-graph disagrees",
         16 => "bad name in tree",
         17 => "more commits",
+        18 => "no repository",
+        19 => "unknown revision",
+        20 => "damaged files of objects",
+        21 => "another object than the id's",
         _ => "unknown fault",
     }
 }

@@ -2,6 +2,8 @@
 //!
 //! [`run_over_bytes`] takes the words of a command and the records as bytes, and room for the lines. What these lines are is stated by
 //! the laws of `gix_commands`. [`commits_over_bytes`] takes slices for commits and for their parents in place of the room.
+//! [`run_over_folder`] and [`commits_over_folder`] take the files of a repository in place of records, and [`resolve_in_folder`] says
+//! which ids revisions stand for in it.
 //!
 //! Tables of ids have keys that anybody knows: these calls have no source of randomness. So whoever chooses the ids of the records can
 //! make a call slow, as its time then grows with the square of their number. No answer changes.
@@ -13,13 +15,17 @@ ghost use Rattle.gix_memory_commands.specs.Room.{IsWhole, PromisesOver, answer_t
 
 mod answer;
 mod commits;
+mod folder;
+mod trouble;
 mod words;
 
 pub use answer::Answer;
 pub use commits::commits_over_bytes;
+pub use folder::{commits_over_folder, resolve_in_folder, run_over_folder};
 use gix_commands::{Fault, run_in};
 use gix_parts::hash::Keys;
 use std::alloc::Global;
+pub use trouble::Trouble;
 use words::words_of;
 
 /// Runs the command that the words are over the records, and puts the lines that it writes at the front of the room. The words are UTF-8
@@ -69,7 +75,7 @@ fn lines_of(alloc: Global, words: &[u8], records: &[u8]) -> Result<Vec<u8>, Faul
 }
 
 /// The answer to a run that ended well, whose lines go into the room where they fit.
-fn put_lines(lines: &[u8], room: &mut [u8]) -> Answer
+pub(crate) fn put_lines(lines: &[u8], room: &mut [u8]) -> Answer
     ensures answer { result ≡ answer_to lines.now room.old }
     ensures room { room.new ≡ put_in lines.now room.old }
 {

@@ -10,7 +10,9 @@ mod question;
 pub use help::{COMMANDS, Command, NOTES, USAGE, VERSION, WHAT, help_of};
 pub use misuse::Misuse;
 pub use name::Name;
-pub use question::{Asked, Asks, Options, Place, Question, Rows, read_arguments, read_lines};
+pub use question::{
+    Asked, Asks, Options, Place, Question, Rows, read_arguments, read_lines, read_question,
+};
 
 #[cfg(test)]
 mod tests;

@@ -150,14 +150,26 @@ pub fn read_arguments(alloc: Global, words: &[String]) -> Result<Asks, Misuse> {
         return Ok(Asks::Records);
     }
     let mut arguments = Arguments::new(alloc);
-    let mut left = words;
-    for _ in 0..=words.len() {
-        let [word, behind @ ..] = left else {
-            break;
-        };
-        left = arguments.read(word.as_str(), behind)?;
-    }
+    arguments.read_all(words)?;
     arguments.ask()
+}
+
+/// What a command, its options and revisions ask of the repository at a place, as [`read_arguments`] takes them behind `-C` and a folder.
+///
+/// # Errors
+///
+/// The first [`Misuse`] that is met. `NoCommand` where help is asked for, and `NoOption` where the words name a place of their own.
+pub fn read_question(alloc: Global, place: Place, words: &[String]) -> Result<Question, Misuse> {
+    let mut arguments = Arguments::new(alloc);
+    arguments.read_all(words)?;
+    if arguments.place.is_some() {
+        return Err(Misuse::NoOption(String::from_str(alloc, "-C")?));
+    }
+    arguments.place = Some(place);
+    match arguments.ask()? {
+        Asks::Question(question) => Ok(question),
+        _ => Err(Misuse::NoCommand),
+    }
 }
 
 /// Whether an argument says where a repository is.
@@ -221,6 +233,18 @@ impl Arguments {
                 certificate: None,
             },
         }
+    }
+
+    /// Reads all arguments.
+    fn read_all(&mut self, words: &[String]) -> Result<(), Misuse> {
+        let mut left = words;
+        for _ in 0..=words.len() {
+            let [word, behind @ ..] = left else {
+                break;
+            };
+            left = self.read(word.as_str(), behind)?;
+        }
+        Ok(())
     }
 
     /// Reads an argument, and lends the arguments that are left behind it and what goes with it.

@@ -1,33 +1,28 @@
 //! Answers to questions about a repository.
-use crate::chosen::{Chosen, choose, resolve_words};
 use crate::failure::Failure;
 use crate::graph::{check, rows, rows_of, warn};
 use crate::named::write_named;
 use crate::progress::Progress;
-use crate::symmetric::common;
 use gix_certificate::Rows;
 use gix_commands::{Fault, run_named};
 use gix_gather::{Gathering, Order};
 use gix_hash::Keys;
 use gix_hash::hashtable::IdSet;
-use gix_options::{Name, Place, Question};
+use gix_options::{Asked, Name, Place, Question, read_lines};
 use gix_parts::graph::Graph;
 use gix_parts::records::NamedObjects;
+use gix_questions::{Chosen, choose_from, resolve_words};
+use gix_records::{READS, read_to_end};
 use gix_repository::Repository;
+use gix_repository_commands::{Part, answer as answer_from_part};
 use gix_revision::Resolved;
 use std::io::Write;
 
 /// The status where `contains` found that some revisions aren't contained, `containing` that some don't reach the first, or `is-ancestor` that
 /// one isn't reached.
 const NOT_ALL: u8 = 3;
-/// How many objects are read until it is said how many there are.
-const STEP: usize = 8192;
-/// How many commits are read at first, where a part of them may be enough, beside those that are asked for.
-const FIRST_COMMITS: usize = 1000;
 /// How many lines are few: the commits that they need are read in less time than the rows of a long history.
 const FEW_LINES: usize = 1000;
-/// How often more are read, at the most: each time four times as many.
-const MOST_READINGS: u32 = 64;
 
 /// What a question is answered from.
 #[derive(Drop)]
@@ -36,7 +31,7 @@ struct Asking<'a> {
     keys: Keys,
     question: &'a Question,
     chosen: Chosen,
-    progress: Progress,
+    progress: Progress<'a>,
     rows: Rows,
 }
 
@@ -61,15 +56,8 @@ pub(crate) fn answer<W: Write>(
         check(rt, &mut repository, output)?;
         return Ok(0);
     }
-    let resolved = resolve_words(rt, &mut repository, question)?;
-    let answered = answer_from(
-        rt,
-        keys,
-        &mut repository,
-        question,
-        resolved.as_slice(),
-        output,
-    )?;
+    let resolved = resolve(rt, &mut repository, question)?;
+    let answered = answer_from(rt, keys, &mut repository, question, resolved, output)?;
     Ok(answered.status)
 }
 
@@ -83,16 +71,26 @@ pub(crate) fn open(rt: &HostRuntime, place: &Place) -> Result<Repository<HostRun
     Ok(repository)
 }
 
-/// Answers a question from what its revisions stand for.
+/// Answers a question from what its revisions stand for. What isn't there of a shallow or partial clone is called so.
 pub(crate) fn answer_from<W: Write>(
     rt: &HostRuntime,
     keys: Keys,
     repository: &mut Repository<HostRuntime>,
     question: &Question,
-    resolved: &[Resolved],
+    resolved: Vec<Resolved>,
     output: &mut W,
 ) -> Result<Answered, Failure> {
-    let chosen = choose(rt.alloc(), question, resolved)?;
+    let chosen = choose_from(rt.alloc(), question, resolved)?;
+    let asks_of_others = matches!(
+        question.name,
+        Name::Contains | Name::Containing | Name::MergeBase
+    );
+    if chosen.tips.is_empty() || asks_of_others && chosen.tips.len() < 2 {
+        return Ok(Answered {
+            status: 0,
+            rows: Rows::Unused,
+        });
+    }
     let mut asking = Asking {
         rt,
         keys,
@@ -101,11 +99,69 @@ pub(crate) fn answer_from<W: Write>(
         progress: Progress::new(rt),
         rows: Rows::Unused,
     };
-    let status = asking.status_of_all(repository, output)?;
+    let answered = match question.name {
+        Name::Files => asking.files(repository, output),
+        _ => asking.commits(repository, output),
+    };
+    let status = match answered {
+        Err(Failure::Command(Fault::Missing(id))) if !repository.shallow().is_empty() => {
+            return Err(Failure::Shallow(id));
+        }
+        Err(Failure::Command(Fault::Missing(id))) if repository.is_partial() => {
+            return Err(Failure::Partial(id));
+        }
+        answered => answered?,
+    };
     Ok(Answered {
         status,
         rows: asking.rows,
     })
+}
+
+/// Reads what the revisions of a question stand for, and says which are called so that several refs have the name. With `--verbose` it says
+/// of each what it stands for.
+pub(crate) fn resolve(
+    rt: &HostRuntime,
+    repository: &mut Repository<HostRuntime>,
+    question: &Question,
+) -> Result<Vec<Resolved>, Failure> {
+    let alloc = rt.alloc();
+    let lines = if question
+        .asked
+        .iter()
+        .any(|asked| matches!(asked, Asked::Lines))
+    {
+        let text = read_to_end(alloc, &mut rt.stdin(), READS)?;
+        read_lines(alloc, text.as_slice())?
+    } else {
+        Vec::new(alloc)
+    };
+    let resolved = resolve_words(alloc, repository, question, lines.as_slice())?;
+    for ambiguous in repository.ambiguous().iter() {
+        let word = ambiguous.word.as_str();
+        let name = ambiguous.name.as_str();
+        let _ = eprintln!(rt; "gix_walk: several refs are called {word:?}: {name:?} is taken");
+    }
+    if question.options.is_verbose {
+        for one in resolved.iter() {
+            say(rt, one);
+        }
+    }
+    Ok(resolved)
+}
+
+/// Says what a revision stands for.
+fn say(rt: &HostRuntime, resolved: &Resolved) {
+    let word = resolved.word.as_str();
+    let _ = match resolved.chosen {
+        gix_revision::Chosen::One { id, is_hidden } => {
+            let mark = if is_hidden { "^" } else { "" };
+            eprintln!(rt; "gix_walk: {mark}{word:?} is {id}")
+        }
+        gix_revision::Chosen::Symmetric { one, other } => {
+            eprintln!(rt; "gix_walk: {word:?} is {one}, with {other} behind ...")
+        }
+    };
 }
 
 /// Says what git would follow and the program doesn't.
@@ -128,52 +184,6 @@ fn notice(rt: &HostRuntime, repository: &mut Repository<HostRuntime>) -> Result<
 }
 
 impl Asking<'_> {
-    /// Answers the question, and gives the status. What isn't there of a shallow or partial clone is called so.
-    fn status_of_all<W: Write>(
-        &mut self,
-        repository: &mut Repository<HostRuntime>,
-        output: &mut W,
-    ) -> Result<u8, Failure> {
-        let tips = self.chosen.tips.len();
-        let asks_of_others = matches!(
-            self.question.name,
-            Name::Contains | Name::Containing | Name::MergeBase
-        );
-        if tips == 0 || asks_of_others && tips < 2 {
-            return Ok(0);
-        }
-        let answered = match self.question.name {
-            Name::Files => self.files(repository, output),
-            _ => self.commits(repository, output),
-        };
-        match answered {
-            Err(Failure::Command(Fault::Missing(id))) if !repository.shallow().is_empty() => {
-                Err(Failure::Shallow(id))
-            }
-            Err(Failure::Command(Fault::Missing(id))) if repository.is_partial() => {
-                Err(Failure::Partial(id))
-            }
-            answered => answered,
-        }
-    }
-
-    /// Reads all that is left.
-    fn read_all(
-        &mut self,
-        repository: &mut Repository<HostRuntime>,
-        gathering: &mut Gathering,
-        graph: Option<&Graph>,
-    ) -> Result<(), Failure> {
-        for _ in 0..u64::MAX {
-            if gathering.read_more(&mut repository.odb, graph, STEP)? {
-                break;
-            }
-            self.progress.show(self.rt, gathering.len());
-        }
-        self.progress.end(self.rt);
-        Ok(())
-    }
-
     /// Lists the entries of a tree.
     fn files<W: Write>(
         &mut self,
@@ -185,10 +195,16 @@ impl Asking<'_> {
             return Ok(0);
         };
         let root = *root;
-        let mut gathering = Gathering::trees(alloc, self.keys, &root)?;
-        self.read_all(repository, &mut gathering, None)?;
+        let mut part = Part::of(Gathering::trees(alloc, self.keys, &root)?, None);
+        part.read_all(&mut repository.odb, None, &mut self.progress)?;
         let words = self.chosen.words(alloc, self.keys, self.question)?;
-        run_named(alloc, words.as_slice(), gathering.objects(), None, output)?;
+        run_named(
+            alloc,
+            words.as_slice(),
+            part.gathering.objects(),
+            None,
+            output,
+        )?;
         Ok(0)
     }
 
@@ -212,7 +228,7 @@ impl Asking<'_> {
             },
             None => self.over(repository, None, output),
         };
-        if known.is_unchecked && self.progress.is_long(self.rt) {
+        if known.is_unchecked && self.progress.is_long() {
             let rt = self.rt;
             let _ = eprintln!(rt;
                 "gix_walk: nobody has checked git's commit-graph; after check-graph such a question reads only the newest commits"
@@ -236,28 +252,22 @@ impl Asking<'_> {
             Some(_) => rows_of(&self.question.options),
             None => Rows::Unused,
         };
-        let ids = self.chosen.all(alloc)?;
+        let least = self.least();
         let order = match self.question.name {
-            Name::Newest | Name::Contains | Name::IsAncestor => Order::NewestFirst,
-            Name::Oldest => Order::OldestFirst,
+            Name::Newest | Name::Contains | Name::IsAncestor if least.is_some() =>
+                Order::NewestFirst,
+            Name::Oldest if least.is_some() => Order::OldestFirst,
             _ => Order::Met,
         };
-        let least = match self.least() {
-            Some(least) => least,
-            None => {
-                let mut gathering = Gathering::commits(
-                    alloc,
-                    ids.as_slice(),
-                    Order::Met,
-                    IdSet::new(alloc, self.keys),
-                )?;
-                self.read_all(repository, &mut gathering, graph)?;
-                return self.finish(gathering.objects(), graph, output);
-            }
-        };
+        let ids = self.chosen.all(alloc)?;
         let border = IdSet::new(alloc, self.keys);
-        let mut gathering = Gathering::commits(alloc, ids.as_slice(), order, border)?;
-        let lines = self.from_part(repository, &mut gathering, least, graph, output)?;
+        let gathering = Gathering::commits(alloc, ids.as_slice(), order, border)?;
+        let mut part = Part::of(gathering, least);
+        if least.is_none() {
+            part.read_all(&mut repository.odb, graph, &mut self.progress)?;
+            return self.finish(part.gathering.objects(), graph, output);
+        }
+        let lines = self.from_part(repository, &mut part, graph, output)?;
         Ok(self.status(lines.as_slice()))
     }
 
@@ -320,37 +330,24 @@ impl Asking<'_> {
     fn from_part<W: Write>(
         &mut self,
         repository: &mut Repository<HostRuntime>,
-        gathering: &mut Gathering,
-        least: usize,
+        part: &mut Part,
         graph: Option<&Graph>,
         output: &mut W,
     ) -> Result<Vec<u8>, Failure> {
         let alloc = self.rt.alloc();
         let words = self.chosen.words(alloc, self.keys, self.question)?;
-        let mut count = least.saturating_add(FIRST_COMMITS);
-        for _ in 0..MOST_READINGS {
-            gathering.read_more(&mut repository.odb, graph, count)?;
-            let mut lines = Vec::new(alloc);
-            let ended = in_memory(run_named(
-                alloc,
-                words.as_slice(),
-                gathering.objects(),
-                graph,
-                &mut lines,
-            ));
-            if let Err(Fault::Missing(id)) = &ended {
-                if gathering.waits(id) {
-                    self.progress.show(self.rt, gathering.len());
-                    count = gathering.len().saturating_mul(3);
-                    continue;
-                }
-            }
-            self.progress.end(self.rt);
-            self.write_lines(lines.as_slice(), output)?;
-            ended?;
-            return Ok(lines);
-        }
-        Err(Failure::Command(Fault::Internal))
+        let odb = &mut repository.odb;
+        let answered = answer_from_part(
+            alloc,
+            words.as_slice(),
+            part,
+            odb,
+            graph,
+            &mut self.progress,
+        )?;
+        self.write_lines(answered.lines.as_slice(), output)?;
+        in_memory(answered.ended)?;
+        Ok(answered.lines)
     }
 
     /// Writes the lines of the command, as the question asks for them: with `--names` each with its word, and those of `is-ancestor` not at all.
@@ -398,13 +395,7 @@ impl Asking<'_> {
         let alloc = self.rt.alloc();
         let name = self.question.name;
         if name != Name::Ahead {
-            for number in 0..self.chosen.pairs.len() {
-                let Some(pair) = self.chosen.pairs.as_slice().get(number) else {
-                    break;
-                };
-                let ids = common(alloc, *pair, &objects.store(), graph)?;
-                self.chosen.hidden.extend_from_slice(ids.as_slice())?;
-            }
+            self.chosen.exclude_common(alloc, &objects.store(), graph)?;
         }
         if name == Name::Resolve {
             return self.write_ids(output);

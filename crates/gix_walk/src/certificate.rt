@@ -1,6 +1,5 @@
 //! Certificates of runs: written behind the lines, and verified by another run.
-use crate::answer::{Answered, answer, answer_from, open, write};
-use crate::chosen::{resolve_one, resolve_words, wanted};
+use crate::answer::{Answered, answer, answer_from, open, resolve, write};
 use crate::failure::Failure;
 use crate::help::about;
 use gix_certificate::{
@@ -9,6 +8,7 @@ use gix_certificate::{
 };
 use gix_hash::Keys;
 use gix_options::{Asked, Asks, Name, Question, Rows, VERSION, read_arguments};
+use gix_questions::{resolve_one, wanted};
 use gix_repository::Repository;
 use gix_revision::{Chosen, Resolved};
 use std::env;
@@ -57,38 +57,38 @@ fn certify<W: Write>(
         given.push(word.clone()?)?;
     }
     let mut repository = open(rt, &question.place)?;
-    let revisions = resolve_words(rt, &mut repository, question)?;
+    let resolved = resolve(rt, &mut repository, question)?;
+    let revisions = revisions_of(rt, resolved.as_slice())?;
     let mut hashing = Hashing::new(output);
-    let answered = answer_from(
-        rt,
-        keys,
-        &mut repository,
-        question,
-        revisions.as_slice(),
-        &mut hashing,
-    )?;
+    let answered = answer_from(rt, keys, &mut repository, question, resolved, &mut hashing)?;
     certificate_of(rt, given, revisions, answered, hashing.finish())
 }
 
-/// The certificate of a run of this program.
-fn certificate_of(
-    rt: &HostRuntime,
-    words: Vec<String>,
-    resolved: Vec<Resolved>,
-    answered: Answered,
-    output: Lines,
-) -> Result<Certificate, Failure> {
+/// The revisions of a certificate, and what they stand for.
+fn revisions_of(rt: &HostRuntime, resolved: &[Resolved]) -> Result<Vec<Revision>, Failure> {
     let mut revisions = Vec::new(rt.alloc());
-    for Resolved { word, chosen } in resolved {
-        let meaning = match chosen {
+    for one in resolved {
+        let meaning = match one.chosen {
             Chosen::One { id, is_hidden } => Meaning::One {
                 id,
                 is_excluded: is_hidden,
             },
             Chosen::Symmetric { one, other } => Meaning::Symmetric { one, other },
         };
+        let word = one.word.clone()?;
         revisions.push(Revision { word, meaning })?;
     }
+    Ok(revisions)
+}
+
+/// The certificate of a run of this program.
+fn certificate_of(
+    rt: &HostRuntime,
+    words: Vec<String>,
+    revisions: Vec<Revision>,
+    answered: Answered,
+    output: Lines,
+) -> Result<Certificate, Failure> {
     let about = about(rt).ok();
     let name = env::args(rt).ok().and_then(|mut words| words.next());
     let program = running_program(rt, VERSION, about.as_ref(), name.as_ref())?;
@@ -119,14 +119,15 @@ fn verify<W: Write>(
         again.options.rows = Rows::Unused;
     }
     let mut repository = open(rt, &question.place)?;
-    let revisions = resolve_again(rt, &mut repository, &again, &kept)?;
+    let found = resolve_again(rt, &mut repository, &again, &kept)?;
+    let revisions = revisions_of(rt, found.as_slice())?;
     let mut hashing = Hashing::new(io::sink());
     let answered = answer_from(
         rt,
         keys,
         &mut repository,
         &again,
-        resolved_of(rt, &kept)?.as_slice(),
+        resolved_of(rt, &kept)?,
         &mut hashing,
     )?;
     let words = Vec::new(rt.alloc());
@@ -194,8 +195,9 @@ fn resolve_again(
     }
     let asked = if has_lines { &lines } else { &again.asked };
     for word in asked.iter() {
-        if let Err(failure) = resolve_one(rt, repository, word, wanted(again.name), &mut found) {
-            let _ = eprintln!(rt; "gix_walk: now: {failure}");
+        let kind = wanted(again.name);
+        if let Err(fault) = resolve_one(alloc, repository, word, &[], kind, &mut found) {
+            let _ = eprintln!(rt; "gix_walk: now: {fault}");
         }
     }
     Ok(found)

@@ -113,9 +113,17 @@ impl From<gix_repository::Fault> for Failure {
     }
 }
 
-impl From<gix_revision::Fault> for Failure {
-    fn from(fault: gix_revision::Fault) -> Failure {
-        Failure::Revision(fault)
+impl From<gix_questions::Fault> for Failure {
+    fn from(fault: gix_questions::Fault) -> Failure {
+        match fault {
+            gix_questions::Fault::Misuse(misuse) => Failure::from(misuse),
+            gix_questions::Fault::Command(fault) => Failure::Command(fault),
+            gix_questions::Fault::Object(fault) => Failure::Object(fault),
+            gix_questions::Fault::Repository(fault) => Failure::Repository(fault),
+            gix_questions::Fault::Revision(_, fault) => Failure::Revision(fault),
+            gix_questions::Fault::NoCommit => Failure::NoCommit,
+            gix_questions::Fault::Memory => Failure::Command(Fault::Memory),
+        }
     }
 }
 

@@ -4,7 +4,6 @@
 
 mod answer;
 mod certificate;
-mod chosen;
 mod failure;
 mod graph;
 mod help;
@@ -12,7 +11,6 @@ mod named;
 mod output;
 mod progress;
 mod records;
-mod symmetric;
 
 use failure::Failure;
 use gix_commands::Fault;

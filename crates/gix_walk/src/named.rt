@@ -1,7 +1,7 @@
 //! Lines that say how revisions were called.
 use crate::answer::write;
-use crate::chosen::Chosen;
 use crate::failure::Failure;
+use gix_questions::Chosen;
 use std::alloc::Global;
 use std::io::Write;
 
@@ -14,7 +14,8 @@ pub(crate) fn write_named<W: Write>(
     output: &mut W,
 ) -> Result<(), Failure> {
     let mut left = lines;
-    for (id, name) in chosen.tips.iter().zip(chosen.names.iter()).skip(1) {
+    for (id, resolved) in chosen.tips.iter().zip(chosen.resolved.iter()).skip(1) {
+        let name = resolved.word.as_str();
         let line = format!(in alloc; "{id}\n")?;
         let Some(behind) = left.strip_prefix(line.as_bytes()) else {
             continue;

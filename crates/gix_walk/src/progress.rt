@@ -1,50 +1,54 @@
 //! How far a long reading is.
+use gix_repository_commands::Watch;
 use std::io::IsTerminal;
 use std::rt::Clock;
 use std::time::Duration;
 
 /// Says on a terminal, from the second second on, how many objects were read. Elsewhere nothing is said.
 #[derive(Drop)]
-pub(crate) struct Progress {
+pub(crate) struct Progress<'a> {
+    rt: &'a HostRuntime,
     began: Option<Duration>,
     is_shown: bool,
 }
 
-impl Progress {
+impl<'a> Progress<'a> {
     /// Nothing was read.
-    pub fn new(rt: &HostRuntime) -> Progress {
+    pub fn new(rt: &'a HostRuntime) -> Progress<'a> {
         let began = if rt.stderr().is_terminal() {
             rt.monotonic().ok()
         } else {
             None
         };
         Progress {
+            rt,
             began,
             is_shown: false,
         }
     }
 
     /// Whether it has lasted a second on a terminal.
-    pub fn is_long(&self, rt: &HostRuntime) -> bool {
-        match (self.began, rt.monotonic()) {
+    pub fn is_long(&self) -> bool {
+        match (self.began, self.rt.monotonic()) {
             (Some(began), Ok(now)) => now.as_secs() > began.as_secs().saturating_add(1),
             _ => false,
         }
     }
+}
 
-    /// So many objects were read.
-    pub fn show(&mut self, rt: &HostRuntime, count: usize) {
-        if self.is_long(rt) {
+impl Watch for Progress<'_> {
+    fn show(&mut self, count: usize) {
+        if self.is_long() {
             self.is_shown = true;
-            let _ = eprint!(rt; "\rgix_walk: {count} objects read");
+            let _ = eprint!(self.rt; "\rgix_walk: {count} objects read");
         }
     }
 
     /// Nothing more is read. The line goes.
-    pub fn end(&mut self, rt: &HostRuntime) {
+    fn end(&mut self) {
         if self.is_shown {
             self.is_shown = false;
-            let _ = eprint!(rt; "\r                                        \r");
+            let _ = eprint!(self.rt; "\r                                        \r");
         }
     }
 }

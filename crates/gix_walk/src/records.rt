@@ -1,10 +1,10 @@
 //! Commands over records on standard input, or over a folder of objects.
 use crate::failure::Failure;
 use gix_commands::{Fault, run, run_in, run_named, run_over};
-use gix_gather::{commits, trees};
-use gix_hash::{Keys, ObjectId};
+use gix_hash::{Keys, Kind};
 use gix_odb::Odb;
-use gix_records::{NamedObjects, READS, check_names, read_to_end};
+use gix_records::{READS, check_names, read_to_end};
+use gix_repository_commands::{Part, Silent};
 use gix_words::{Command, read_command};
 use std::fs;
 use std::io::{ErrorKind, Read, Write};
@@ -36,50 +36,27 @@ fn serve_folder<W: Write>(
     writer: &mut W,
 ) -> Result<(), Failure> {
     let alloc = rt.alloc();
-    let mut ids = Vec::new(alloc);
-    let objects = match read_command(alloc, words)? {
-        Command::Files { tree, .. } => {
-            let mut odb = Odb::open(rt, folder, tree.kind())?;
-            trees(alloc, keys, &mut odb, &tree)?
-        }
-        Command::Commits { tips, hidden, .. } => {
-            ids.extend_from_slice(tips.as_slice())?;
-            ids.extend_from_slice(hidden.as_slice())?;
-            gather(rt, keys, folder, ids.as_slice())?
-        }
-        Command::Ahead { one, other } => gather(rt, keys, folder, &[one, other])?,
-        Command::Contained { tip, ids: others } => {
-            ids.push(tip)?;
-            ids.extend_from_slice(others.as_slice())?;
-            gather(rt, keys, folder, ids.as_slice())?
-        }
-        Command::Containing { target, tips } => {
-            ids.push(target)?;
-            ids.extend_from_slice(tips.as_slice())?;
-            gather(rt, keys, folder, ids.as_slice())?
-        }
-        Command::Bases { one, others } => {
-            ids.push(one)?;
-            ids.extend_from_slice(others.as_slice())?;
-            gather(rt, keys, folder, ids.as_slice())?
-        }
-    };
-    run_named(alloc, words, &objects, None, writer)?;
+    let command = read_command(alloc, words)?;
+    let mut odb = Odb::open(rt, folder, kind_of(&command))?;
+    let mut part = Part::of_command(alloc, keys, &command, None)?;
+    let mut silent = Silent;
+    part.read_all(&mut odb, None, &mut silent)?;
+    run_named(alloc, words, part.gathering.objects(), None, writer)?;
     Ok(())
 }
 
-/// The commits of a folder that these ids reach.
-fn gather(
-    rt: &HostRuntime,
-    keys: Keys,
-    folder: &str,
-    ids: &[ObjectId],
-) -> Result<NamedObjects, Failure> {
-    let Some(first) = ids.first() else {
-        return Err(Failure::Command(Fault::Usage));
-    };
-    let mut odb = Odb::open(rt, folder, first.kind())?;
-    Ok(commits(rt.alloc(), keys, &mut odb, ids, None)?)
+/// The kind of a command's first id.
+fn kind_of(command: &Command) -> Kind {
+    match command {
+        Command::Files { tree, .. } => tree.kind(),
+        Command::Commits { tips, hidden, .. } => match (tips.first(), hidden.first()) {
+            (Some(id), _) | (None, Some(id)) => id.kind(),
+            (None, None) => Kind::Sha1,
+        },
+        Command::Ahead { one, .. } | Command::Bases { one, .. } => one.kind(),
+        Command::Contained { tip, .. } => tip.kind(),
+        Command::Containing { target, .. } => target.kind(),
+    }
 }
 
 /// Runs the command over the records of standard input, and the layers of a commit-graph that options name.

@@ -1,17 +1,18 @@
 //! The ids that revisions stand for.
-use crate::failure::Failure;
+use crate::fault::Fault;
 use gix_hash::hashtable::IdSet;
 use gix_hash::{Keys, ObjectId};
 use gix_object::Kind;
-use gix_options::{Asked, Misuse, Name, Options, Question, read_lines};
-use gix_records::{READS, read_to_end};
+use gix_options::{Asked, Misuse, Name, Options, Question};
 use gix_repository::Repository;
 use gix_revision::{Resolved, Set, resolve, resolve_all};
 use std::alloc::{AllocError, Global};
+use std::fs::Files;
+use std::os::unix::fs::FileExt;
 
 /// Two commits of which each is asked for without what both reach.
 #[derive(Clone, Copy)]
-pub(crate) struct Pair {
+pub struct Pair {
     /// The one.
     pub one: ObjectId,
     /// The other.
@@ -20,53 +21,66 @@ pub(crate) struct Pair {
 
 /// The ids that revisions stand for, in the order in which they were given.
 #[derive(Drop)]
-pub(crate) struct Chosen {
+pub struct Chosen {
     /// Those to begin with. The two of a pair are among them.
     pub tips: Vec<ObjectId>,
     /// Those that are excluded.
     pub hidden: Vec<ObjectId>,
     /// Those of `A...B`.
     pub pairs: Vec<Pair>,
-    /// How each tip was called, where lines say so.
-    pub names: Vec<String>,
+    /// Each revision, and what it stands for.
+    pub resolved: Vec<Resolved>,
 }
 
-/// Reads what the revisions of a question stand for.
-pub(crate) fn resolve_words(
-    rt: &HostRuntime,
-    repository: &mut Repository<HostRuntime>,
+/// The ids that the revisions of a question stand for. Those of [`Asked::Lines`] are `lines`.
+///
+/// # Errors
+///
+/// The first [`Fault`] that is met. `NoCommit` where a revision is called unknown, and there is no ref.
+pub fn choose<R>(
+    alloc: Global,
+    repository: &mut Repository<R>,
     question: &Question,
-) -> Result<Vec<Resolved>, Failure> {
-    let mut resolved = Vec::new(rt.alloc());
+    lines: &[String],
+) -> Result<Chosen, Fault>
+where
+    R: Files + AllocGlobal + Clone + Drop,
+    R::File: FileExt,
+{
+    let resolved = resolve_words(alloc, repository, question, lines)?;
+    choose_from(alloc, question, resolved)
+}
+
+/// Reads what the revisions of a question stand for. Those of [`Asked::Lines`] are `lines`.
+///
+/// # Errors
+///
+/// As those of [`choose`], except `Misuse`.
+pub fn resolve_words<R>(
+    alloc: Global,
+    repository: &mut Repository<R>,
+    question: &Question,
+    lines: &[String],
+) -> Result<Vec<Resolved>, Fault>
+where
+    R: Files + AllocGlobal + Clone + Drop,
+    R::File: FileExt,
+{
+    let mut resolved = Vec::new(alloc);
     let wanted = wanted(question.name);
+    let mut number = 0usize;
     for asked in question.asked.iter() {
-        match resolve_one(rt, repository, asked, wanted, &mut resolved) {
-            Ok(()) => {}
-            Err(Failure::Revision(gix_revision::Fault::Unknown(word))) => {
-                return if has_refs(repository)? {
-                    Err(Failure::Revision(gix_revision::Fault::Unknown(word)))
-                } else {
-                    Err(Failure::NoCommit)
-                };
-            }
-            Err(failure) => return Err(failure),
-        }
-    }
-    for ambiguous in repository.ambiguous().iter() {
-        let word = ambiguous.word.as_str();
-        let name = ambiguous.name.as_str();
-        let _ = eprintln!(rt; "gix_walk: several refs are called {word:?}: {name:?} is taken");
-    }
-    if question.options.is_verbose {
-        for one in resolved.iter() {
-            say(rt, one);
+        number = number.saturating_add(1);
+        let added = resolve_one(alloc, repository, asked, lines, wanted, &mut resolved);
+        if let Err(fault) = added {
+            return Err(fault_of(repository, number, fault)?);
         }
     }
     Ok(resolved)
 }
 
 /// The kind of object that a command asks about.
-pub(crate) fn wanted(name: Name) -> Kind {
+pub fn wanted(name: Name) -> Kind {
     match name {
         Name::Files => Kind::Tree,
         _ => Kind::Commit,
@@ -74,64 +88,75 @@ pub(crate) fn wanted(name: Name) -> Kind {
 }
 
 /// The ids that a question is about, from what its revisions stand for.
-pub(crate) fn choose(
+///
+/// # Errors
+///
+/// `Misuse` where the revisions stand for too many ids, or too few. `Memory`.
+pub fn choose_from(
     alloc: Global,
     question: &Question,
-    resolved: &[Resolved],
-) -> Result<Chosen, Failure> {
+    resolved: Vec<Resolved>,
+) -> Result<Chosen, Fault> {
     let mut chosen = Chosen {
         tips: Vec::new(alloc),
         hidden: Vec::new(alloc),
         pairs: Vec::new(alloc),
-        names: Vec::new(alloc),
+        resolved: Vec::new(alloc),
     };
-    for one in resolved {
+    for one in resolved.iter() {
         chosen.add(one)?;
-        if question.options.gives_names {
-            chosen.names.push(one.word.clone()?)?;
-        }
     }
+    chosen.resolved = resolved;
     check_number(question.name, &chosen)?;
     Ok(chosen)
 }
 
-/// Says what a revision stands for.
-fn say(rt: &HostRuntime, resolved: &Resolved) {
-    let word = resolved.word.as_str();
-    let _ = match resolved.chosen {
-        gix_revision::Chosen::One { id, is_hidden } => {
-            let mark = if is_hidden { "^" } else { "" };
-            eprintln!(rt; "gix_walk: {mark}{word:?} is {id}")
+/// The fault of the revision of this number.
+fn fault_of<R>(
+    repository: &mut Repository<R>,
+    number: usize,
+    fault: gix_revision::Fault,
+) -> Result<Fault, Fault>
+where
+    R: Files + AllocGlobal + Clone + Drop,
+    R::File: FileExt,
+{
+    match fault {
+        gix_revision::Fault::Memory => Ok(Fault::Memory),
+        gix_revision::Fault::Unknown(word) => {
+            if repository.refs_below("refs/")?.is_empty() {
+                return Ok(Fault::NoCommit);
+            }
+            Ok(Fault::Revision(number, gix_revision::Fault::Unknown(word)))
         }
-        gix_revision::Chosen::Symmetric { one, other } => {
-            eprintln!(rt; "gix_walk: {word:?} is {one}, with {other} behind ...")
-        }
-    };
+        fault => Ok(Fault::Revision(number, fault)),
+    }
 }
 
-/// Whether there is a ref.
-fn has_refs(repository: &mut Repository<HostRuntime>) -> Result<bool, Failure> {
-    Ok(!repository.refs_below("refs/")?.is_empty())
-}
-
-/// Reads what a word of a question stands for.
-pub(crate) fn resolve_one(
-    rt: &HostRuntime,
-    repository: &mut Repository<HostRuntime>,
+/// Reads what a word of a question stands for, and adds it.
+///
+/// # Errors
+///
+/// The first fault that is met. What was read before is added.
+pub fn resolve_one<R>(
+    alloc: Global,
+    repository: &mut Repository<R>,
     asked: &Asked,
+    lines: &[String],
     wanted: Kind,
     resolved: &mut Vec<Resolved>,
-) -> Result<(), Failure> {
-    let alloc = rt.alloc();
+) -> Result<(), gix_revision::Fault>
+where
+    R: Files + AllocGlobal + Clone + Drop,
+    R::File: FileExt,
+{
     match asked {
         Asked::Word(word) => resolve(alloc, repository, word.as_str(), wanted, resolved)?,
         Asked::All => resolve_all(alloc, repository, Set::All, resolved)?,
         Asked::Branches => resolve_all(alloc, repository, Set::Branches, resolved)?,
         Asked::Tags => resolve_all(alloc, repository, Set::Tags, resolved)?,
         Asked::Lines => {
-            let text = read_to_end(alloc, &mut rt.stdin(), READS)?;
-            let lines = read_lines(alloc, text.as_slice())?;
-            for line in lines.iter() {
+            for line in lines {
                 resolve(alloc, repository, line.as_str(), wanted, resolved)?;
             }
         }

@@ -1,0 +1,83 @@
+//! Commits of a repository in batches.
+ghost use Rattle.std.specs.Prelude.{◌≡◌, map, string_bytes, IfOk, IfErr};
+ghost use Rattle.gix_statement.specs.WholeStatement.{AreNamed};
+ghost use Rattle.gix_batches.specs.Batches.{Promises};
+
+use crate::part::{Part, Silent};
+use gix_batches::{Batch, Commit, CommitId, Ending, batch_named};
+use gix_odb::Odb;
+use gix_parts::hash::ObjectId;
+use gix_words::Fault;
+use std::alloc::Global;
+use std::fs::Files;
+use std::os::unix::fs::FileExt;
+
+/// How often more is read, at the most: each time four times as many.
+const MOST_READINGS: u32 = 64;
+
+/// Puts the commits of a list, behind those that are skipped, at the front of the slices, as [`batch_named`] does, over the objects of a
+/// part of a repository, which grows until none is missing that it may still read.
+///
+/// # Errors
+///
+/// The first fault of an object that is read. The slices are as they were.
+pub fn batch<R>(
+    alloc: Global,
+    words: &[String],
+    part: &mut Part,
+    odb: &mut Odb<R>,
+    skip: u64,
+    commits: &mut [Commit],
+    parents: &mut [CommitId],
+) -> Result<Batch, gix_gather::Fault>
+where
+    R: Files + AllocGlobal + Clone + Drop,
+    R::File: FileExt,
+    // What the slices hold, from lists of bytes up: it is right of objects each of whose ids is the hash of its object.
+    ensures named { IfOk result (Promises (map string_bytes words.now) AreNamed skip commits.old commits.new parents.old parents.new) }
+    ensures commits_stay { IfErr result (λ e. commits.new ≡ commits.old) }
+    ensures parents_stay { IfErr result (λ e. parents.new ≡ parents.old) }
+{
+    let count = skip.saturating_add(commits.len() as u64);
+    read_for_list(alloc, words, part, odb, count)?;
+    let objects = part.gathering.objects();
+    Ok(batch_named(alloc, words, objects, skip, commits, parents))
+}
+
+/// Reads what the first commits of a list need, so many.
+fn read_for_list<R>(
+    alloc: Global,
+    words: &[String],
+    part: &mut Part,
+    odb: &mut Odb<R>,
+    count: u64,
+) -> Result<(), gix_gather::Fault>
+where
+    R: Files + AllocGlobal + Clone + Drop,
+    R::File: FileExt,
+{
+    let mut silent = Silent;
+    part.read_first(odb, None, &mut silent)?;
+    for _ in 0..MOST_READINGS {
+        if part.gathering.is_all_read() {
+            break;
+        }
+        let Some(id) = lacks(alloc, words, part, count) else {
+            break;
+        };
+        if !part.read_for(&id, odb, None, &mut silent)? {
+            break;
+        }
+    }
+    Ok(())
+}
+
+/// The object that a walk lacks that goes over so many commits and puts none of them.
+fn lacks(alloc: Global, words: &[String], part: &Part, count: u64) -> Option<ObjectId> {
+    let objects = part.gathering.objects();
+    let passed = batch_named(alloc, words, objects, count, &mut [], &mut []);
+    match passed.ending {
+        Ending::Failed(Fault::Missing(id)) => Some(id),
+        _ => None,
+    }
+}
