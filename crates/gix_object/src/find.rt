@@ -77,6 +77,10 @@ pub mod existing_iter {
 ///             answer => answer,
 ///         }
 ///     }
+///
+///     fn keys(&self) -> Keys {
+///         self.store.keys()
+///     }
 /// }
 /// ```
 pub trait Find {
@@ -95,11 +99,9 @@ pub trait Find {
     fn find_into(&self, id: &ObjectId, buf: &mut Vec<u8>) -> Result<Option<Kind>, Error>
         ensures { FindsInto (map.get (objects self.now) id.now) (faulty self.now id.now) result buf.new.items };
 
-    /// The keys for tables of ids of this store's objects: those of the store's own tables. They change no answer. A store that has no
-    /// secret keys has those that anybody knows.
-    fn keys(&self) -> Keys {
-        Keys::KNOWN
-    }
+    /// The keys with which tables of ids of this store's objects hash them. They change no answer. A store over another one has the
+    /// keys of that one. Keys that anybody knows let whoever chooses the ids make a walk slow.
+    fn keys(&self) -> Keys;
 
     /// Looks an object up, and lends its bytes from `buf`. None says that the store has no such object. After None, or the last
     /// use of what was lent, `buf` may hold anything.

@@ -1,6 +1,6 @@
 //! A store that counts its look-ups.
 use crate::history::digit;
-use gix_parts::hash::ObjectId;
+use gix_parts::hash::{Keys, ObjectId};
 use gix_parts::object::Kind;
 use gix_parts::object::find::{self, Find};
 use gix_parts::object::memory::MemoryStore;
@@ -51,5 +51,9 @@ impl Find for Counted<'_> {
     fn find_into(&self, id: &ObjectId, buf: &mut Vec<u8>) -> Result<Option<Kind>, find::Error> {
         self.count(id);
         self.store.find_into(id, buf)
+    }
+
+    fn keys(&self) -> Keys {
+        self.store.keys()
     }
 }

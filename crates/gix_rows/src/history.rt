@@ -207,6 +207,10 @@ impl Find for Failing<'_> {
         }
         self.0.find_into(id, buf)
     }
+
+    fn keys(&self) -> Keys {
+        self.0.keys()
+    }
 }
 
 /// What a commit-graph is to say: commits with their parents and their generations, and whether the place of a parent in a

@@ -1,5 +1,5 @@
 //! The example of `Find`.
-use gix_parts::hash::ObjectId;
+use gix_parts::hash::{Keys, ObjectId};
 use gix_parts::object::Kind;
 use gix_parts::object::find::{Error, Find};
 
@@ -19,5 +19,9 @@ impl<F: Find> Find for Retry<F> {
             Err(Error::Store) => self.store.find_into(id, buf),
             answer => answer,
         }
+    }
+
+    fn keys(&self) -> Keys {
+        self.store.keys()
     }
 }
