@@ -3,8 +3,8 @@ ghost use Rattle.std.specs.Prelude.{◌≡◌, ◌≤◌, ◌+◌, ◌++◌, map
 ghost use Rattle.gix_batches.specs.Slices.{commit_of, id_of, known_of, told_of};
 ghost use Rattle.gix_hash.specs.Id.{id_len, kind_of};
 
-use gix_parts::hash::ObjectId;
-use gix_traverse::commit::Info;
+use gix_hash::ObjectId;
+use gix_revwalk::Info;
 use gix_words::Fault;
 
 /// The bytes of an id, and zeros behind one of 20 bytes.

@@ -5,7 +5,7 @@ ghost use Rattle.std.specs.Option.{option_map};
 ghost use Rattle.gix_batches.specs.Draws.{Fills, FillsFront, Passes, ending_at, least_of, most_of};
 
 use crate::commit::{Batch, Commit, CommitId, Ending, put_ids};
-use gix_traverse::commit::Info;
+use gix_revwalk::Info;
 use gix_words::Fault;
 
 /// Fills the slices with the commits that a walk gives behind those that are skipped, as far as both have room, up to the walk's end, its

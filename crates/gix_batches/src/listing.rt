@@ -3,7 +3,7 @@ ghost use Rattle.std.specs.Prelude.{◌≡◌, ◌≢◌, Ok, IfOk, IfErr, Match
 ghost use Rattle.gix_words.specs.Words.{Commits, request_of};
 ghost use Rattle.gix_batches.specs.Batches.{AsksForNone, all_lines_to};
 
-use gix_parts::hash::ObjectId;
+use gix_hash::ObjectId;
 use gix_words::{Command, Fault, Form, Merges, Order, Shown, read_command};
 use std::alloc::Global;
 

@@ -10,11 +10,11 @@ ghost use Rattle.gix_revwalk.specs.Agreeing.{rows_in};
 
 use crate::commits::walk_from;
 use crate::output::write_out;
-use gix_parts::graph::Graph;
-use gix_parts::hash::ObjectId;
-use gix_parts::records::LentStore;
-use gix_traverse::commit::simple::Sorting;
-use gix_traverse::commit::{Info, Parents};
+use gix_commitgraph::Graph;
+use gix_hash::ObjectId;
+use gix_records::LentStore;
+use gix_revwalk::{Info, Parents};
+use gix_simple::Sorting;
 use gix_words::Fault;
 use std::alloc::{AllocError, Global};
 use std::io::Write;

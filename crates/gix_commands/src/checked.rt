@@ -7,11 +7,12 @@ ghost use Rattle.gix_commands.specs.Checked.{HasRows, Looks, lost_at};
 ghost use Rattle.gix_commands.specs.Readable.{is_first, readable};
 
 use crate::commits::Lent;
-use gix_parts::graph::Graph;
-use gix_parts::hash::ObjectId;
-use gix_parts::object::find::Find;
-use gix_parts::records::LentStore;
-use gix_traverse::commit::{Info, Parents, Simple, Unfiltered};
+use gix_commitgraph::Graph;
+use gix_hash::ObjectId;
+use gix_object::find::Find;
+use gix_records::LentStore;
+use gix_revwalk::{Info, Parents, Unfiltered};
+use gix_simple::Simple;
 use gix_words::Fault;
 use std::alloc::Global;
 use std::marker::Model;

@@ -9,12 +9,12 @@ ghost use Rattle.gix_revwalk.specs.Commits.{time_of};
 ghost use Rattle.gix_revwalk.specs.Texts.{text_next};
 
 use crate::commits::Lent;
-use gix_parts::graph::Graph;
-use gix_parts::hash::ObjectId;
-use gix_parts::object::find::existing_iter;
-use gix_parts::records::LentStore;
+use gix_commitgraph::Graph;
+use gix_hash::ObjectId;
+use gix_object::find::existing_iter;
+use gix_records::LentStore;
+use gix_revwalk::Parents;
 use gix_revwalk::read::{Header, find_header};
-use gix_traverse::commit::Parents;
 use gix_words::{Fault, Form, Merges, Shown};
 use std::alloc::Global;
 use std::marker::Model;

@@ -7,15 +7,15 @@ ghost use Rattle.gix_commands.specs.TopoWalked as topo_walk;
 ghost use Rattle.gix_commands.specs.Walked.{IsStartFault, StartsFrom};
 
 use crate::texts::make_readable;
+use gix_commitgraph::Graph;
 use gix_graph_store::WithRows;
-use gix_parts::graph::Graph;
-use gix_parts::hash::{Keys, ObjectId};
-use gix_parts::object::Kind;
-use gix_parts::object::find::{self, Find};
-use gix_parts::records::LentStore;
-use gix_traverse::commit::simple::Sorting;
-use gix_traverse::commit::topo::{self, Builder, Topo};
-use gix_traverse::commit::{Parents, Simple, Unfiltered};
+use gix_hash::{Keys, ObjectId};
+use gix_object::Kind;
+use gix_object::find::{self, Find};
+use gix_records::LentStore;
+use gix_revwalk::{Parents, Unfiltered};
+use gix_simple::{Simple, Sorting};
+use gix_topo::{Builder, Topo};
 use gix_words::Fault;
 use std::alloc::{AllocError, Global};
 use std::marker::Model;
@@ -112,7 +112,7 @@ pub fn walk_from<'a>(
 /// The fault of the first object that can't be read of what tips or ends reach. `Memory`.
 pub fn topo_walk_from<'a>(
     alloc: Global,
-    sorting: topo::Sorting,
+    sorting: gix_topo::Sorting,
     tips: Vec<ObjectId>,
     ends: Vec<ObjectId>,
     store: &'a LentStore<'a>,

@@ -3,7 +3,7 @@ ghost use Rattle.std.specs.Prelude.{◌≡◌, ◌*◌, ◌<◌, ◌++◌, ◌�
 ghost use Rattle.hex.specs.Hex.{encode_lower, lower_digits};
 ghost use Rattle.gix_hash.specs.Id.{hex_of};
 
-use gix_parts::hash::ObjectId;
+use gix_hash::ObjectId;
 use std::alloc::AllocError;
 
 /// Adds an id in hex digits of lower case, and this byte after it.

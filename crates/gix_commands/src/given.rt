@@ -7,8 +7,7 @@ ghost use Rattle.gix_statement.specs.WholeStatement.{AreFed, Objects, Promises, 
 ghost use Rattle.gix_words.specs.Words.{request_of, request_of_command};
 
 use crate::serve;
-use gix_parts::hash::Keys;
-use gix_parts::records;
+use gix_hash::Keys;
 use gix_words::{Command, Fault, read_command};
 use std::alloc::Global;
 use std::io::Write;
@@ -51,6 +50,6 @@ pub(crate) fn serve_records<W: Write>(
     ensures runs { (words : List (List ℕ)) → request_of words ≡ Ok (request_of_command command) → Runs words (Some records.now) (W.contents writer.old) result (W.contents writer.new) }
     ensures given { result ≢ Err Fault.Read }
 {
-    let store = records::records_in(alloc, keys, records)?;
+    let store = gix_records::records_in(alloc, keys, records)?;
     serve(alloc, command, &store, None, writer)
 }

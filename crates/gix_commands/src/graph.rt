@@ -5,9 +5,9 @@ ghost use Rattle.gix_graph_file.specs.Chain.{HasChain};
 ghost use Rattle.gix_graph_file.specs.ChainSteps.{files_seen};
 ghost use Rattle.gix_commands.specs.Opening.{FailsToOpen, Opens, layers_seen};
 
+use gix_commitgraph::Graph;
 use gix_graph_check::first_unsound;
 use gix_graph_file::{ChainError, graph_of_chain};
-use gix_parts::graph::Graph;
 use gix_words::Fault;
 use std::alloc::{AllocError, Global};
 

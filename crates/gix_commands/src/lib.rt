@@ -42,11 +42,11 @@ use contains::write_contained;
 use files::write_files;
 pub use given::run_in;
 use given::serve_records;
-use gix_parts::graph::Graph;
-use gix_parts::hash::{Keys, ObjectId};
-use gix_parts::records::{self, LentStore};
-use gix_traverse::commit::Parents;
-use gix_traverse::commit::simple::Sorting;
+use gix_commitgraph::Graph;
+use gix_hash::{Keys, ObjectId};
+use gix_records::LentStore;
+use gix_revwalk::Parents;
+use gix_simple::Sorting;
 pub use gix_words::Fault;
 use gix_words::{Command, Order, Shown, read_command};
 use output::write_commits;
@@ -98,7 +98,7 @@ pub fn run<R: Read, W: Write>(
     ensures whole { Promises Fault.Write (map string_bytes words.now) (λ (objects : Objects) (rows : List Row). AreFed (R.remaining reader.old) objects × (rows ≡ [])) (W.contents writer.old) result (W.contents writer.new) }
 {
     let command = read_command(alloc, words)?;
-    let input = records::read_to_end(alloc, reader, records::READS)?;
+    let input = gix_records::read_to_end(alloc, reader, gix_records::READS)?;
     serve_records(alloc, keys, command, input.as_slice(), writer)
 }
 

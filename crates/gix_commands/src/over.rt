@@ -11,8 +11,7 @@ ghost use Rattle.gix_words.specs.Words.{request_of};
 use crate::graph::open;
 use crate::serve;
 use gix_graph_store::check_stored;
-use gix_parts::hash::Keys;
-use gix_parts::records;
+use gix_hash::Keys;
 use gix_words::{Fault, read_command};
 use std::alloc::Global;
 use std::io::{Read, Write};
@@ -49,8 +48,8 @@ pub fn run_over<R: Read, W: Write>(
 {
     let command = read_command(alloc, words)?;
     let graph = open(alloc, layers)?;
-    let input = records::read_to_end(alloc, reader, records::READS)?;
-    let store = records::records_in(alloc, keys, input.as_slice())?;
+    let input = gix_records::read_to_end(alloc, reader, gix_records::READS)?;
+    let store = gix_records::records_in(alloc, keys, input.as_slice())?;
     check_stored(alloc, &graph, &store)?;
     serve(alloc, command, &store, Some(&graph), writer)
 }

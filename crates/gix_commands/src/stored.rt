@@ -11,10 +11,10 @@ ghost use Rattle.gix_commands.specs.Pages.{page_objects, AreRows};
 ghost use Rattle.gix_commands.specs.StoredRuns.{FailsToAgree, RunsStored};
 
 use crate::serve;
+use gix_commitgraph::Graph;
 use gix_graph_check::first_unsound;
 use gix_graph_store::check_stored;
-use gix_parts::graph::Graph;
-use gix_parts::records::{LentStore, NamedObjects};
+use gix_records::{LentStore, NamedObjects};
 use gix_words::{Fault, read_command};
 use std::alloc::Global;
 use std::io::Write;

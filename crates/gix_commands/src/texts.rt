@@ -6,10 +6,10 @@ ghost use Rattle.gix_revwalk.specs.declared.Parents.TheVariants as mode;
 ghost use Rattle.gix_revwalk.specs.Texts.{scanned};
 ghost use Rattle.gix_commands.specs.Readable.{is_faultless, is_first, is_text, readable_bytes};
 
-use gix_parts::hash::{Kind as HashKind, ObjectId};
-use gix_parts::object::commit::{CommitRefIter, Token};
-use gix_parts::object::{Kind, find};
-use gix_traverse::commit::Parents;
+use gix_hash::{Kind as HashKind, ObjectId};
+use gix_object::commit::{CommitRefIter, Token};
+use gix_object::{Kind, find};
+use gix_revwalk::Parents;
 
 /// Puts the byte 0 in place of a commit's bytes that aren't a text. A walk takes bytes without a line for a commit without parents, and
 /// by first parents alone it reads no line behind that of the first parent; of the byte 0 it says that it is no commit.

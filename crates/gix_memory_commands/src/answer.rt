@@ -8,7 +8,7 @@ ghost use Rattle.gix_memory_commands.specs.Room.{of_length, too_small, well};
 use crate::trouble::Trouble;
 use gix_batches::{Batch, Ending};
 use gix_commands::Fault;
-use gix_parts::hash::ObjectId;
+use gix_hash::ObjectId;
 
 /// What a call answers, in numbers: which fault, what it names, and how many bytes or commits there are.
 #[repr(C)]

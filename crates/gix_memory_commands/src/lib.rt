@@ -23,7 +23,7 @@ pub use answer::Answer;
 pub use commits::commits_over_bytes;
 pub use folder::{commits_over_folder, resolve_in_folder, run_over_folder};
 use gix_commands::{Fault, run_in};
-use gix_parts::hash::Keys;
+use gix_hash::Keys;
 use std::alloc::Global;
 pub use trouble::Trouble;
 use words::words_of;

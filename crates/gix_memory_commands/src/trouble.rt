@@ -1,7 +1,7 @@
 //! Why a call over a repository fails.
 use gix_commands::Fault;
+use gix_hash::ObjectId;
 use gix_options::Misuse;
-use gix_parts::hash::ObjectId;
 use std::alloc::{AllocError, AllocFailed};
 
 /// Why a call over a repository fails.

@@ -1,13 +1,13 @@
 //! What two commits both reach, as commits to be excluded.
 use crate::chosen::{Chosen, Pair};
 use crate::fault::Fault;
+use gix_commitgraph::Graph;
 use gix_gather::commits;
 use gix_graph_store::WithRows;
 use gix_hash::{Keys, ObjectId};
+use gix_merge_base::merge_bases;
 use gix_odb::Odb;
-use gix_parts::graph::Graph;
-use gix_parts::records::LentStore;
-use gix_traverse::commit::merge_base::merge_bases;
+use gix_records::LentStore;
 use std::alloc::Global;
 use std::fs::Files;
 use std::os::unix::fs::FileExt;

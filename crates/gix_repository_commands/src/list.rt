@@ -5,8 +5,8 @@ ghost use Rattle.gix_batches.specs.Batches.{Promises};
 
 use crate::part::{Part, Silent};
 use gix_batches::{Batch, Commit, CommitId, Ending, batch_named};
+use gix_hash::ObjectId;
 use gix_odb::Odb;
-use gix_parts::hash::ObjectId;
 use gix_words::Fault;
 use std::alloc::Global;
 use std::fs::Files;

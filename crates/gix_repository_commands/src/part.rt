@@ -1,10 +1,11 @@
 //! A part of a repository that is read as far as an answer needs it.
+use gix_commitgraph::Graph;
 use gix_gather::{Fault, Gathering, Order};
 use gix_hash::hashtable::IdSet;
+use gix_hash::{Keys, ObjectId};
 use gix_odb::Odb;
-use gix_parts::graph::Graph;
-use gix_parts::hash::{Keys, ObjectId};
-use gix_traverse::commit::simple::{CommitTimeOrder, Sorting};
+use gix_revwalk::CommitTimeOrder;
+use gix_simple::Sorting;
 use gix_words::{self as words, Command, Shown};
 use std::alloc::{AllocError, Global};
 use std::fs::Files;

@@ -5,8 +5,8 @@ ghost use Rattle.gix_statement.specs.WholeStatement.{AreNamed, Objects, Promises
 
 use crate::part::{Part, Watch};
 use gix_commands::run_named;
+use gix_commitgraph::Graph;
 use gix_odb::Odb;
-use gix_parts::graph::Graph;
 use gix_words::Fault;
 use std::alloc::Global;
 use std::fs::Files;

@@ -1,6 +1,7 @@
 //! Which rows a question may use in place of commits.
 use crate::failure::Failure;
 use gix_commands::Fault;
+use gix_commitgraph::{Graph, ParentPlaces, Row};
 use gix_gather::read_named;
 use gix_graph_check::read_whole;
 use gix_graph_file::{ChainError, graph_of_chain};
@@ -10,7 +11,6 @@ use gix_object::Kind;
 use gix_object::commit::CommitRefIter;
 use gix_odb::Odb;
 use gix_options::{Options, Rows};
-use gix_parts::graph::{Graph, ParentPlaces, Row};
 use gix_repository::Repository;
 use std::env;
 use std::io::Write;

@@ -3,11 +3,10 @@ ghost use Rattle.std.specs.Prelude.{◌≡◌};
 
 use gix_graph_check::Disagreement;
 use gix_graph_file::ChainError;
-use gix_parts::hash::ObjectId;
-use gix_parts::object::find::existing_iter;
-use gix_parts::records;
-use gix_traverse::commit::{contained, merge_base, simple, topo};
-use gix_traverse::tree::depthfirst;
+use gix_hash::ObjectId;
+use gix_object::find::existing_iter;
+use gix_paint::Hidden;
+use gix_tree::depthfirst;
 use std::alloc::AllocError;
 use thiserror::Error;
 
@@ -75,17 +74,17 @@ impl From<AllocError> for Fault {
     }
 }
 
-impl From<records::Error> for Fault {
+impl From<gix_records::Error> for Fault {
     ghost use Rattle.gix_words.specs.Faults.{fault_of_records};
 
     ghost from_gives = { λ e r. r ≡ fault_of_records e };
 
-    fn from(error: records::Error) -> Fault {
+    fn from(error: gix_records::Error) -> Fault {
         match error {
-            records::Error::Read => Fault::Read,
-            records::Error::Record(number) => Fault::Record(number),
-            records::Error::Name { .. } => Fault::Internal,
-            records::Error::Memory => Fault::Memory,
+            gix_records::Error::Read => Fault::Read,
+            gix_records::Error::Record(number) => Fault::Record(number),
+            gix_records::Error::Name { .. } => Fault::Internal,
+            gix_records::Error::Memory => Fault::Memory,
         }
     }
 }
@@ -119,63 +118,62 @@ impl From<existing_iter::Error> for Fault {
     }
 }
 
-impl From<simple::Error> for Fault {
+impl From<gix_simple::Error> for Fault {
     ghost use Rattle.gix_words.specs.Faults.{fault_of_walk};
 
     ghost from_gives = { λ e r. r ≡ fault_of_walk e };
 
-    fn from(error: simple::Error) -> Fault {
+    fn from(error: gix_simple::Error) -> Fault {
         match error {
-            simple::Error::Find(fault) => Fault::from(fault),
-            simple::Error::ObjectDecode(_) => Fault::Broken,
-            simple::Error::HiddenGraph(simple::Hidden::Find(fault)) => Fault::from(fault),
-            simple::Error::HiddenGraph(simple::Hidden::ObjectDecode(_)) => Fault::Broken,
-            simple::Error::Memory => Fault::Memory,
+            gix_simple::Error::Find(fault) => Fault::from(fault),
+            gix_simple::Error::ObjectDecode(_) => Fault::Broken,
+            gix_simple::Error::HiddenGraph(Hidden::Find(fault)) => Fault::from(fault),
+            gix_simple::Error::HiddenGraph(Hidden::ObjectDecode(_)) => Fault::Broken,
+            gix_simple::Error::Memory => Fault::Memory,
         }
     }
 }
 
-impl From<topo::Error> for Fault {
+impl From<gix_topo::Error> for Fault {
     ghost use Rattle.gix_words.specs.Faults.{fault_of_topo_walk};
 
     ghost from_gives = { λ e r. r ≡ fault_of_topo_walk e };
 
-    fn from(error: topo::Error) -> Fault {
+    fn from(error: gix_topo::Error) -> Fault {
         match error {
-            topo::Error::MissingIndegreeUnexpected | topo::Error::MissingStateUnexpected => {
-                Fault::Internal
-            }
-            topo::Error::ObjectDecode(_) => Fault::Broken,
-            topo::Error::Find(fault) => Fault::from(fault),
-            topo::Error::Memory => Fault::Memory,
+            gix_topo::Error::MissingIndegreeUnexpected | gix_topo::Error::MissingStateUnexpected =>
+                { Fault::Internal }
+            gix_topo::Error::ObjectDecode(_) => Fault::Broken,
+            gix_topo::Error::Find(fault) => Fault::from(fault),
+            gix_topo::Error::Memory => Fault::Memory,
         }
     }
 }
 
-impl From<contained::Error> for Fault {
+impl From<gix_contained::Error> for Fault {
     ghost use Rattle.gix_words.specs.Faults.{fault_of_contained};
 
     ghost from_gives = { λ e r. r ≡ fault_of_contained e };
 
-    fn from(error: contained::Error) -> Fault {
+    fn from(error: gix_contained::Error) -> Fault {
         match error {
-            contained::Error::Find(fault) => Fault::from(fault),
-            contained::Error::ObjectDecode(_) => Fault::Broken,
-            contained::Error::Memory => Fault::Memory,
+            gix_contained::Error::Find(fault) => Fault::from(fault),
+            gix_contained::Error::ObjectDecode(_) => Fault::Broken,
+            gix_contained::Error::Memory => Fault::Memory,
         }
     }
 }
 
-impl From<merge_base::Error> for Fault {
+impl From<gix_merge_base::Error> for Fault {
     ghost use Rattle.gix_words.specs.Faults.{fault_of_bases};
 
     ghost from_gives = { λ e r. r ≡ fault_of_bases e };
 
-    fn from(error: merge_base::Error) -> Fault {
+    fn from(error: gix_merge_base::Error) -> Fault {
         match error {
-            merge_base::Error::Find(fault) => Fault::from(fault),
-            merge_base::Error::ObjectDecode(_) => Fault::Broken,
-            merge_base::Error::Memory => Fault::Memory,
+            gix_merge_base::Error::Find(fault) => Fault::from(fault),
+            gix_merge_base::Error::ObjectDecode(_) => Fault::Broken,
+            gix_merge_base::Error::Memory => Fault::Memory,
         }
     }
 }

@@ -4,9 +4,9 @@ ghost use Rattle.std.specs.List.{list_all};
 ghost use Rattle.gix_words.specs.Words.{Bases, Contained, Containing, Gives, Tells, AddsId, begins_with_caret, begins_with_dash, begins_with_sign, number_in, request_of_command, request_of, order_named, by_first_parents, by_cutoff, ids_from, plain_of, asked_by, until_of, until_from, merges_of, no_merges_of, with_merges, skipped_of, skip_from, limited_of, limit_from, formed_of, listed_of, since_of, in_order_of, file_of, files_of, ahead_of, is_shown, several_among, several_of, several_in, asked};
 
 use crate::fault::Fault;
-use gix_parts::hash::ObjectId;
-use gix_traverse::commit::simple::{CommitTimeOrder, Sorting};
-use gix_traverse::commit::{Parents, topo};
+use gix_hash::ObjectId;
+use gix_revwalk::{CommitTimeOrder, Parents};
+use gix_simple::Sorting;
 use std::alloc::{AllocError, Global};
 
 /// The order of a walk over commits.
@@ -15,7 +15,7 @@ pub enum Order {
     /// In the order in which commits are met, or in one by time, through these parents.
     Simple { parents: Parents, sorting: Sorting },
     /// No commit before its children.
-    Topo(topo::Sorting),
+    Topo(gix_topo::Sorting),
 }
 
 /// Which commits are written, by how many parents each names.
@@ -152,10 +152,10 @@ fn order_named(name: &String) -> Option<Order>
         return Some(in_simple_order(oldest));
     }
     if name.as_str() == "topo" {
-        return Some(Order::Topo(topo::Sorting::TopoOrder));
+        return Some(Order::Topo(gix_topo::Sorting::TopoOrder));
     }
     if name.as_str() == "date" {
-        return Some(Order::Topo(topo::Sorting::DateOrder));
+        return Some(Order::Topo(gix_topo::Sorting::DateOrder));
     }
     None
 }
