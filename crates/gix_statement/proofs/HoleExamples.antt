@@ -4,7 +4,7 @@ use Rattle.std.specs.Fmt.{digits}
 use Rattle.gix_hash.proofs.Ids.Membership.{no_member}
 use Rattle.gix_hash.specs.declared.ObjectId.{ObjectId}
 use Rattle.gix_statement.proofs.Tests.{not_among}
-use Rattle.gix_statement.specs.WholeStatement.{Object, Objects, Row, AreRecords, AreFed, IsLast, IsCommit, IsThere, IsHistory, Promises, Serves, commits, ahead, contains, containing, bases, files, lists, Choice, Form, Lines, Reversed, Number, chosen, written}
+use Rattle.gix_statement.specs.WholeStatement.{Object, Objects, Row, AreRecords, AreFed, IsLast, IsCommit, IsThere, IsHistory, Promises, Serves, commits, ahead, contains, containing, bases, files, lists, Choice, Form, Lines, Reversed, Number, chosen, commit_line, written}
 
 pub none : ObjectId → List ObjectId
 none i = []
@@ -56,14 +56,14 @@ module _ (objects : Objects) (rows : List Row) (nothing : (i : ObjectId) → obj
   a_history r c = absurd (no_commit r c)
 
   -- what is written of no commits
-  of_none : (form : Form) → IsNothing (written form [])
+  of_none : (line : ObjectId → List ℕ) (form : Form) → IsNothing (written line form [])
   unfolding digits
-  of_none Lines = inl refl
-  of_none Reversed = inl refl
-  of_none Number = inr refl
+  of_none line Lines = inl refl
+  of_none line Reversed = inl refl
+  of_none line Number = inr refl
 
-  written_of_none : (c : Choice) (ids : List ObjectId) → ids ≡ [] → IsNothing (written c.form (chosen none no_time c ids))
-  written_of_none c ids is = subst (λ xs. IsNothing (written c.form xs)) (sym (none_chosen c.skip) ∙ ap (chosen none no_time c) (sym is)) (of_none c.form)
+  written_of_none : (c : Choice) (ids : List ObjectId) → ids ≡ [] → IsNothing (written (commit_line none no_time c.line) c.form (chosen none no_time c ids))
+  written_of_none c ids is = subst (λ xs. IsNothing (written (commit_line none no_time c.line) c.form xs)) (sym (none_chosen c.skip) ∙ ap (chosen none no_time c) (sym is)) (of_none (commit_line none no_time c.line) c.form)
 
   -- so no word but the name of a list is served, and of a list nothing is written, or that it has none
   pub served_nothing : (words : List (List ℕ)) (out : List ℕ) → Serves objects rows none no_time (Some []) (Some out) words → IsNothing out

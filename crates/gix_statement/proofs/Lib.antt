@@ -9,6 +9,7 @@ mod Carried
 pub mod Heart
 pub mod EachHistory
 pub mod Descents
+pub mod SameLines
 pub mod InEach
 -- One answer: of one history, of one input, of the files of a commit-graph, and from end to end.
 pub mod OneAnswer
@@ -21,6 +22,7 @@ mod NamedClash
 pub mod Tests
 mod OrderExamples
 mod RunExamples
+mod LineExamples
 mod GraphExamples
 mod HoleExamples
 mod SinceExample

@@ -1,5 +1,6 @@
 -- The page leaves no choice: in one history there is one right answer.
 use Rattle.std.proofs.Common.{None, ◌≡◌, ◌≢◌, ◌⊎◌, ◌≤◌, ◌≤ℤ◌, ◌<◌, ◌+◌, ℕ, Bool, suc, ℤ, pos, List, [], ◌∷◌, ◌++◌, length, drop, zero, Option, int_le, nat_lt, nat_le, ◌&&◌, cond, reverse, flat_map, filter, not, int_lt, Some, true, false, All, AllPairs, Contains, codes, refl, sym, ap, subst, ◌∙◌, arith, ⊎_elim, inl, inr, append_assoc, append-nil, length-append}
+use Rattle.std.proofs.lemmas.Grind.{flat_map-append}
 use Rattle.std.proofs.lemmas.List.Elements.{All-cons, All-nil, Contains-append_cases, Contains-append_left, Contains-append_right}
 use Rattle.std.specs.Cmp.{IsTotalOrder, on_total, tied_itself}
 use Rattle.std.specs.Cmp.Lexicographic.{nat_list_cmp_total}
@@ -10,7 +11,7 @@ use Rattle.std.specs.Str.Parse.{AllDigits, digits_value}
 use Rattle.gix_hash.proofs.Ids.Membership.{Contains-here, Contains-there, Contains-cons_cases, no_member}
 use Rattle.gix_hash.specs.declared.ObjectId.{ObjectId}
 use Rattle.gix_hash.specs.declared.ObjectId.TheVariants.{Sha1, Sha256}
-use Rattle.gix_statement.specs.WholeStatement.{Objects, Row, IsPending, IsReady, IsFirst, IsBest, Keeps, empty, kept, passed, IsNext, breadth, newest, oldest, date, topo, AreMadeReady, by_time, Begins, IsWhole, Allows, AreTips, Follows, all, first, since, Spells, digits_in, bytes_in, Lists, lists, HasBegun, IsCutOff, OneAnswer, Serves, commits, ahead, contains, containing, bases, IsBase, by_bytes, files, Entry, Object, AreEntries, IsTree, Unfolds, whole, other, tree, Clash, Reaches, id_line, entry_line, IsNumberShown, Form, Choice, Chooses, everything, until, merges, no_merges, skip, at_most, reversed, counted, chosen, written, Lines, Reversed, Number}
+use Rattle.gix_statement.specs.WholeStatement.{Objects, Row, IsPending, IsReady, IsFirst, IsBest, Keeps, empty, kept, passed, IsNext, breadth, newest, oldest, date, topo, AreMadeReady, by_time, Begins, IsWhole, Allows, AreTips, Follows, all, first, since, Spells, digits_in, bytes_in, Lists, lists, HasBegun, IsCutOff, OneAnswer, Serves, commits, ahead, contains, containing, bases, IsBase, by_bytes, files, Entry, Object, AreEntries, IsTree, Unfolds, whole, other, tree, Clash, Reaches, id_line, entry_line, IsNumberShown, Form, Choice, Chooses, everything, until, merges, no_merges, skip, at_most, reversed, counted, with_time, with_parents, zero_ended, chosen, commit_line, written, Lines, Reversed, Number}
 use Rattle.gix_statement.proofs.OneCommit.{spelled_same, append_same, first_same, id_same}
 use Rattle.gix_statement.proofs.Carried.{same_object}
 use Rattle.gix_statement.proofs.Tests.{not_among, other_head}
@@ -284,6 +285,9 @@ chosen_once words a b (at_most n is late x) (at_most m same late_too y) =
     ((λ k. record (h.0 k) { limit = Some (e k) }), h.1, h.2)
 chosen_once words a b (reversed late x) (reversed late_too y) = let h = chosen_once _ _ _ x y in (ap (λ (c : Choice). record c { form = Reversed }) h.0, h.1, h.2)
 chosen_once words a b (counted late x) (counted late_too y) = let h = chosen_once _ _ _ x y in (ap (λ (c : Choice). record c { form = Number }) h.0, h.1, h.2)
+chosen_once words a b (with_time late x) (with_time late_too y) = let h = chosen_once _ _ _ x y in (ap (λ (c : Choice). record c { line = record c.line { has_time = true } }) h.0, h.1, h.2)
+chosen_once words a b (with_parents late x) (with_parents late_too y) = let h = chosen_once _ _ _ x y in (ap (λ (c : Choice). record c { line = record c.line { has_parents = true } }) h.0, h.1, h.2)
+chosen_once words a b (zero_ended late x) (zero_ended late_too y) = let h = chosen_once _ _ _ x y in (ap (λ (c : Choice). record c { line = record c.line { ending = 0 } }) h.0, h.1, h.2)
 chosen_once {tips} {hidden} words a b (everything t) (until {number = number} {words = ws} n is late x) = no_tip (codes "--until") (number ∷ ws) tips hidden (omega arith) t
 chosen_once {tips} {hidden} words a b (everything t) (merges {words = ws} late x) = no_tip (codes "--merges") ws tips hidden (omega arith) t
 chosen_once {tips} {hidden} words a b (everything t) (no_merges {words = ws} late x) = no_tip (codes "--no-merges") ws tips hidden (omega arith) t
@@ -291,6 +295,9 @@ chosen_once {tips} {hidden} words a b (everything t) (skip {number = number} {wo
 chosen_once {tips} {hidden} words a b (everything t) (at_most {number = number} {words = ws} n is late x) = no_tip (codes "-n") (number ∷ ws) tips hidden (omega arith) t
 chosen_once {tips} {hidden} words a b (everything t) (reversed {words = ws} late x) = no_tip (codes "--reverse") ws tips hidden (omega arith) t
 chosen_once {tips} {hidden} words a b (everything t) (counted {words = ws} late x) = no_tip (codes "--count") ws tips hidden (omega arith) t
+chosen_once {tips} {hidden} words a b (everything t) (with_time {words = ws} late x) = no_tip (codes "--timestamp") ws tips hidden (omega arith) t
+chosen_once {tips} {hidden} words a b (everything t) (with_parents {words = ws} late x) = no_tip (codes "--parents") ws tips hidden (omega arith) t
+chosen_once {tips} {hidden} words a b (everything t) (zero_ended {words = ws} late x) = no_tip (codes "-z") ws tips hidden (omega arith) t
 chosen_once {others = others} {below = below} words a b (until {number = number} {words = ws} n is late x) (everything t) = no_tip (codes "--until") (number ∷ ws) others below (omega arith) t
 chosen_once {others = others} {below = below} words a b (merges {words = ws} late x) (everything t) = no_tip (codes "--merges") ws others below (omega arith) t
 chosen_once {others = others} {below = below} words a b (no_merges {words = ws} late x) (everything t) = no_tip (codes "--no-merges") ws others below (omega arith) t
@@ -298,6 +305,9 @@ chosen_once {others = others} {below = below} words a b (skip {number = number} 
 chosen_once {others = others} {below = below} words a b (at_most {number = number} {words = ws} n is late x) (everything t) = no_tip (codes "-n") (number ∷ ws) others below (omega arith) t
 chosen_once {others = others} {below = below} words a b (reversed {words = ws} late x) (everything t) = no_tip (codes "--reverse") ws others below (omega arith) t
 chosen_once {others = others} {below = below} words a b (counted {words = ws} late x) (everything t) = no_tip (codes "--count") ws others below (omega arith) t
+chosen_once {others = others} {below = below} words a b (with_time {words = ws} late x) (everything t) = no_tip (codes "--timestamp") ws others below (omega arith) t
+chosen_once {others = others} {below = below} words a b (with_parents {words = ws} late x) (everything t) = no_tip (codes "--parents") ws others below (omega arith) t
+chosen_once {others = others} {below = below} words a b (zero_ended {words = ws} late x) (everything t) = no_tip (codes "-z") ws others below (omega arith) t
 
 -- what is behind an option begins with no option of those that are followed
 abbrev NoOption : List (List ℕ) → Type 0
@@ -315,11 +325,9 @@ no_option words c (skip n is late x) more = other_word (codes "--skip") _ (λ e.
 no_option words c (at_most n is late x) more = other_word (codes "-n") _ (λ e. let l : 2 ≡ 14 = ap length e in omega (arith, l)) (λ e. let l : 2 ≡ 7 = ap length e in omega (arith, l)) more
 no_option words c (reversed late x) more = other_word (codes "--reverse") _ (λ e. let l : 9 ≡ 14 = ap length e in omega (arith, l)) (λ e. let l : 9 ≡ 7 = ap length e in omega (arith, l)) more
 no_option words c (counted late x) more = other_word (codes "--count") _ (λ e. let l : 7 ≡ 14 = ap length e in omega (arith, l)) (λ e. let l : 99 ≡ 115 = ap (λ w. get_or w 2 0) e in omega (arith, l)) more
-
--- the lines of more
-flat_more : (ids left : List ObjectId) → flat_map id_line (ids ++ left) ≡ flat_map id_line ids ++ flat_map id_line left
-flat_more [] left = refl
-flat_more (i ∷ ids) left = ap (λ xs. id_line i ++ xs) (flat_more ids left) ∙ sym (append_assoc (id_line i) (flat_map id_line ids) (flat_map id_line left))
+no_option words c (with_time late x) more = other_word (codes "--timestamp") _ (λ e. let l : 11 ≡ 14 = ap length e in omega (arith, l)) (λ e. let l : 11 ≡ 7 = ap length e in omega (arith, l)) more
+no_option words c (with_parents late x) more = other_word (codes "--parents") _ (λ e. let l : 9 ≡ 14 = ap length e in omega (arith, l)) (λ e. let l : 9 ≡ 7 = ap length e in omega (arith, l)) more
+no_option words c (zero_ended late x) more = other_word (codes "-z") _ (λ e. let l : 2 ≡ 14 = ap length e in omega (arith, l)) (λ e. let l : 2 ≡ 7 = ap length e in omega (arith, l)) more
 
 module _ (parents : ObjectId → List ObjectId) (time : ObjectId → ℤ) where
   split_option : {tips those : List ObjectId} {by name : List ℕ} (option another rest more : List (List ℕ)) {followed names : ObjectId → List ObjectId} {starts from : List ObjectId}
@@ -352,9 +360,9 @@ module _ (parents : ObjectId → List ObjectId) (time : ObjectId → ℤ) where
       ((λ k i. filter (λ p. not (int_lt (time p) (pos (same k)))) (parents i)), (λ k. filter (λ i. not (int_lt (time i) (pos (same k)))) tips))
 
   -- lines of ids that go on
-  lines_more : (form : Form) (xs ys rest : List ObjectId) (some full : List ℕ) → form ≡ Lines → some ≡ written form xs → full ≡ written form ys → ys ≡ xs ++ rest → (left : List ℕ) × (full ≡ some ++ left)
-  lines_more form xs ys rest some full lines is same e =
-      (flat_map id_line rest, same ∙ ap (λ f. written f ys) lines ∙ ap (flat_map id_line) e ∙ flat_more xs rest ∙ ap (λ x. x ++ flat_map id_line rest) (ap (λ f. written f xs) (sym lines) ∙ sym is))
+  lines_more : (line : ObjectId → List ℕ) (form : Form) (xs ys rest : List ObjectId) (some full : List ℕ) → form ≡ Lines → some ≡ written line form xs → full ≡ written line form ys → ys ≡ xs ++ rest → (left : List ℕ) × (full ≡ some ++ left)
+  lines_more line form xs ys rest some full lines is same e =
+      (flat_map line rest, same ∙ ap (λ f. written line f ys) lines ∙ ap (flat_map line) e ∙ flat_map-append line xs rest ∙ ap (λ x. x ++ flat_map line rest) (ap (λ f. written line f xs) (sym lines) ∙ sym is))
 
   -- LISTS: what is written of one of two is a beginning of what is of the other, and what is of one that has ended is a beginning of nothing else
   pub record AreOneList (bytes full : List ℕ) (ended end : Bool) : Type 0 where
@@ -378,13 +386,13 @@ module _ (parents : ObjectId → List ObjectId) (time : ObjectId → ℤ) where
       let can_too : (close ≡ true) ⊎ (c.form ≡ Lines) = subst (λ (x : Choice). (close ≡ true) ⊎ (x.form ≡ Lines)) (sym t.0) can in
       let whole_too : close ≡ true → Long parents followed time starts hidden c by others =
       (λ e. subst (λ (T : Type 0). T) (λ k. Long parents (sym f.0 k) time (sym f.1 k) (sym t.2 k) (sym t.0 k) (sym first_word k) others) (begun, allowed, stopped e)) in
-      let full_so : full ≡ written c.form (chosen parents time c others) = full_written ∙ ap (λ x. written x.form (chosen parents time x others)) (sym t.0) in
+      let full_so : full ≡ written (commit_line parents time c.line) c.form (chosen parents time c others) = full_written ∙ ap (λ (x : Choice). written (commit_line parents time x.line) x.form (chosen parents time x others)) (sym t.0) in
       let same : end ≡ true → close ≡ true → bytes ≡ full =
-      (λ e l. is_written ∙ ap (written c.form) (begun_once parents followed time starts hidden c by ids others [] ids others (begins, allows, ended e) (whole_too l) refl refl) ∙ sym full_so) in
+      (λ e l. is_written ∙ ap (written (commit_line parents time c.line) c.form) (begun_once parents followed time starts hidden c by ids others [] ids others (begins, allows, ended e) (whole_too l) refl refl) ∙ sym full_so) in
       let up : (r : List ObjectId) → c.form ≡ Lines → chosen parents time c others ≡ chosen parents time c ids ++ r → (left : List ℕ) × (full ≡ bytes ++ left) =
-      (λ r lines e. lines_more c.form (chosen parents time c ids) (chosen parents time c others) r bytes full lines is_written full_so e) in
+      (λ r lines e. lines_more (commit_line parents time c.line) c.form (chosen parents time c ids) (chosen parents time c others) r bytes full lines is_written full_so e) in
       let down : (r : List ObjectId) → c.form ≡ Lines → chosen parents time c ids ≡ chosen parents time c others ++ r → (left : List ℕ) × (bytes ≡ full ++ left) =
-      (λ r lines e. lines_more c.form (chosen parents time c others) (chosen parents time c ids) r full bytes lines full_so is_written e) in
+      (λ r lines e. lines_more (commit_line parents time c.line) c.form (chosen parents time c others) (chosen parents time c ids) r full bytes lines full_so is_written e) in
       let before : close ≡ true → (left : List ℕ) × (full ≡ bytes ++ left) =
       (λ l. ⊎_elim (λ e. ([], sym (append-nil bytes ∙ same e l)))
       (λ lines. let b = begun_before parents followed time starts hidden c by ids others [] ids others begins allows (whole_too l) refl refl in up b.0 lines b.1) may) in

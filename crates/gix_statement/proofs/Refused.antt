@@ -3,14 +3,15 @@ use Rattle.std.proofs.Common.{true, false, ◌≡◌, ◌⊎◌, ◌+◌, ◌*�
 use Rattle.std.specs.Int.{w32, to_be_bytes}
 use Rattle.gix_hash.specs.declared.ObjectId.{ObjectId}
 use Rattle.gix_statement.proofs.HoleExamples.{Read, fed_nothing, served_nothing, a_history, none_there, none_chosen, none, no_time}
-use Rattle.gix_statement.specs.WholeStatement.{Objects, Row, Promises, HasBegun, IsCutOff, lists, Lines, chosen, written, id_line}
+use Rattle.gix_statement.specs.WholeStatement.{Objects, Row, Promises, HasBegun, IsCutOff, lists, Lines, chosen, commit_line, written}
 use Rattle.gix_statement.specs.CommitGraph.{AreLayers, IsChunk}
 use Rattle.gix_statement.proofs.Tests.{other_head}
 
 -- A RUN THAT FAILS over empty input has written nothing, or a beginning of a number 0 if its writer failed.
 begun : (objects : Objects) (rows : List Row) → ((i : ObjectId) → objects i ≡ None) → rows ≡ [] → (words : List (List ℕ)) (out : List ℕ) → HasBegun objects rows none no_time (Some []) (Some out) words → out ≡ []
 begun objects rows nothing no_rows words out (bytes, lists option more c ids named chooses some follows there begins allows ended may is_written, appends) =
-    appends ∙ is_written ∙ ap (λ form. written form (chosen none no_time c ids)) (only_lines may) ∙ ap (λ is. flat_map id_line (chosen none no_time c is)) (none_there objects rows nothing no_rows ids there) ∙ ap (flat_map id_line) (none_chosen c.skip)
+    let line = commit_line none no_time c.line in
+    appends ∙ is_written ∙ ap (λ form. written line form (chosen none no_time c ids)) (only_lines may) ∙ ap (λ is. flat_map line (chosen none no_time c is)) (none_there objects rows nothing no_rows ids there) ∙ ap (flat_map line) (none_chosen c.skip)
   where
     only_lines : (false ≡ true) ⊎ (c.form ≡ Lines) → c.form ≡ Lines
     only_lines (inl e) = cc

@@ -4,7 +4,6 @@ use Rattle.std.proofs.lemmas.Bool.{false≢true}
 use Rattle.std.proofs.lemmas.List.Elements.{All-cons, All-nil}
 use Rattle.std.proofs.lemmas.List.Kept.{AllPairs-cons}
 use Rattle.std.specs.Fmt.{digits}
-use Rattle.hex.specs.Hex.{encode_lower}
 use Rattle.hex.proofs.OnLiterals.{hex_on_literals}
 use Rattle.gix_hash.proofs.Ids.Membership.{no_member, same_from, same_is}
 use Rattle.gix_hash.specs.declared.ObjectId.{ObjectId}
@@ -12,7 +11,7 @@ use Rattle.gix_hash.specs.declared.ObjectId.TheVariants.{Sha1}
 use Rattle.gix_hash.specs.Id.{is_same}
 use Rattle.gix_statement.specs.WholeStatement as page
 use Rattle.gix_statement.specs.WholeStatement.{Object, Objects, Row, AreNamed, Agree, Allows, AreFed, AreRecords, IsLast, negative, positive, unsigned, AreEntries, AreParentLines, Clash, Entry, Follows, IsCommit, IsThere, IsHistory, IsHash, IsNumber, IsTime, IsText, Promises, Serves, commits, Lists, lists, Spells, bytes_in, Begins, IsWhole, id_line, entry_line, Reaches, start, parent, HasBegun, InEach, HaveHistory}
-use Rattle.gix_statement.proofs.Tests.{all_digits, is_hex, without, not_among, not_alone, other_head, begun_lines}
+use Rattle.gix_statement.proofs.Tests.{all_digits, is_hex, without, not_among, not_alone, other_head, begun_lines, IsEnded, IsEnding}
 use Rattle.gix_statement.proofs.OrderExamples.{begun_one, newest_begun, newest_whole}
 
 -- the id that is one byte twenty times
@@ -44,7 +43,7 @@ too_short i s = omega (arith, s.0)
 abbrev nothing : Objects
 nothing i = None
 
-abbrev row : ObjectId → List ObjectId → ℤ → Row
+abbrev pub row : ObjectId → List ObjectId → ℤ → Row
 row i parents time = record { id = i; tree = id_of 0xab; parents = parents; time = time }
 
 abbrev rows : List Row
@@ -184,16 +183,23 @@ half_a_line writer_failed e words other have (inr (objects, those, given, agreei
     history : (parents : ObjectId → List ObjectId) × (time : ObjectId → ℤ) × IsHistory objects those parents time
     history = have objects those agreeing
 
-    ended : (before after : List ℕ) → All (λ b. b ≢ 10) (before ++ 10 ∷ after) → ⊥
-    ended [] after h = h 0 10 (omega arith) refl
-    ended (b ∷ before) after h = ended before after (λ k d below. h (suc k) d (omega (arith, below)))
+    ended : (c : ℕ) (before after : List ℕ) → All (λ b. b ≢ c) (before ++ c ∷ after) → ⊥
+    ended c [] after h = h 0 c (omega arith) refl
+    ended c (b ∷ before) after h = ended c before after (λ k d below. h (suc k) d (omega (arith, below)))
 
-    lines : (ids : List ObjectId) → codes "2222" ≡ flat_map id_line ids → ⊥
-    lines [] e = cc
-    lines (i ∷ ids) e = ended (encode_lower (bytes_in i)) (flat_map id_line ids) (subst (All (λ b. b ≢ 10)) (e ∙ append_assoc (encode_lower (bytes_in i)) (10 ∷ []) (flat_map id_line ids)) (without 10 (codes "2222") refl))
+    none_ends : (b : ℕ) → IsEnding b → All (λ x. x ≢ b) (codes "2222")
+    none_ends b (inl e) = subst (λ c. All (λ x. x ≢ c) (codes "2222")) (sym e) (without 10 (codes "2222") refl)
+    none_ends b (inr e) = subst (λ c. All (λ x. x ≢ c) (codes "2222")) (sym e) (without 0 (codes "2222") refl)
+
+    lines : (line : ObjectId → List ℕ) (ids : List ObjectId) → ((i : ObjectId) → IsEnded (line i)) → codes "2222" ≡ flat_map line ids → ⊥
+    lines line [] each e = cc
+    lines line (i ∷ ids) each e =
+        let l = each i in
+        let whole : codes "2222" ≡ l.0 ++ l.1 ∷ flat_map line ids = e ∙ ap (λ xs. xs ++ flat_map line ids) l.3 ∙ append_assoc l.0 (l.1 ∷ []) (flat_map line ids) in
+        ended l.1 l.0 (flat_map line ids) (subst (All (λ x. x ≢ l.1)) whole (none_ends l.1 l.2))
 
     go : (parents : ObjectId → List ObjectId) (time : ObjectId → ℤ) → HasBegun objects those parents time (Some []) (Some (codes "2222")) words → ⊥
-    go parents time begun = let b = begun_lines objects those parents time (Some []) (Some (codes "2222")) words begun in lines b.0 b.1
+    go parents time begun = let b = begun_lines objects those parents time (Some []) (Some (codes "2222")) words begun in lines b.0 b.1 b.2 b.3
 
 -- A COLLIDING PAIR: two objects of one id are a clash, of which the law says nothing
 abbrev one_object : List ℕ → Objects
@@ -228,7 +234,7 @@ root_text = codes "tree abababababababababababababababababababab\nauthor A <a> 0
 abbrev child_text : List ℕ
 child_text = codes "tree abababababababababababababababababababab\nparent 1111111111111111111111111111111111111111\nauthor A <a> 0\ncommitter A <a> 7 +0000\n"
 
-abbrev commit : List ℕ → Object
+abbrev pub commit : List ℕ → Object
 commit bytes = record { kind = codes "commit"; bytes = bytes }
 
 abbrev records : List (ObjectId × Object)
@@ -237,11 +243,11 @@ records = (root, commit root_text) ∷ (child, commit child_text) ∷ []
 abbrev pub input : List ℕ
 input = codes "commit 1111111111111111111111111111111111111111 79\n" ++ root_text ++ codes "\ncommit 2222222222222222222222222222222222222222 133\n" ++ child_text ++ 10 ∷ []
 
-root_spelled : Spells 40 (codes "1111111111111111111111111111111111111111") root
+pub root_spelled : Spells 40 (codes "1111111111111111111111111111111111111111") root
 unfolding hex_on_literals
 root_spelled = (refl, refl, is_hex (codes "1111111111111111111111111111111111111111") refl)
 
-are_kinds : Contains (codes "tree" ∷ codes "blob" ∷ codes "commit" ∷ codes "tag" ∷ []) (codes "commit")
+pub are_kinds : Contains (codes "tree" ∷ codes "blob" ∷ codes "commit" ∷ codes "tag" ∷ []) (codes "commit")
 are_kinds = (2, omega arith, refl)
 
 are_records : AreRecords records input
@@ -272,7 +278,7 @@ are_last i = go (is_same child i) (is_same root i) refl refl
 fed : AreFed (Some input) read_in
 fed = (input, inr refl, records, are_records, are_last)
 
-tree_spelled : Spells 40 (codes "abababababababababababababababababababab") (id_of 0xab)
+pub tree_spelled : Spells 40 (codes "abababababababababababababababababababab") (id_of 0xab)
 tree_spelled = lower
 
 root_time : IsTime (codes "author A <a> 0\ncommitter A <a> 5\n") (pos 5)

@@ -8,7 +8,7 @@ use Rattle.gix_hash.proofs.Ids.Membership.{Contains-cons_cases, no_member, same_
 use Rattle.gix_hash.specs.Id.{is_same}
 use Rattle.gix_hash.specs.declared.ObjectId.{ObjectId}
 use Rattle.gix_hash.specs.declared.ObjectId.TheVariants.{Sha1, Sha256}
-use Rattle.gix_statement.specs.WholeStatement.{Objects, Row, Allows, AreTips, digits_in, IsCommit, IsThere, IsHistory, IsShown, IsWhole, Promises, Serves, commits, ahead, contains, containing, bases, files, lists, Follows, all, first, since, Spells, Reaches, start, parent, Choice, Chooses, everything, until, merges, no_merges, skip, at_most, counted, reversed}
+use Rattle.gix_statement.specs.WholeStatement.{Objects, Row, Allows, AreTips, digits_in, IsCommit, IsThere, IsHistory, IsShown, IsWhole, Promises, Serves, commits, ahead, contains, containing, bases, files, lists, Follows, all, first, since, Spells, Reaches, start, parent, Choice, Chooses, everything, until, merges, no_merges, skip, at_most, counted, reversed, with_time, with_parents, zero_ended}
 use Rattle.gix_statement.proofs.OneCommit.{spelled_same}
 use Rattle.gix_statement.proofs.Tests.{is_hex}
 
@@ -95,6 +95,9 @@ module _ (objects : Objects) (nothing : (i : ObjectId) → objects i ≡ None) w
   one_chosen words (at_most k counts late chooses) is = let l : 2 ≡ 40 = ap length (heads (codes "-n") tip _ [] is) in absurd (omega (arith, l))
   one_chosen words (counted late chooses) is = let l : 7 ≡ 40 = ap length (heads (codes "--count") tip _ [] is) in absurd (omega (arith, l))
   one_chosen words (reversed late chooses) is = let l : 9 ≡ 40 = ap length (heads (codes "--reverse") tip _ [] is) in absurd (omega (arith, l))
+  one_chosen words (with_time late chooses) is = let l : 11 ≡ 40 = ap length (heads (codes "--timestamp") tip _ [] is) in absurd (omega (arith, l))
+  one_chosen words (with_parents late chooses) is = let l : 9 ≡ 40 = ap length (heads (codes "--parents") tip _ [] is) in absurd (omega (arith, l))
+  one_chosen words (zero_ended late chooses) is = let l : 2 ≡ 40 = ap length (heads (codes "-z") tip _ [] is) in absurd (omega (arith, l))
 
   not_chosen : {tips hidden : List ObjectId} {c : Choice} {place : ℕ} (words rest : List (List ℕ)) → Chooses tips hidden place words c → words ≡ codes "--since" ∷ rest → ⊥
   not_chosen {tips} {hidden} words rest (everything are) is = no_since rest [] hidden tips (subst (λ x. AreTips x tips hidden) is are)
@@ -105,6 +108,9 @@ module _ (objects : Objects) (nothing : (i : ObjectId) → objects i ≡ None) w
   not_chosen words rest (at_most k counts late chooses) is = let l : 2 ≡ 7 = ap length (heads (codes "-n") (codes "--since") _ rest is) in omega (arith, l)
   not_chosen words rest (counted late chooses) is = let l : 99 ≡ 115 = ap (λ w. get_or w 2 0) (heads (codes "--count") (codes "--since") _ rest is) in omega (arith, l)
   not_chosen words rest (reversed late chooses) is = let l : 9 ≡ 7 = ap length (heads (codes "--reverse") (codes "--since") _ rest is) in omega (arith, l)
+  not_chosen words rest (with_time late chooses) is = let l : 11 ≡ 7 = ap length (heads (codes "--timestamp") (codes "--since") _ rest is) in omega (arith, l)
+  not_chosen words rest (with_parents late chooses) is = let l : 9 ≡ 7 = ap length (heads (codes "--parents") (codes "--since") _ rest is) in omega (arith, l)
+  not_chosen words rest (zero_ended late chooses) is = let l : 2 ≡ 7 = ap length (heads (codes "-z") (codes "--since") _ rest is) in omega (arith, l)
 
   -- whatever the option is
   by_option : {by : List ℕ} {option : List (List ℕ)} (m : ℕ) (more : List (List ℕ)) {c : Choice} {place : ℕ} {tips hidden starts ids : List ObjectId} {followed : ObjectId → List ObjectId}

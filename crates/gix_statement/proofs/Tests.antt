@@ -1,13 +1,15 @@
 -- Tests of lists of numbers, by which worked examples are checked, and members of lists.
-use Rattle.std.proofs.Common.{inl, inr, ◌⊎◌, ℤ, Option, flat_map, ap, subst, ◌∙◌, ◌≡◌, ◌≢◌, ℕ, List, [], ◌∷◌, Bool, true, false, ◌&&◌, nat_eq, nat_lt, not, All, Contains, refl, sym, ◌∙◌, arith, ltb-true, eq-eqb, ⊎_elim}
+use Rattle.std.proofs.Common.{if◌then◌else◌, ◌++◌, append_assoc, inl, inr, ◌⊎◌, ℤ, Option, flat_map, ap, subst, ◌∙◌, ◌≡◌, ◌≢◌, ℕ, List, [], ◌∷◌, Bool, true, false, ◌&&◌, nat_eq, nat_lt, not, All, Contains, refl, sym, ◌∙◌, arith, ltb-true, eq-eqb, ⊎_elim}
 use Rattle.std.proofs.lemmas.Bool.{false≢true}
 use Rattle.std.proofs.lemmas.List.Elements.{All-cons, All-nil}
 use Rattle.gix_hash.proofs.Ids.Membership.{Contains-cons_cases}
 use Rattle.std.specs.Char.{digit_value}
 use Rattle.std.specs.Str.Parse.{AllDigits, digits_value}
+use Rattle.std.specs.Fmt.{signed_decimal}
 use Rattle.std.specs.Io.KnownBytes.{Appends}
+use Rattle.hex.specs.Hex.{encode_lower}
 use Rattle.gix_hash.specs.declared.ObjectId.{ObjectId}
-use Rattle.gix_statement.specs.WholeStatement.{IsHex, none, byte, Objects, Row, HasBegun, lists, Lines, chosen, written, id_line}
+use Rattle.gix_statement.specs.WholeStatement.{IsHex, none, byte, Objects, Row, HasBegun, lists, Choice, Chooses, everything, until, merges, no_merges, skip, at_most, counted, reversed, with_time, with_parents, zero_ended, Lines, bytes_in, chosen, commit_line, written}
 
 -- all of these are digits
 abbrev pub are_digits : ℕ → List ℕ → Bool
@@ -62,11 +64,42 @@ is_hex [] e = none
 is_hex (a ∷ []) e = cc
 is_hex (a ∷ b ∷ text) e = let h = both_true (are_digits 16 (a ∷ b ∷ [])) (are_hex text) e in byte (all_digits 16 (a ∷ b ∷ []) h.0) (is_hex text h.1)
 
+-- a line ends in a newline, or in a byte 0
+abbrev pub IsEnding : ℕ → Type 0
+IsEnding b = (b ≡ 10) ⊎ (b ≡ 0)
+
+abbrev pub IsEnded : List ℕ → Type 0
+IsEnded line = (text : List ℕ) × (b : ℕ) × IsEnding b × (line ≡ text ++ b ∷ [])
+
+chosen_ending : {tips hidden : List ObjectId} {c : Choice} {place : ℕ} (words : List (List ℕ)) → Chooses tips hidden place words c → IsEnding c.line.ending
+chosen_ending words (everything are) = inl refl
+chosen_ending words (until n is late chooses) = chosen_ending _ chooses
+chosen_ending words (merges late chooses) = chosen_ending _ chooses
+chosen_ending words (no_merges late chooses) = chosen_ending _ chooses
+chosen_ending words (skip n is late chooses) = chosen_ending _ chooses
+chosen_ending words (at_most n is late chooses) = chosen_ending _ chooses
+chosen_ending words (counted late chooses) = chosen_ending _ chooses
+chosen_ending words (reversed late chooses) = chosen_ending _ chooses
+chosen_ending words (with_time late chooses) = chosen_ending _ chooses
+chosen_ending words (with_parents late chooses) = chosen_ending _ chooses
+chosen_ending words (zero_ended late chooses) = inr refl
+
+ended_line : (a b c : List ℕ) (e : ℕ) → IsEnding e → IsEnded (a ++ (b ++ (c ++ e ∷ [])))
+ended_line a b c e ending = (a ++ (b ++ c), e, ending, simp append_assoc)
+
 -- what has begun are lines
-pub begun_lines : (objects : Objects) (rows : List Row) (parents : ObjectId → List ObjectId) (time : ObjectId → ℤ) (old new : Option (List ℕ)) (words : List (List ℕ)) → HasBegun objects rows parents time old new words → (ids : List ObjectId) × Appends old new (flat_map id_line ids)
-begun_lines objects rows parents time old new words (bytes, lists option more c ids named chooses some follows there begins allows ended may is_written, appends) =
-    (chosen parents time c ids, subst (Appends old new) (is_written ∙ ap (λ form. written form (chosen parents time c ids)) (only_lines may)) appends)
+pub begun_lines : (objects : Objects) (rows : List Row) (parents : ObjectId → List ObjectId) (time : ObjectId → ℤ) (old new : Option (List ℕ)) (words : List (List ℕ)) → HasBegun objects rows parents time old new words
+    → (line : ObjectId → List ℕ) × (ids : List ObjectId) × ((i : ObjectId) → IsEnded (line i)) × Appends old new (flat_map line ids)
+begun_lines objects rows parents time old new words (bytes, lists option more c ids named chooses some follows there begins allows ended may is_written, appends) = (
+  line,
+  chosen parents time c ids,
+  λ i. ended_line (if c.line.has_time then signed_decimal (time i) ++ 32 ∷ [] else []) (encode_lower (bytes_in i)) (if c.line.has_parents then flat_map (λ p. 32 ∷ encode_lower (bytes_in p)) (parents i) else []) c.line.ending (chosen_ending more chooses),
+  subst (Appends old new) (is_written ∙ ap (λ form. written line form (chosen parents time c ids)) (only_lines may)) appends,
+)
   where
+    line : ObjectId → List ℕ
+    line = commit_line parents time c.line
+
     only_lines : (false ≡ true) ⊎ (c.form ≡ Lines) → c.form ≡ Lines
     only_lines (inl e) = cc
     only_lines (inr e) = e

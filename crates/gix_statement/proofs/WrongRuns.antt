@@ -1,15 +1,15 @@
 -- What the page refuses, whatever is given: lines that break off, words in a wrong place, layers that come twice or in another order.
 use Rattle.std.proofs.Common.{◌≡◌, ◌≢◌, ◌<◌, ◌≤◌, ◌++◌, ℕ, ℤ, suc, List, [], ◌∷◌, length, Bool, Option, None, Some, Ok, Err, Contains, codes, flat_map, refl, sym, ap, subst, ◌∙◌, arith, ⊎_elim, inl, inr}
-use Rattle.hex.specs.Hex.{encode_lower}
+use Rattle.std.proofs.Math.ListN.{get_or}
 use Rattle.gix_hash.specs.declared.ObjectId.{ObjectId}
 use Rattle.gix_hash.specs.declared.ObjectId.TheVariants.{Sha1, Sha256}
 use Rattle.gix_statement.proofs.HaveHistory.{have_history}
 use Rattle.gix_statement.proofs.NamedClash.{clash_collides}
 use Rattle.gix_statement.proofs.OneCommit.{one_commit}
 use Rattle.gix_statement.proofs.OneOutput.{output_of_both}
-use Rattle.gix_statement.proofs.Tests.{begun_lines}
+use Rattle.gix_statement.proofs.Tests.{IsEnded, IsEnding, begun_lines}
 use Rattle.gix_statement.specs.CommitGraph.{AreLayers}
-use Rattle.gix_statement.specs.WholeStatement.{Objects, Row, Promises, HasBegun, Serves, commits, ahead, contains, containing, bases, files, Lists, lists, AreTips, Follows, all, first, since, digits_in, bytes_in, id_line, Agree, AreNamed, InEach, IsHash, IsText, Choice, Chooses, everything, until, merges, no_merges, skip, at_most, counted, reversed}
+use Rattle.gix_statement.specs.WholeStatement.{Objects, Row, Promises, HasBegun, Serves, commits, ahead, contains, containing, bases, files, Lists, lists, AreTips, Follows, all, first, since, digits_in, Agree, AreNamed, InEach, IsHash, IsText, Choice, Chooses, everything, until, merges, no_merges, skip, at_most, counted, reversed, with_time, with_parents, zero_ended}
 
 -- HALF A LINE is left only by a run whose writer failed.
 abbrev last_of : ℕ → List ℕ → ℕ
@@ -20,24 +20,26 @@ last_of_both : (b : ℕ) (xs ys : List ℕ) → last_of b (xs ++ ys) ≡ last_of
 last_of_both b [] ys = refl
 last_of_both b (x ∷ xs) ys = last_of_both x xs ys
 
-lines_end : (ids : List ObjectId) → last_of 10 (flat_map id_line ids) ≡ 10
-lines_end [] = refl
-lines_end (i ∷ ids) =
-    last_of_both 10 (id_line i) (flat_map id_line ids)
-    ∙ ap (λ b. last_of b (flat_map id_line ids)) (last_of_both 10 (encode_lower (bytes_in i)) (10 ∷ []))
-    ∙ lines_end ids
+-- behind a line, whatever was before
+line_ends : (b : ℕ) (line : List ℕ) → IsEnded line → IsEnding (last_of b line)
+line_ends b line (text, c, ending, is) = subst IsEnding (sym (ap (last_of b) is ∙ last_of_both b text (c ∷ []))) ending
+
+lines_end : (line : ObjectId → List ℕ) (b : ℕ) (ids : List ObjectId) → ((i : ObjectId) → IsEnded (line i)) → IsEnding b → IsEnding (last_of b (flat_map line ids))
+lines_end line b [] each ends = ends
+lines_end line b (i ∷ ids) each ends =
+    subst IsEnding (sym (last_of_both b (line i) (flat_map line ids))) (lines_end line (last_of b (line i)) ids each (line_ends b (line i) (each i)))
 
 no_half_line : {E : Type 0} (writer_failed e : E) (words : List (List ℕ)) (AreGiven : Objects → List Row → Type 0) (out : List ℕ) (b : ℕ)
-    → e ≢ writer_failed → b ≢ 10 → Promises writer_failed words AreGiven (Some []) (Err e) (Some (out ++ b ∷ [])) → ⊥
+    → e ≢ writer_failed → (IsEnding b → ⊥) → Promises writer_failed words AreGiven (Some []) (Err e) (Some (out ++ b ∷ [])) → ⊥
 no_half_line writer_failed e words AreGiven out b other unlike (inl same) =
     let none : out ++ b ∷ [] ≡ [] = cc in
-    unlike (sym (last_of_both 10 out (b ∷ [])) ∙ ap (last_of 10) none)
+    unlike (inl (sym (last_of_both 10 out (b ∷ [])) ∙ ap (last_of 10) none))
 no_half_line writer_failed e words AreGiven out b other unlike (inr (objects, rows, given, agree, right)) =
     let h = have_history objects rows agree in
     ⊎_elim (whole h.0 h.1) (λ c. other c.0) (right h.0 h.1 h.2)
   where
     whole : (parents : ObjectId → List ObjectId) (time : ObjectId → ℤ) → HasBegun objects rows parents time (Some []) (Some (out ++ b ∷ [])) words → ⊥
-    whole parents time begun = let l = begun_lines objects rows parents time (Some []) (Some (out ++ b ∷ [])) words begun in unlike (sym (last_of_both 10 out (b ∷ [])) ∙ ap (last_of 10) l.1 ∙ lines_end l.0)
+    whole parents time begun = let l = begun_lines objects rows parents time (Some []) (Some (out ++ b ∷ [])) words begun in unlike (subst IsEnding (ap (last_of 10) (sym l.3) ∙ last_of_both 10 out (b ∷ [])) (lines_end l.0 10 l.1 l.2 (inl refl)))
 
 -- BEHIND A LIMIT come ids, or first how they are written: no second limit, and none of the options that stand before it.
 wide : (i : ObjectId) → 40 ≤ digits_in i
@@ -50,7 +52,7 @@ no_short_tip word words tips hidden short (inr (i, more, is, id, w, s, a)) =
     let l : length word ≡ suc (length id) = ap length w in
     omega (arith, short, wide i, s.0, l)
 
-module _ (by n word : List ℕ) (more : List (List ℕ)) (short : length word < 40) (uncounted : word ≢ codes "--count") (forward : word ≢ codes "--reverse") where
+module _ (by n word : List ℕ) (more : List (List ℕ)) (short : length word < 40) (uncounted : word ≢ codes "--count") (forward : word ≢ codes "--reverse") (timeless : word ≢ codes "--timestamp") (alone : word ≢ codes "--parents") (newlines : word ≢ codes "-z") where
   abbrev Asked : List (List ℕ)
   Asked = by ∷ codes "-n" ∷ n ∷ word ∷ more
 
@@ -63,6 +65,9 @@ module _ (by n word : List ℕ) (more : List (List ℕ)) (short : length word < 
   none_late words late (at_most k counts before chooses) is = omega (arith, late)
   none_late words late (counted before chooses) is = let head : codes "--count" ≡ word = cc in uncounted (sym head)
   none_late words late (reversed before chooses) is = let head : codes "--reverse" ≡ word = cc in forward (sym head)
+  none_late words late (with_time before chooses) is = let head : codes "--timestamp" ≡ word = cc in timeless (sym head)
+  none_late words late (with_parents before chooses) is = let head : codes "--parents" ≡ word = cc in alone (sym head)
+  none_late words late (zero_ended before chooses) is = let head : codes "-z" ≡ word = cc in newlines (sym head)
 
   no_words : {tips hidden : List ObjectId} {c : Choice} {place : ℕ} (words : List (List ℕ)) → Chooses tips hidden place words c → words ≡ codes "-n" ∷ n ∷ word ∷ more → ⊥
   no_words {tips} {hidden} words (everything are) is = no_short_tip (codes "-n") (n ∷ word ∷ more) tips hidden (omega arith) (subst (λ x. AreTips x tips hidden) is are)
@@ -73,6 +78,9 @@ module _ (by n word : List ℕ) (more : List (List ℕ)) (short : length word < 
   no_words words (at_most {words = rest} k counts late chooses) is = none_late rest late chooses (let e : rest ≡ word ∷ more = cc in e)
   no_words words (counted before chooses) is = let head : codes "--count" ≡ codes "-n" = cc in let l : 7 ≡ 2 = ap length head in omega (arith, l)
   no_words words (reversed before chooses) is = let head : codes "--reverse" ≡ codes "-n" = cc in let l : 9 ≡ 2 = ap length head in omega (arith, l)
+  no_words words (with_time before chooses) is = let head : codes "--timestamp" ≡ codes "-n" = cc in let l : 11 ≡ 2 = ap length head in omega (arith, l)
+  no_words words (with_parents before chooses) is = let head : codes "--parents" ≡ codes "-n" = cc in let l : 9 ≡ 2 = ap length head in omega (arith, l)
+  no_words words (zero_ended before chooses) is = let head : codes "-z" ≡ codes "-n" = cc in let l : 122 ≡ 110 = ap (λ w. get_or w 1 0) head in omega (arith, l)
 
   module _ (objects : Objects) (rows : List Row) (parents : ObjectId → List ObjectId) (time : ObjectId → ℤ) where
     no_option : {tips those hidden starts : List ObjectId} {name : List ℕ} {followed : ObjectId → List ObjectId} {c : Choice} {place : ℕ} (option words : List (List ℕ))
@@ -118,7 +126,7 @@ module _ (by n word : List ℕ) (more : List (List ℕ)) (short : length word < 
 
 no_second_limit : {E : Type 0} (writer_failed : E) (AreGiven : Objects → List Row → Type 0) (by n tip : List ℕ) (old new : Option (List ℕ))
     → Promises writer_failed (by ∷ codes "-n" ∷ n ∷ codes "-n" ∷ n ∷ tip ∷ []) AreGiven old (Ok tt) new → ⊥
-no_second_limit writer_failed AreGiven by n tip = nothing_behind_a_limit by n (codes "-n") (n ∷ tip ∷ []) (omega arith) (λ e. cc) (λ e. cc) writer_failed AreGiven
+no_second_limit writer_failed AreGiven by n tip = nothing_behind_a_limit by n (codes "-n") (n ∷ tip ∷ []) (omega arith) (λ e. cc) (λ e. cc) (λ e. cc) (λ e. cc) (λ e. let l : 110 ≡ 122 = ap (λ w. get_or w 1 0) e in omega (arith, l)) writer_failed AreGiven
 
 -- LAYERS in another order, or one of them twice: each says how many are below it.
 not_in_another_order : (a b : List ℕ) (rows others : List Row) → AreLayers [] (a ∷ b ∷ []) [] rows → AreLayers [] (b ∷ a ∷ []) [] others → ⊥
