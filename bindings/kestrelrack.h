@@ -72,10 +72,12 @@ struct kestrelrack_answer {
  *          The options that choose lines come in this order, each at most once: "--until" and a number of 1 to 10 digits leaves out the
  *          commits of a later time; "--merges" those of fewer than two parents, or "--no-merges" those of more than one; "--skip" and a
  *          number of 1 to 9 digits so many of the others first; after "-n" and such a number no more lines are written than it says;
- *          with "--reverse" the last of these lines comes first, or with "--count" their number is the only line.
+ *          with "--reverse" the last of these lines comes first, or with "--count" their number is the only line; with "--timestamp" a
+ *          line begins with the committer's seconds and a space, with "--parents" a space and the id of each parent follow its id, and
+ *          with "-z" it ends in a zero byte.
  * records  The objects, as `git cat-file --batch='%(objecttype) %(objectname) %(objectsize)'` prints them. They are read where they
  *          are: only an object that the walk looks up is copied, one at a time.
- * room     For the lines, each with a newline and none with a zero byte. The lines of commits are never longer than the records (only
+ * room     For the lines, each with a newline and none with a zero byte, except with "-z". The lines of commits are never longer than the records (only
  *          "0" and a newline may be), those of "ahead" are at most 42 bytes, those of "contains" and "containing" never longer than the
  *          words, and those of "merge-base" never longer than the records.
  *
@@ -107,7 +109,8 @@ enum { KESTRELRACK_TIME = 1, KESTRELRACK_GENERATION = 2 };
  * ids of their parents at the front of `parents`, as many commits as both have room for.
  *
  * words    "breadth", "newest", "oldest", "topo" or "date" with its options and ids, as for kestrelrack_run. Another command is
- *          KESTRELRACK_USAGE, and so are "--until", "--merges", "--no-merges", "--skip", "--reverse" and "--count": a caller has each
+ *          KESTRELRACK_USAGE, and so are "--until", "--merges", "--no-merges", "--skip", "--reverse", "--count", "--timestamp",
+ *          "--parents" and "-z": a caller has each
  *          commit's time and parents, and chooses by itself. The number behind "-n" counts those that are skipped.
  * records  As for kestrelrack_run.
  *

@@ -34,7 +34,7 @@ use std::alloc::Global;
 /// Runs a list command over records that are in memory, and puts the commits behind those that are skipped at the front of the slices, as
 /// many as both have room for: each commit with its id and its time, and the ids of its parents in their order. The words are those of
 /// [`run_in`](gix_commands::run_in) for `breadth`, `newest`, `oldest`, `topo` and `date`, without `--until`, `--merges`, `--no-merges`, `--skip`,
-/// `--count` and `--reverse`; a limit in them counts those that are skipped.
+/// `--count`, `--reverse`, `--timestamp`, `--parents` and `-z`; a limit in them counts those that are skipped.
 ///
 /// Nothing is drawn behind a slice that is full, and behind the limit. By time a commit's parents are looked at as `run_in` does.
 ///

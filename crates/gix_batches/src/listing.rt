@@ -55,4 +55,7 @@ fn are_all_lines(shown: Shown) -> bool
         && matches!(shown.merges, Merges::Any)
         && shown.skip == 0
         && matches!(shown.form, Form::Lines)
+        && !shown.line.time
+        && !shown.line.parents
+        && shown.line.ending == b'\n'
 }

@@ -8,7 +8,7 @@ use std::alloc::Global;
 pub const PAGES: &[(&str, &str)] = &[
     (
         "crates/gix_statement/specs/WholeStatement.antt",
-        "a8128902273b0cf707a935f3ce2f0b4028ea1cef3d3c482970c95a5bb83df604",
+        "0f05580ff548b85bda67f46f1a1ec9b0485ba4d37379b776de9a1979b62730cd",
     ),
     (
         "crates/gix_statement/specs/CommitGraph.antt",

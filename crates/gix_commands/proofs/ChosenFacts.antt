@@ -3,7 +3,7 @@ use Rattle.std.proofs.Common.{◌≡◌, ◌≢◌, ◌-◌, ◌+◌, ◌<◌, �
 use Rattle.gix_commands.proofs.Common.{ObjectId, Objects, Info, Shown, cond-false, cond-true, kept_in, text_next, time_of}
 use Rattle.std.proofs.lemmas.List.Elements.{filter-append}
 use Rattle.std.proofs.lemmas.List.{drop-append-le, drop_all, map-append}
-use Rattle.gix_commands.specs.Chosen.{Choosing, Passes, fresh_choosing, is_kept, keeps, one_less, skipped, taken, unkept}
+use Rattle.gix_commands.specs.Chosen.{Choosing, Passes, fresh_choosing, is_kept, keeps, line_in, one_less, skipped, taken, unkept}
 use Rattle.gix_commands.specs.Output.{Held, Takes}
 use Rattle.gix_words.specs.declared.words.Form.{Form}
 use Rattle.gix_commands.proofs.OutputFacts.{IsLimitLeft, takes_more}
@@ -118,24 +118,28 @@ module _ (objects : Objects) (shown : Shown) where
             kept,
           )
 
+  -- the lines of such a chooser
+  pub lines_at : (infos : List Info) (c : Choosing) → IsAt infos c → line_in c.objects c.shown ≡ line_in objects shown
+  lines_at infos c at = (λ k. line_in (at.objects_are k) (at.shown_is k))
+
   -- a commit that is written was added to what is written and held
-  pub takes_kept : (infos : List Info) (info : Info) (t : Bool) → kept_in objects shown (infos ++ info ∷ []) ≡ kept_in objects shown infos ++ added_by t info.id → t ≡ true → (by f : Form) → f ≡ by → (a b c : Option (List ℕ)) (x y z : Held)
-      → Takes by a x (kept_in objects shown infos) b y → Takes f b y (info.id ∷ []) c z → Takes by a x (kept_in objects shown (infos ++ info ∷ [])) c z
-  takes_kept infos info t kept is by f same a b c x y z h k =
-      subst (λ ids. Takes by a x ids c z) (sym (kept ∙ ap (λ t. kept_in objects shown infos ++ added_by t info.id) is))
-      (takes_more by a b c x y z (kept_in objects shown infos) (info.id ∷ []) h (subst (λ (f : Form). Takes f b y (info.id ∷ []) c z) same k))
+  pub takes_kept : (infos : List Info) (info : Info) (t : Bool) → kept_in objects shown (infos ++ info ∷ []) ≡ kept_in objects shown infos ++ added_by t info.id → t ≡ true → (other line : ObjectId → List ℕ) → other ≡ line → (by f : Form) → f ≡ by → (a b c : Option (List ℕ)) (x y z : Held)
+      → Takes line by a x (kept_in objects shown infos) b y → Takes other f b y (info.id ∷ []) c z → Takes line by a x (kept_in objects shown (infos ++ info ∷ [])) c z
+  takes_kept infos info t kept is other line named by f same a b c x y z h k =
+      subst (λ ids. Takes line by a x ids c z) (sym (kept ∙ ap (λ t. kept_in objects shown infos ++ added_by t info.id) is))
+      (takes_more line by a b c x y z (kept_in objects shown infos) (info.id ∷ []) h (subst (λ (l : ObjectId → List ℕ). Takes l by b y (info.id ∷ []) c z) named (subst (λ (f : Form). Takes other f b y (info.id ∷ []) c z) same k)))
 
   -- and one that isn't changes nothing
-  pub takes_left : (infos : List Info) (info : Info) (t : Bool) → kept_in objects shown (infos ++ info ∷ []) ≡ kept_in objects shown infos ++ added_by t info.id → t ≡ false → (by : Form) (a b : Option (List ℕ)) (x y : Held)
-      → Takes by a x (kept_in objects shown infos) b y → Takes by a x (kept_in objects shown (infos ++ info ∷ [])) b y
-  takes_left infos info t kept is by a b x y h =
-      subst (λ ids. Takes by a x ids b y) (sym (kept ∙ ap (λ t. kept_in objects shown infos ++ added_by t info.id) is ∙ append-nil (kept_in objects shown infos))) h
+  pub takes_left : (infos : List Info) (info : Info) (t : Bool) → kept_in objects shown (infos ++ info ∷ []) ≡ kept_in objects shown infos ++ added_by t info.id → t ≡ false → (line : ObjectId → List ℕ) (by : Form) (a b : Option (List ℕ)) (x y : Held)
+      → Takes line by a x (kept_in objects shown infos) b y → Takes line by a x (kept_in objects shown (infos ++ info ∷ [])) b y
+  takes_left infos info t kept is line by a b x y h =
+      subst (λ ids. Takes line by a x ids b y) (sym (kept ∙ ap (λ t. kept_in objects shown infos ++ added_by t info.id) is ∙ append-nil (kept_in objects shown infos))) h
 
 -- what was added, by a writer and a sink where branches join
-pub joined : {W S : Type 0} (contents : W → Option (List ℕ)) (held : S → Held) (by : Form) (a : Option (List ℕ)) (x : Held) (ids : List ObjectId) (writer last : W) (sink end : S) → last ≡ writer → end ≡ sink
-    → Takes by a x ids (contents writer) (held sink) → Takes by a x ids (contents last) (held end)
-joined contents held by a x ids writer last sink end written holds h =
-    subst (λ s. Takes by a x ids (contents last) (held s)) (sym holds) (subst (λ w. Takes by a x ids (contents w) (held sink)) (sym written) h)
+pub joined : {W S : Type 0} (contents : W → Option (List ℕ)) (held : S → Held) (line : ObjectId → List ℕ) (by : Form) (a : Option (List ℕ)) (x : Held) (ids : List ObjectId) (writer last : W) (sink end : S) → last ≡ writer → end ≡ sink
+    → Takes line by a x ids (contents writer) (held sink) → Takes line by a x ids (contents last) (held end)
+joined contents held line by a x ids writer last sink end written holds h =
+    subst (λ s. Takes line by a x ids (contents last) (held s)) (sym holds) (subst (λ w. Takes line by a x ids (contents w) (held sink)) (sym written) h)
 
 -- one call of a chooser, by what it holds inside
 module _ (old inside : Choosing) (i : ObjectId) (same : inside ≡ old) where

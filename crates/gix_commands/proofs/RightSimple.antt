@@ -13,7 +13,7 @@ use Rattle.gix_statement.proofs.InEach.{none_each, simple_each}
 use Rattle.gix_statement.specs.WholeStatement as page
 use Rattle.gix_statement.specs.WholeStatement.{Allows, InEach, IsThere, Reaches, Chooses, chosen}
 use Rattle.gix_commands.specs.Checked.{GoesOnWhole, HaveParents}
-use Rattle.gix_commands.specs.Chosen.{page_form}
+use Rattle.gix_commands.specs.Chosen.{line_in, page_form}
 use Rattle.gix_commands.specs.Run.{Serves, cut_off, lost}
 use Rattle.gix_commands.specs.Walked.{Walk, Answers, AsksForMore, IsWalkFault, failed, given}
 use Rattle.gix_commands.specs.Pages.{page_objects}
@@ -166,7 +166,7 @@ module _ (objects : Objects) (rows : List GraphRow) (agrees : IsAgreeing objects
     MayBe ended = (ended ≡ true) ⊎ (page_form shown.form ≡ page.Lines)
 
     abbrev pub bytes_of : List ObjectId → List ℕ
-    bytes_of ids = page.written (page_form shown.form) (kept ids)
+    bytes_of ids = page.written (line_in objects shown) (page_form shown.form) (kept ids)
 
     -- these are there, and in each history what is written of them is the list, or so far a beginning of it
     abbrev pub AreListed : Bool → List ObjectId → Type 0
@@ -278,18 +278,18 @@ module _ (objects : Objects) (rows : List GraphRow) (agrees : IsAgreeing objects
     pub simple_right : (answer : Result (Unit {0}) Fault) (new : Option (List ℕ)) → Serves objects rows old (Commits (Simple m by) shown tips hidden) answer new → IsRight (page_objects objects) (name ∷ (option ++ words)) old answer new
     simple_right (Ok tt) new (walked walk infos starts ends parents written) =
         written_so name option words named chosen_by shown place chooses old new true infos (ended_so name option words named chosen_by shown place chooses shown.limit refl walk starts infos ends parents)
-        (ended_bytes shown.form (kept_in objects shown infos) old new written)
+        (ended_bytes (line_in objects shown) shown.form (kept_in objects shown infos) old new written)
     simple_right (Err e) new (walked walk infos starts ends parents written) = ⊎_elim
         (λ same. inl same)
         (λ lines. begun_right (page_objects objects) (name ∷ (option ++ words)) old e new (failed_run name option words named chosen_by shown place chooses old new lines.0 walk starts infos e shown.limit refl ends parents lines.1))
-        (begun_bytes shown.form e (kept_in objects shown infos) old new written)
+        (begun_bytes (line_in objects shown) shown.form e (kept_in objects shown infos) old new written)
     simple_right (Err e) new (lost walk at infos late starts drawn more lacks written) =
         let place_is : take (length infos - 1) infos ≡ lacks.before =
         ap (take (length infos - 1)) lacks.place ∙ take_at lacks.before (lacks.last ∷ []) (length infos - 1) (omega (arith, ap length lacks.place, length-append lacks.before (lacks.last ∷ []))) in
         ⊎_elim
         (λ same. inl same)
         (λ lines. begun_right (page_objects objects) (name ∷ (option ++ words)) old e new (begun_each name option words named chosen_by shown place chooses old new lines.0 walk starts infos at drawn more (λ l. subst (HaveParents objects rows) (sym place_is) lacks.whole) lines.1))
-        (begun_bytes shown.form e (kept_in objects shown infos) old new written)
+        (begun_bytes (line_in objects shown) shown.form e (kept_in objects shown infos) old new written)
     simple_right (Err e) new (not_walked why f) = inl refl
     simple_right (Err e) new unserved = inl refl
     simple_right (Err e) new (cut_off {answer = answer} {full = full} some more s a b) = cut_right (page_objects objects) (name ∷ (option ++ words)) old answer full new some more (simple_right answer full s) a b

@@ -6,7 +6,7 @@ use Rattle.gix_topo.specs.declared.Sorting.{Sorting}
 use Rattle.gix_statement.proofs.InEach.{down_each}
 use Rattle.gix_statement.specs.WholeStatement as page
 use Rattle.gix_statement.specs.WholeStatement.{Allows, Chooses, InEach, IsThere, chosen}
-use Rattle.gix_commands.specs.Chosen.{page_form}
+use Rattle.gix_commands.specs.Chosen.{line_in, page_form}
 use Rattle.gix_commands.specs.Run.{Serves, cut_off}
 use Rattle.gix_commands.specs.TopoWalked.{Walk, Answers, IsWalkFault}
 use Rattle.gix_commands.specs.Walked.{AsksForMore, failed, given}
@@ -47,7 +47,7 @@ module _ (objects : Objects) (rows : List GraphRow) (agrees : IsAgreeing objects
       kept ids = chosen (text_next objects) (time_of objects) (page_choice shown) ids
 
       abbrev pub bytes_of : List ObjectId → List ℕ
-      bytes_of ids = page.written (page_form shown.form) (kept ids)
+      bytes_of ids = page.written (line_in objects shown) (page_form shown.form) (kept ids)
 
       -- these are there, and in each history what is written of them is the list, or so far a beginning of it
       abbrev pub AreListed : Bool → List ObjectId → Type 0
@@ -122,11 +122,11 @@ module _ (objects : Objects) (rows : List GraphRow) (agrees : IsAgreeing objects
     pub topo_right : (answer : Result (Unit {0}) Fault) (new : Option (List ℕ)) → Serves objects rows old (Commits (Topo by) shown tips ends) answer new → IsRight (page_objects objects) (name ∷ (option ++ words)) old answer new
     topo_right (Ok tt) new (walked_down walk infos built drawn written) =
         written_so walk built name option words named unchosen shown place chooses old new true infos (ended_so walk built name option words named unchosen shown place chooses shown.limit refl infos drawn)
-        (ended_bytes shown.form (kept_in objects shown infos) old new written)
+        (ended_bytes (line_in objects shown) shown.form (kept_in objects shown infos) old new written)
     topo_right (Err e) new (walked_down walk infos built drawn written) = ⊎_elim
         (λ same. inl same)
         (λ lines. begun_right (page_objects objects) (name ∷ (option ++ words)) old e new (stopped_run walk built name option words named unchosen shown place chooses old new lines.0 infos e shown.limit refl drawn lines.1))
-        (begun_bytes shown.form e (kept_in objects shown infos) old new written)
+        (begun_bytes (line_in objects shown) shown.form e (kept_in objects shown infos) old new written)
     topo_right (Err e) new (not_built why h) = inl refl
     topo_right (Err e) new unserved = inl refl
     topo_right (Err e) new (cut_off {answer = answer} {full = full} some more s a b) = cut_right (page_objects objects) (name ∷ (option ++ words)) old answer full new some more (topo_right answer full s) a b

@@ -16,7 +16,7 @@ use Rattle.gix_records.specs.Reading as reading
 use Rattle.gix_records.specs.Records.{Record, AreRecords}
 use Rattle.gix_simple.specs.declared.Sorting.TheVariants as sorting
 use Rattle.gix_commands.specs.Checked.{CheckedWalk, Checks, first_lost}
-use Rattle.gix_commands.specs.Chosen.{Choosing, fresh_choosing}
+use Rattle.gix_commands.specs.Chosen.{Choosing, fresh_choosing, line_in}
 use Rattle.gix_commands.specs.Output as output
 use Rattle.gix_commands.specs.Output.{WritesBegun, cut}
 use Rattle.gix_commands.specs.Readable.{readable, reads_all_lines}
@@ -131,33 +131,33 @@ module _ (words : List (List ℕ)) (has old : Option (List ℕ)) where
 
 module _ (objects : Objects) (rows : List GraphRow) (old : Option (List ℕ)) (order : Order) (shown : Shown) (tips hidden : List ObjectId) where
   -- the walk was drawn, and all that is asked for was written or a beginning of it
-  module _ {W E : Type 0} (Steps : W → Option (Result Info E) → W → Type 0) (Tells : E → Fault → Type 0) (walk : W) (serves : (result : Result (Unit {0}) Fault) (new : Option (List ℕ)) → WritesAll Steps Tells (kept_in objects shown) shown.limit shown.form walk old result new → Serves objects rows old (Commits order shown tips hidden) result new) where
-    serves_drawn : {result : Result (Unit {0}) Fault} {new : Option (List ℕ)} → WritesBegun Steps Tells (kept_in objects shown) shown.limit shown.form walk old result new → Serves objects rows old (Commits order shown tips hidden) result new
+  module _ {W E : Type 0} (Steps : W → Option (Result Info E) → W → Type 0) (Tells : E → Fault → Type 0) (walk : W) (serves : (result : Result (Unit {0}) Fault) (new : Option (List ℕ)) → WritesAll Steps Tells (kept_in objects shown) shown.limit (line_in objects shown) shown.form walk old result new → Serves objects rows old (Commits order shown tips hidden) result new) where
+    serves_drawn : {result : Result (Unit {0}) Fault} {new : Option (List ℕ)} → WritesBegun Steps Tells (kept_in objects shown) shown.limit (line_in objects shown) shown.form walk old result new → Serves objects rows old (Commits order shown tips hidden) result new
     serves_drawn {result} {new} (output.written w) = serves result new w
     serves_drawn (cut {answer = answer} {full = full} some more w a b) = cut_off some more (serves answer full w) a b
     serves_drawn output.unwritten = unserved
 
   -- by what a chooser has of its own
   pub by_chooser : {W E : Type 0} (Steps : W → Option (Result Info E) → W → Type 0) (Tells : E → Fault → Type 0) (walk : W) (chooser : Choosing) → chooser ≡ fresh_choosing objects shown → {result : Result (Unit {0}) Fault} {new : Option (List ℕ)}
-      → WritesBegun Steps Tells (kept_in chooser.objects chooser.shown) chooser.shown.limit chooser.shown.form walk old result new → WritesBegun Steps Tells (kept_in objects shown) shown.limit shown.form walk old result new
-  by_chooser Steps Tells walk chooser is {result} {new} w = subst (λ (c : Choosing). WritesBegun Steps Tells (kept_in c.objects c.shown) c.shown.limit c.shown.form walk old result new) is w
+      → WritesBegun Steps Tells (kept_in chooser.objects chooser.shown) chooser.shown.limit (line_in chooser.objects chooser.shown) chooser.shown.form walk old result new → WritesBegun Steps Tells (kept_in objects shown) shown.limit (line_in objects shown) shown.form walk old result new
+  by_chooser Steps Tells walk chooser is {result} {new} w = subst (λ (c : Choosing). WritesBegun Steps Tells (kept_in c.objects c.shown) c.shown.limit (line_in c.objects c.shown) c.shown.form walk old result new) is w
 
 module _ (objects : Objects) (rows : List GraphRow) (old : Option (List ℕ)) (m : Parents) (by : Sorting) (shown : Shown) (tips hidden : List ObjectId) where
   -- breadth first
   pub serves_walk : (new : Option (List ℕ)) (walk : Walk) (chooser : Choosing) → chooser ≡ fresh_choosing objects shown → by ≡ sorting.BreadthFirst → StartsFrom objects rows m by tips hidden walk → (result : Result (Unit {0}) Fault)
-      → WritesBegun Answers IsWalkFault (kept_in chooser.objects chooser.shown) chooser.shown.limit chooser.shown.form walk old result new → Serves objects rows old (Commits (Simple m by) shown tips hidden) result new
+      → WritesBegun Answers IsWalkFault (kept_in chooser.objects chooser.shown) chooser.shown.limit (line_in chooser.objects chooser.shown) chooser.shown.form walk old result new → Serves objects rows old (Commits (Simple m by) shown tips hidden) result new
   serves_walk new walk chooser is breadth starts result w =
       serves_drawn objects rows old (Simple m by) shown tips hidden Answers IsWalkFault walk (λ _ _ w. walked walk w.infos starts w.ends (λ other. absurd (other breadth)) w.writes)
       (by_chooser objects rows old (Simple m by) shown tips hidden Answers IsWalkFault walk chooser is w)
 
   -- by time, by a checked walk
-  checked_so : (new : Option (List ℕ)) (walk : Walk) → by ≢ sorting.BreadthFirst → StartsFrom objects rows m by tips hidden walk → (infos : List Info) {result : Result (Unit {0}) Fault} → Writes shown.form result (kept_in objects shown infos) old new
+  checked_so : (new : Option (List ℕ)) (walk : Walk) → by ≢ sorting.BreadthFirst → StartsFrom objects rows m by tips hidden walk → (infos : List Info) {result : Result (Unit {0}) Fault} → Writes (line_in objects shown) shown.form result (kept_in objects shown infos) old new
       → IsChecked objects rows (kept_in objects shown) walk shown.limit infos result → Serves objects rows old (Commits (Simple m by) shown tips hidden) result new
   checked_so new walk other starts infos written (well ends whole) = walked walk infos starts ends (λ _. whole) written
   checked_so new walk other starts infos written (lacking at h more l) = run.lost walk at infos other starts h more l written
 
   pub serves_checked : (new : Option (List ℕ)) (walk : Walk) (checked : CheckedWalk) (chooser : Choosing) → chooser ≡ fresh_choosing objects shown → checked ≡ record { walk = walk; objects = objects; rows = rows; lost = None } → by ≢ sorting.BreadthFirst → StartsFrom objects rows m by tips hidden walk
-      → (result : Result (Unit {0}) Fault) → WritesBegun Checks IsItself (kept_in chooser.objects chooser.shown) chooser.shown.limit chooser.shown.form checked old result new → Serves objects rows old (Commits (Simple m by) shown tips hidden) result new
+      → (result : Result (Unit {0}) Fault) → WritesBegun Checks IsItself (kept_in chooser.objects chooser.shown) chooser.shown.limit (line_in chooser.objects chooser.shown) chooser.shown.form checked old result new → Serves objects rows old (Commits (Simple m by) shown tips hidden) result new
   serves_checked new walk checked chooser fresh is other starts result w = serves_drawn objects rows old (Simple m by) shown tips hidden Checks IsItself checked
       (λ result new w. checked_so new walk other starts w.infos w.writes (from_by objects rows (kept_in objects shown) walk shown.limit w.infos result (subst (λ c. EndsBy Checks IsItself (kept_in objects shown) shown.limit c w.infos result) is w.ends)))
       (by_chooser objects rows old (Simple m by) shown tips hidden Checks IsItself checked chooser fresh w)
@@ -171,7 +171,7 @@ module _ (objects : Objects) (rows : List GraphRow) (old : Option (List ℕ)) (m
 
 module _ (objects : Objects) (rows : List GraphRow) (old : Option (List ℕ)) (by : TopoSorting) (shown : Shown) (tips ends : List ObjectId) where
   pub serves_topo : (new : Option (List ℕ)) (walk : topo.Walk) (chooser : Choosing) → chooser ≡ fresh_choosing objects shown → topo.IsBuiltFrom objects rows by tips ends (Ok walk) → (result : Result (Unit {0}) Fault)
-      → WritesBegun topo.Answers topo.IsWalkFault (kept_in chooser.objects chooser.shown) chooser.shown.limit chooser.shown.form walk old result new → Serves objects rows old (Commits (Topo by) shown tips ends) result new
+      → WritesBegun topo.Answers topo.IsWalkFault (kept_in chooser.objects chooser.shown) chooser.shown.limit (line_in chooser.objects chooser.shown) chooser.shown.form walk old result new → Serves objects rows old (Commits (Topo by) shown tips ends) result new
   serves_topo new walk chooser fresh built result w =
       serves_drawn objects rows old (Topo by) shown tips ends topo.Answers topo.IsWalkFault walk (λ _ _ w. walked_down walk w.infos built w.ends w.writes)
       (by_chooser objects rows old (Topo by) shown tips ends topo.Answers topo.IsWalkFault walk chooser fresh w)

@@ -11,7 +11,7 @@ use Rattle.gix_simple.specs.declared.Sorting.TheVariants as sorting
 use Rattle.gix_topo.specs.declared.Sorting.TheVariants as topo
 use Rattle.gix_statement.specs.WholeStatement as page
 use Rattle.gix_statement.specs.WholeStatement.{Chooses}
-use Rattle.gix_words.specs.Words.{limit_from, skip_from, skipped_of, until_from}
+use Rattle.gix_words.specs.Words.{ended_of, limit_from, named_of, skip_from, skipped_of, timed_of, until_from, with_parents, with_time, with_zeros}
 use Rattle.gix_words.specs.declared.fault.Fault.TheVariants as fault
 use Rattle.gix_words.specs.declared.words.Form.TheVariants as form
 use Rattle.gix_words.specs.declared.words.Merges.{Merges}
@@ -168,16 +168,49 @@ from_lower lowest lower l words (Ok a) (place, chooses, late, some, ever, all) =
 is_word : (word other : List ℕ) → bytes_eq word other ≡ true → word ≡ other
 is_word word other e = (bytes_eq-Decides word other).0 e
 
-plain_are : (n : ℕ) (words : List (List ℕ)) → AreChosen 5 words (plain_of n words)
+plain_are : (n : ℕ) (words : List (List ℕ)) → AreChosen 8 words (plain_of n words)
 plain_are n words = go (list_all begins_with_caret words) refl
   where
-    from : (r : Result Ids Fault) → list_all begins_with_caret words ≡ false → AreIdsOf words r → AreChosen 5 words (chosen_from r)
+    from : (r : Result Ids Fault) → list_all begins_with_caret words ≡ false → AreIdsOf words r → AreChosen 8 words (chosen_from r)
     from (Err e) some h = tt
-    from (Ok ids) some h = (5, page.everything h, omega arith, (λ e. false≢true (sym some ∙ all_hidden words ids.0 ids.1 h e)), (λ k. refl), λ k. refl)
+    from (Ok ids) some h = (8, page.everything h, omega arith, (λ e. false≢true (sym some ∙ all_hidden words ids.0 ids.1 h e)), (λ k. refl), λ k. refl)
 
-    go : (t : Bool) → list_all begins_with_caret words ≡ t → AreChosen 5 words (cond t (Err fault.Usage) (chosen_from (ids_from n words)))
+    go : (t : Bool) → list_all begins_with_caret words ≡ t → AreChosen 8 words (cond t (Err fault.Usage) (chosen_from (ids_from n words)))
     go true e = tt
     go false e = from (ids_from n words) e (ids_are n words)
+
+-- an option, or words without it
+module _ (place next : ℕ) (rises : place ≤ next) (name : List ℕ) (add : Result Asked Fault → Result Asked Fault) (adds : (words : List (List ℕ)) (r : Result Asked Fault) → AreChosen next words r → AreChosen place (name ∷ words) (add r)) where
+  option_are : (option : List ℕ) (words : List (List ℕ)) (behind whole : Result Asked Fault) → AreChosen next words behind → AreChosen next (option ∷ words) whole → AreChosen place (option ∷ words) (cond (bytes_eq option name) (add behind) whole)
+  option_are option words behind whole h k = go (bytes_eq option name) refl
+    where
+      go : (t : Bool) → bytes_eq option name ≡ t → AreChosen place (option ∷ words) (cond t (add behind) whole)
+      go true e = subst (λ w. AreChosen place (w ∷ words) (add behind)) (sym (is_word option name e)) (adds words behind h)
+      go false e = from_lower next place rises (option ∷ words) whole k
+
+ended_are : (n : ℕ) (words : List (List ℕ)) → AreChosen 7 words (ended_of n words)
+ended_are n [] = tt
+ended_are n (option ∷ words) = option_are 7 8 (omega arith) (codes "-z") with_zeros adds option words (plain_of (n + 1) words) (plain_of n (option ∷ words)) (plain_are (n + 1) words) (plain_are n (option ∷ words))
+  where
+    adds : (words : List (List ℕ)) (r : Result Asked Fault) → AreChosen 8 words r → AreChosen 7 (codes "-z" ∷ words) (with_zeros r)
+    adds words (Err e) h = tt
+    adds words (Ok a) (place, chooses, late, some, ever, all) = (7, page.zero_ended (omega (arith, late)) chooses, omega arith, some, (λ k. ever (omega arith)), λ k. all (omega arith))
+
+named_are : (n : ℕ) (words : List (List ℕ)) → AreChosen 6 words (named_of n words)
+named_are n [] = tt
+named_are n (option ∷ words) = option_are 6 7 (omega arith) (codes "--parents") with_parents adds option words (ended_of (n + 1) words) (ended_of n (option ∷ words)) (ended_are (n + 1) words) (ended_are n (option ∷ words))
+  where
+    adds : (words : List (List ℕ)) (r : Result Asked Fault) → AreChosen 7 words r → AreChosen 6 (codes "--parents" ∷ words) (with_parents r)
+    adds words (Err e) h = tt
+    adds words (Ok a) (place, chooses, late, some, ever, all) = (6, page.with_parents (omega (arith, late)) chooses, omega arith, some, (λ k. ever (omega arith)), λ k. all (omega arith))
+
+timed_are : (n : ℕ) (words : List (List ℕ)) → AreChosen 5 words (timed_of n words)
+timed_are n [] = tt
+timed_are n (option ∷ words) = option_are 5 6 (omega arith) (codes "--timestamp") with_time adds option words (named_of (n + 1) words) (named_of n (option ∷ words)) (named_are (n + 1) words) (named_are n (option ∷ words))
+  where
+    adds : (words : List (List ℕ)) (r : Result Asked Fault) → AreChosen 6 words r → AreChosen 5 (codes "--timestamp" ∷ words) (with_time r)
+    adds words (Err e) h = tt
+    adds words (Ok a) (place, chooses, late, some, ever, all) = (5, page.with_time (omega (arith, late)) chooses, omega arith, some, (λ k. ever (omega arith)), λ k. all (omega arith))
 
 formed_are : (n : ℕ) (words : List (List ℕ)) → AreChosen 4 words (formed_of n words)
 formed_are n [] = tt
@@ -191,12 +224,12 @@ formed_are n (option ∷ words) = first (bytes_eq option (codes "--count")) refl
     turns (Err e) h = tt
     turns (Ok a) (place, chooses, late, some, ever, all) = (4, page.reversed (omega (arith, late)) chooses, omega arith, some, (λ k. ever (omega arith)), λ k. all (omega arith))
 
-    second : (t : Bool) → bytes_eq option (codes "--reverse") ≡ t → AreChosen 4 (option ∷ words) (cond t (with_form form.Reverse (plain_of (n + 1) words)) (plain_of n (option ∷ words)))
-    second true e = subst (λ w. AreChosen 4 (w ∷ words) (with_form form.Reverse (plain_of (n + 1) words))) (sym (is_word option (codes "--reverse") e)) (turns (plain_of (n + 1) words) (plain_are (n + 1) words))
-    second false e = from_lower 5 4 (omega arith) (option ∷ words) (plain_of n (option ∷ words)) (plain_are n (option ∷ words))
+    second : (t : Bool) → bytes_eq option (codes "--reverse") ≡ t → AreChosen 4 (option ∷ words) (cond t (with_form form.Reverse (timed_of (n + 1) words)) (timed_of n (option ∷ words)))
+    second true e = subst (λ w. AreChosen 4 (w ∷ words) (with_form form.Reverse (timed_of (n + 1) words))) (sym (is_word option (codes "--reverse") e)) (turns (timed_of (n + 1) words) (timed_are (n + 1) words))
+    second false e = from_lower 5 4 (omega arith) (option ∷ words) (timed_of n (option ∷ words)) (timed_are n (option ∷ words))
 
-    first : (t : Bool) → bytes_eq option (codes "--count") ≡ t → AreChosen 4 (option ∷ words) (cond t (with_form form.Count (plain_of (n + 1) words)) (cond (bytes_eq option (codes "--reverse")) (with_form form.Reverse (plain_of (n + 1) words)) (plain_of n (option ∷ words))))
-    first true e = subst (λ w. AreChosen 4 (w ∷ words) (with_form form.Count (plain_of (n + 1) words))) (sym (is_word option (codes "--count") e)) (counts (plain_of (n + 1) words) (plain_are (n + 1) words))
+    first : (t : Bool) → bytes_eq option (codes "--count") ≡ t → AreChosen 4 (option ∷ words) (cond t (with_form form.Count (timed_of (n + 1) words)) (cond (bytes_eq option (codes "--reverse")) (with_form form.Reverse (timed_of (n + 1) words)) (timed_of n (option ∷ words))))
+    first true e = subst (λ w. AreChosen 4 (w ∷ words) (with_form form.Count (timed_of (n + 1) words))) (sym (is_word option (codes "--count") e)) (counts (timed_of (n + 1) words) (timed_are (n + 1) words))
     first false e = second (bytes_eq option (codes "--reverse")) refl
 
 limited_are : (n : ℕ) (words : List (List ℕ)) → AreChosen 3 words (limited_of n words)

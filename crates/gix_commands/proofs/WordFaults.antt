@@ -3,7 +3,7 @@ use Rattle.std.proofs.Common.{ℕ, ◌+◌, pos, List, [], ◌∷◌, Bool, true
 use Rattle.std.specs.List.{list_all}
 use Rattle.gix_commands.proofs.Common.{ObjectId, HexError, id_from_hex, Fault, Order, Request, Files, Ahead, Contained, Containing, Bases, Ids, begins_with_caret, begins_with_sign, without_caret, is_shown, with_id, with_word, ids_from, number_in, order_named, limited_of, listed_of, chosen_of, recent_of, since_of, by_cutoff, in_order_of, file_of, files_from, files_of, ahead_from, ahead_of, asked, several_among, several_from, several_of, Asked, chosen_from, commits_in, formed_of, limit_by, merges_of, plain_of, skip_by, until_by, until_of, with_form, with_limit, with_merges, with_skip, with_until}
 use Rattle.gix_commands.proofs.Common.{request_named, request_of, by_first_parents}
-use Rattle.gix_words.specs.Words.{limit_from, skip_from, skipped_of, until_from}
+use Rattle.gix_words.specs.Words.{ended_of, limit_from, named_of, skip_from, skipped_of, timed_of, until_from, with_parents, with_time, with_zeros}
 use Rattle.gix_words.specs.declared.fault.Fault.TheVariants as fault
 use Rattle.gix_words.specs.declared.words.Form.TheVariants as form
 use Rattle.gix_words.specs.declared.words.Merges.TheVariants as merges
@@ -140,11 +140,26 @@ chosen_words (Err e) h = h
 plain_words : (n : ℕ) (words : List (List ℕ)) → OfWords (plain_of n words)
 plain_words n words = either_words (list_all begins_with_caret words) (Err fault.Usage) (chosen_from (ids_from n words)) tt (chosen_words (ids_from n words) (ids_words n words))
 
+ended_words : (n : ℕ) (words : List (List ℕ)) → OfWords (ended_of n words)
+ended_words n [] = tt
+ended_words n (option ∷ words) =
+    either_words (bytes_eq option (codes "-z")) (with_zeros (plain_of (n + 1) words)) (plain_of n (option ∷ words)) (with_words_of with_zeros (λ a. tt) (λ e h. h) (plain_of (n + 1) words) (plain_words (n + 1) words)) (plain_words n (option ∷ words))
+
+named_words : (n : ℕ) (words : List (List ℕ)) → OfWords (named_of n words)
+named_words n [] = tt
+named_words n (option ∷ words) =
+    either_words (bytes_eq option (codes "--parents")) (with_parents (ended_of (n + 1) words)) (ended_of n (option ∷ words)) (with_words_of with_parents (λ a. tt) (λ e h. h) (ended_of (n + 1) words) (ended_words (n + 1) words)) (ended_words n (option ∷ words))
+
+timed_words : (n : ℕ) (words : List (List ℕ)) → OfWords (timed_of n words)
+timed_words n [] = tt
+timed_words n (option ∷ words) =
+    either_words (bytes_eq option (codes "--timestamp")) (with_time (named_of (n + 1) words)) (named_of n (option ∷ words)) (with_words_of with_time (λ a. tt) (λ e h. h) (named_of (n + 1) words) (named_words (n + 1) words)) (named_words n (option ∷ words))
+
 formed_words : (n : ℕ) (words : List (List ℕ)) → OfWords (formed_of n words)
 formed_words n [] = tt
 formed_words n (option ∷ words) =
-    either_words (bytes_eq option (codes "--count")) (with_form form.Count (plain_of (n + 1) words)) _ (with_words_of (with_form form.Count) (λ a. tt) (λ e h. h) (plain_of (n + 1) words) (plain_words (n + 1) words))
-    (either_words (bytes_eq option (codes "--reverse")) (with_form form.Reverse (plain_of (n + 1) words)) (plain_of n (option ∷ words)) (with_words_of (with_form form.Reverse) (λ a. tt) (λ e h. h) (plain_of (n + 1) words) (plain_words (n + 1) words)) (plain_words n (option ∷ words)))
+    either_words (bytes_eq option (codes "--count")) (with_form form.Count (timed_of (n + 1) words)) _ (with_words_of (with_form form.Count) (λ a. tt) (λ e h. h) (timed_of (n + 1) words) (timed_words (n + 1) words))
+    (either_words (bytes_eq option (codes "--reverse")) (with_form form.Reverse (timed_of (n + 1) words)) (timed_of n (option ∷ words)) (with_words_of (with_form form.Reverse) (λ a. tt) (λ e h. h) (timed_of (n + 1) words) (timed_words (n + 1) words)) (timed_words n (option ∷ words)))
 
 limited_words : (n : ℕ) (words : List (List ℕ)) → OfWords (limited_of n words)
 limited_words n [] = tt

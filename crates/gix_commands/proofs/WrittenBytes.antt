@@ -7,19 +7,18 @@ use Rattle.gix_words.specs.declared.words.Form.{Form}
 use Rattle.gix_words.specs.declared.words.Form.TheVariants as form
 use Rattle.gix_commands.specs.Chosen.{page_form}
 use Rattle.gix_commands.specs.Walked.{AsksForMore}
-use Rattle.gix_commands.proofs.SameLists.{id_lines}
 
 -- of a list that has ended
-pub ended_bytes : (by : Form) (ids : List ObjectId) (old new : Option (List ℕ)) → Writes by (Ok tt) ids old new → Appends old new (page.written (page_form by) ids)
-ended_bytes form.Lines ids old new w = subst (Appends old new) (id_lines ids) w
-ended_bytes form.Count ids old new w = w
-ended_bytes form.Reverse ids old new w = subst (Appends old new) (id_lines (reverse ids)) w
+pub ended_bytes : (line : ObjectId → List ℕ) (by : Form) (ids : List ObjectId) (old new : Option (List ℕ)) → Writes line by (Ok tt) ids old new → Appends old new (page.written line (page_form by) ids)
+ended_bytes line form.Lines ids old new w = w
+ended_bytes line form.Count ids old new w = w
+ended_bytes line form.Reverse ids old new w = w
 
 -- of one that hasn't: nothing, or lines
-pub begun_bytes : (by : Form) (e : Fault) (ids : List ObjectId) (old new : Option (List ℕ)) → Writes by (Err e) ids old new → (new ≡ old) ⊎ ((page_form by ≡ page.Lines) × Appends old new (page.written (page_form by) ids))
-begun_bytes form.Lines e ids old new w = inr (refl, subst (Appends old new) (id_lines ids) w)
-begun_bytes form.Count e ids old new w = inl w
-begun_bytes form.Reverse e ids old new w = inl w
+pub begun_bytes : (line : ObjectId → List ℕ) (by : Form) (e : Fault) (ids : List ObjectId) (old new : Option (List ℕ)) → Writes line by (Err e) ids old new → (new ≡ old) ⊎ ((page_form by ≡ page.Lines) × Appends old new (page.written line (page_form by) ids))
+begun_bytes line form.Lines e ids old new w = inr (refl, w)
+begun_bytes line form.Count e ids old new w = inl w
+begun_bytes line form.Reverse e ids old new w = inl w
 
 -- what a limit allows
 pub allows_fewer : (limit : Option ℕ) (n : ℕ) → AsksForMore limit n → Allows limit n

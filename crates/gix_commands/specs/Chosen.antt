@@ -7,17 +7,18 @@ use Rattle.gix_hash.specs.declared.ObjectId.{ObjectId}
 use Rattle.gix_object.specs.declared.decode.Error.{Error as DecodeError}
 use Rattle.gix_object.specs.Object.{Objects}
 use Rattle.gix_revwalk.specs.declared.Info.{Info}
+use Rattle.gix_revwalk.specs.declared.read.Header.{Header}
 use Rattle.gix_revwalk.specs.Commits.{time_of}
 use Rattle.gix_revwalk.specs.Texts.{text_next}
 use Rattle.gix_statement.specs.WholeStatement as page
-use Rattle.gix_statement.specs.WholeStatement.{chosen}
+use Rattle.gix_statement.specs.WholeStatement.{chosen, commit_line}
 use Rattle.gix_words.specs.declared.fault.Fault.{Fault}
 use Rattle.gix_words.specs.declared.words.Form.{Form}
 use Rattle.gix_words.specs.declared.words.Form.TheVariants as form
+use Rattle.gix_words.specs.declared.words.Line.{Line}
 use Rattle.gix_words.specs.declared.words.Merges.{Merges}
 use Rattle.gix_words.specs.declared.words.Merges.TheVariants as merges
 use Rattle.gix_words.specs.declared.words.Shown.{Shown}
-use Rattle.gix_commands.specs.Walked.{line_of}
 
 abbrev pub kept_until : Option ℤ → ℤ → Bool → Bool
 kept_until None time kept = kept
@@ -37,26 +38,38 @@ page_form form.Lines = page.Lines
 page_form form.Count = page.Number
 page_form form.Reverse = page.Reversed
 
+abbrev pub page_line : Line → page.Line
+page_line has = record { has_time = has.time; has_parents = has.parents; ending = has.ending }
+
 -- what is written, in the words of the page
 abbrev pub page_choice : Shown → page.Choice
-page_choice shown = record { keeps = λ parents time. is_kept shown parents time; skip = shown.skip; limit = shown.limit; form = page_form shown.form }
+page_choice shown = record { keeps = λ parents time. is_kept shown parents time; skip = shown.skip; limit = shown.limit; form = page_form shown.form; line = page_line shown.line }
 
 -- of the commits that a walk gave, those that are kept, without the first of them, by the texts that are stored
 abbrev pub kept_in : Objects → Shown → List Info → List ObjectId
 kept_in objects shown infos = chosen (text_next objects) (time_of objects) (page_choice shown) (map (λ info. info.id) infos)
 
+-- the line of a commit, by the texts that are stored
+abbrev pub line_in : Objects → Shown → ObjectId → List ℕ
+line_in objects shown = commit_line (text_next objects) (time_of objects) (page_line shown.line)
+
 -- What is written of them: their lines, these with the last first, or their number. Of a list that hasn't ended well only lines are.
-abbrev pub Writes : Form → Result (Unit {0}) Fault → List ObjectId → (old new : Option (List ℕ)) → Type 0
-Writes form.Lines answer ids old new = Appends old new (flat_map line_of ids)
-Writes form.Count (Ok done) ids old new = Appends old new (digits 10 false (length ids) ++ 10 ∷ [])
-Writes form.Count (Err e) ids old new = new ≡ old
-Writes form.Reverse (Ok done) ids old new = Appends old new (flat_map line_of (reverse ids))
-Writes form.Reverse (Err e) ids old new = new ≡ old
+abbrev pub Writes : (line : ObjectId → List ℕ) → Form → Result (Unit {0}) Fault → List ObjectId → (old new : Option (List ℕ)) → Type 0
+Writes line form.Lines answer ids old new = Appends old new (flat_map line ids)
+Writes line form.Count (Ok done) ids old new = Appends old new (digits 10 false (length ids) ++ 10 ∷ [])
+Writes line form.Count (Err e) ids old new = new ≡ old
+Writes line form.Reverse (Ok done) ids old new = Appends old new (flat_map line (reverse ids))
+Writes line form.Reverse (Err e) ids old new = new ≡ old
 
 -- the time of a commit of which none may be read
 abbrev pub seconds_or_zero : Result ℤ DecodeError → ℤ
 seconds_or_zero (Ok time) = time
 seconds_or_zero (Err e) = pos 0
+
+-- what a header says is what the text of the commit says
+pub record IsHeaderOf (objects : Objects) (i : ObjectId) (header : Header) : Type 0 where
+  pub parents : header.parent_ids.items ≡ text_next objects i
+  pub time : seconds_or_zero header.time ≡ time_of objects i
 
 -- how many more commits are left out, and how many are written at most
 pub record Choosing : Type 0 where

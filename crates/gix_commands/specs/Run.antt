@@ -29,7 +29,7 @@ use Rattle.gix_words.specs.declared.words.Shown.{Shown}
 use Rattle.gix_commands.specs.Ahead.{Counts, FailsToCount, ahead_line}
 use Rattle.gix_words.specs.Faults.{fault_of_walk, fault_of_topo_walk, fault_of_bases, fault_of_contained, fault_of_tree_walk}
 use Rattle.gix_commands.specs.Checked.{GoesOnWhole, LacksParent}
-use Rattle.gix_commands.specs.Chosen.{Writes, kept_in}
+use Rattle.gix_commands.specs.Chosen.{Writes, kept_in, line_in}
 use Rattle.gix_commands.specs.Files.{IsMisnamed, RecordsTree, file_lines}
 use Rattle.gix_graph_check.specs.declared.Disagreement.TheVariants.{Row}
 use Rattle.gix_graph_store.specs.Laws.{StoredAgree}
@@ -50,21 +50,21 @@ pub data Serves (objects : Objects) (rows : List GraphRow) (old : Option (List �
       {answer : Result (Unit {0}) Fault} {new : Option (List ℕ)}
       → StartsFrom objects rows parents by tips hidden walk → EndsBy Answers IsWalkFault (kept_in objects shown) shown.limit walk infos answer
       → GoesOnWhole objects rows by shown.limit (length (kept_in objects shown infos)) infos
-      → Writes shown.form answer (kept_in objects shown infos) old new
+      → Writes (line_in objects shown) shown.form answer (kept_in objects shown infos) old new
       → Serves objects rows old (Commits (Simple parents by) shown tips hidden) answer new
   -- by time it ends behind a commit one of whose parents isn't there
   lost : {parents : Parents} {by : Sorting} {shown : Shown} {tips hidden : List ObjectId} (walk at : Walk) (infos : List Info) {why : Fault}
       {new : Option (List ℕ)} → by ≢ sorting.BreadthFirst
       → StartsFrom objects rows parents by tips hidden walk → Yields Answers walk (given infos) at
       → AsksForMore shown.limit (length (kept_in objects shown infos)) → LacksParent objects rows infos why
-      → Writes shown.form (Err why) (kept_in objects shown infos) old new
+      → Writes (line_in objects shown) shown.form (Err why) (kept_in objects shown infos) old new
       → Serves objects rows old (Commits (Simple parents by) shown tips hidden) (Err why) new
   not_walked : {parents : Parents} {by : Sorting} {shown : Shown} {tips hidden : List ObjectId} (e : Error) → FailsAtStart objects by tips e
       → Serves objects rows old (Commits (Simple parents by) shown tips hidden) (Err (fault_of_walk e)) old
   walked_down : {by : TopoSorting} {shown : Shown} {tips ends : List ObjectId} (walk : topo.Walk) (infos : List Info)
       {answer : Result (Unit {0}) Fault} {new : Option (List ℕ)}
       → topo.IsBuiltFrom objects rows by tips ends (Ok walk) → EndsBy topo.Answers topo.IsWalkFault (kept_in objects shown) shown.limit walk infos answer
-      → Writes shown.form answer (kept_in objects shown infos) old new
+      → Writes (line_in objects shown) shown.form answer (kept_in objects shown infos) old new
       → Serves objects rows old (Commits (Topo by) shown tips ends) answer new
   not_built : {by : TopoSorting} {shown : Shown} {tips ends : List ObjectId} (e : TopoError) → topo.IsBuiltFrom objects rows by tips ends (Err e)
       → Serves objects rows old (Commits (Topo by) shown tips ends) (Err (fault_of_topo_walk e)) old

@@ -1,22 +1,26 @@
 //! Which of the commits that a walk gives are written.
-ghost use Rattle.std.specs.Prelude.{◌≡◌, ◌≢◌, ℕ, ℤ, true, Some, IfOk, IfErr, MatchBool, length, pos};
-ghost use Rattle.gix_commands.specs.Chosen.{Passes, fresh_choosing, is_kept, keeps, seconds_or_zero};
+ghost use Rattle.std.specs.Prelude.{◌≡◌, ◌≢◌, ◌++◌, ◌∷◌, [], ℕ, ℤ, true, Some, IfOk, IfErr, MatchBool, OnOk, pos};
+ghost use Rattle.gix_commands.specs.Chosen.{Passes, IsHeaderOf, fresh_choosing, is_kept, keeps, line_in, page_line, seconds_or_zero};
+ghost use Rattle.gix_statement.specs.WholeStatement.{commit_line};
+ghost use Rattle.std.specs.Bool.{if◌then◌else◌};
+ghost use Rattle.std.specs.Fmt.{signed_decimal};
+ghost use Rattle.std.specs.List.{flat_map};
+ghost use Rattle.gix_hash.specs.Id.{hex_of};
 ghost use Rattle.gix_object.specs.declared.find.existing_iter.Error.TheVariants as existing;
 ghost use Rattle.gix_commands.specs.Readable.{is_first, readable};
 ghost use Rattle.gix_graph_store.specs.WithRows.{with_rows};
 ghost use Rattle.gix_revwalk.specs.Agreeing.{rows_in};
-ghost use Rattle.gix_revwalk.specs.Commits.{time_of};
-ghost use Rattle.gix_revwalk.specs.Texts.{text_next};
 
 use crate::commits::Lent;
+use crate::digits::add_id;
 use gix_commitgraph::Graph;
 use gix_hash::ObjectId;
 use gix_object::find::existing_iter;
 use gix_records::LentStore;
-use gix_revwalk::Parents;
+use gix_revwalk::{ParentIds, Parents};
 use gix_revwalk::read::{Header, find_header};
-use gix_words::{Fault, Form, Merges, Shown};
-use std::alloc::Global;
+use gix_words::{Fault, Form, Line, Merges, Shown};
+use std::alloc::{AllocError, Global};
 use std::marker::Model;
 
 /// Chooses the commits that are written of those that a walk gives. What it has to know of a commit it reads again, since a walk gives the
@@ -114,44 +118,117 @@ impl<'a> Chooser<'a> {
         if keeps_all(self.shown) {
             return Ok(true);
         }
-        let (parents, time) = self.look_at(id)?;
-        Ok(is_kept(self.shown, parents, time))
+        let header = look_at(self.alloc, &self.objects, id, &mut self.text)?;
+        Ok(is_kept(self.shown, header.parent_ids.len(), seconds_of(&header)))
     }
 
-    /// How many parents a commit has, and its committer's seconds.
-    fn look_at(&mut self, id: &ObjectId) -> Result<(usize, i64), Fault>
-        ensures ok { IfOk result (λ r. (r.0 ≡ length (text_next self.old.objects id.now)) × (r.1 ≡ time_of self.old.objects id.now)) }
-        ensures same { self.new ≡ self.old }
-        ensures err { IfErr result (λ e. e ≡ Fault.Memory) }
+    /// Adds the line of a commit. If it has nothing besides the id, the commit isn't read.
+    ///
+    /// # Errors
+    /// `Memory`: nothing is added.
+    pub fn add_line(&self, lines: &mut Vec<u8>, id: &ObjectId) -> Result<(), Fault>
+        ensures ok { OnOk result (lines.new.items ≡ lines.old.items ++ line_in self.now.objects self.now.shown id.now) }
+        ensures err { IfErr result (λ e. (e ≡ Fault.Memory) × (lines.new.items ≡ lines.old.items)) }
     {
-        match find_header(self.alloc, &self.objects, id, &mut self.text) {
-            Ok(header) => Ok(numbers_of(&header)),
-            Err(why) => no_numbers(why),
+        let has = self.shown.line;
+        if !has.time && !has.parents {
+            return Ok(add_id(lines, id, has.ending)?);
         }
+        let mut text = Vec::new(self.alloc);
+        let header = look_at(self.alloc, &self.objects, id, &mut text)?;
+        let line = line_of(self.alloc, has, id, &header)?;
+        Ok(lines.extend_from_slice(line.as_slice())?)
     }
 }
 
-/// How many parents a header names, and its seconds, or 0 where they can't be read.
-fn numbers_of(header: &Header) -> (usize, i64)
-    ensures parents { result.0 ≡ length header.now.parent_ids.items }
-    ensures time { result.1 ≡ seconds_or_zero header.now.time }
+/// The header of a commit. What is no commit has no parents, and the time 0.
+///
+/// # Errors
+/// `Memory`.
+fn look_at(
+    alloc: Global,
+    objects: &Lent<'_>,
+    id: &ObjectId,
+    text: &mut Vec<u8>,
+) -> Result<Header, Fault>
+    ensures ok { IfOk result (IsHeaderOf objects.now id.now) }
+    ensures err { IfErr result (λ e. e ≡ Fault.Memory) }
 {
-    let time = match header.time {
+    match find_header(alloc, objects, id, text) {
+        Ok(header) => Ok(header),
+        Err(why) => no_header(alloc, why),
+    }
+}
+
+/// The seconds of a header, or 0 where they can't be read.
+fn seconds_of(header: &Header) -> i64
+    ensures { result ≡ seconds_or_zero header.now.time }
+{
+    match header.time {
         Ok(time) => time,
         Err(_) => 0,
-    };
-    (header.parent_ids.len(), time)
+    }
 }
 
-/// What is no commit has no parents, and no time.
-fn no_numbers(why: existing_iter::Error) -> Result<(usize, i64), Fault>
-    ensures ok { IfOk result (λ r. (r.0 ≡ 0) × (r.1 ≡ pos 0) × (why ≢ existing.Memory)) }
+/// What is no commit has no parents, and the time 0.
+fn no_header(alloc: Global, why: existing_iter::Error) -> Result<Header, Fault>
+    ensures ok { IfOk result (λ h. (h.parent_ids.items ≡ []) × (seconds_or_zero h.time ≡ pos 0) × (why ≢ existing.Memory)) }
     ensures err { IfErr result (λ e. e ≡ Fault.Memory) }
 {
     match why {
         existing_iter::Error::Memory => Err(Fault::Memory),
-        _ => Ok((0, 0)),
+        _ => Ok(Header {
+            parent_ids: ParentIds::new(alloc),
+            time: Ok(0),
+        }),
     }
+}
+
+/// The line of a commit that has this header.
+fn line_of(
+    alloc: Global,
+    has: Line,
+    id: &ObjectId,
+    header: &Header,
+) -> Result<Vec<u8>, AllocError>
+    ensures { IfOk result (λ line. line.items ≡ commit_line (λ i. header.now.parent_ids.items) (λ i. seconds_or_zero header.now.time) (page_line has) id.now) }
+{
+    let mut line = time_before(alloc, has.time, header)?;
+    if has.parents {
+        add_ids(&mut line, id, header.parent_ids.as_slice(), has.ending)?;
+    } else {
+        add_id(&mut line, id, has.ending)?;
+    }
+    Ok(line)
+}
+
+/// The seconds of a header and a space, or nothing.
+fn time_before(alloc: Global, is_shown: bool, header: &Header) -> Result<Vec<u8>, AllocError>
+    ensures { IfOk result (λ line. line.items ≡ if is_shown then signed_decimal (seconds_or_zero header.now.time) ++ 32 ∷ [] else []) }
+{
+    if !is_shown {
+        return Ok(Vec::new(alloc));
+    }
+    let seconds = seconds_of(header);
+    let text = format!(in alloc; "{seconds} ")?;
+    text.as_bytes().to_vec(alloc)
+}
+
+/// Adds an id, a space and each of the others, and this byte after the last.
+fn add_ids(
+    line: &mut Vec<u8>,
+    id: &ObjectId,
+    others: &[ObjectId],
+    ending: u8,
+) -> Result<(), AllocError>
+    ensures { OnOk result (line.new.items ≡ line.old.items ++ (hex_of id.now ++ (flat_map (λ p. 32 ∷ hex_of p) others.now ++ ending ∷ []))) }
+{
+    let mut last = *id;
+    for other in others {
+        add_id(line, &last, b' ')?;
+        last = *other;
+    }
+    add_id(line, &last, ending)
 }
 
 /// Whether each commit is kept, whatever it is.

@@ -65,7 +65,8 @@ pub use stored::{run_named, run_stored};
 /// it, and what they would meet by these alone. `--until` and a number leave out the lines of commits whose committer's seconds are above
 /// it, `--merges` those of commits with fewer than two parents, and `--no-merges` those of commits with more than one. `--skip` and a number
 /// leave out the first lines of these, and `-n` and a number those behind as many; behind the last nothing is read. With `--reverse` the last
-/// of these lines comes first, and with `--count` one line says how many they are.
+/// of these lines comes first, and with `--count` one line says how many they are. With `--timestamp` a line begins with the committer's
+/// seconds and a space, with `--parents` a space and the id of each parent follow its id, and with `-z` a byte 0 is at its end.
 /// `files` writes the mode, the id and the path of each entry of the tree and of the trees in it, one a line. `ahead` writes how many
 /// commits the first id reaches and the second doesn't, a space, and how many the second reaches and the first doesn't. `contains` writes
 /// those of its further ids that the first reaches, in the order given, one a line, and `containing` those that reach the first.

@@ -4,13 +4,10 @@ ghost use Rattle.std.specs.Fmt.{digits};
 ghost use Rattle.std.specs.Io.KnownBytes.{Appends, Keeps};
 ghost use Rattle.std.specs.Iterator.{IsFinite};
 ghost use Rattle.std.specs.List.{flat_map};
-ghost use Rattle.gix_commands.specs.Chosen.{fresh_choosing, kept_in};
+ghost use Rattle.gix_commands.specs.Chosen.{fresh_choosing, kept_in, line_in};
 ghost use Rattle.gix_commands.specs.Output.{Grows, AddsBegun, AddsNone, StopsWithin, BreaksOff, Takes, TakesNone, WritesBegun, WritesWhole, held_in};
-ghost use Rattle.gix_commands.specs.Walked.{line_of};
 
 use crate::chosen::Chooser;
-use crate::contains::lines_of;
-use crate::digits::add_id;
 use gix_hash::ObjectId;
 use gix_revwalk::Info;
 use gix_words::{Fault, Form};
@@ -52,7 +49,7 @@ where
     requires can { I.can_next walk }
     requires finite { IsFinite (I.remaining walk) }
     requires fresh { chooser ≡ fresh_choosing chooser.objects chooser.shown }
-    ensures { WritesBegun I.next_gives E.converts (kept_in chooser.entry.objects chooser.entry.shown) chooser.entry.shown.limit chooser.entry.shown.form walk (W.contents writer.old) result (W.contents writer.new) }
+    ensures { WritesBegun I.next_gives E.converts (kept_in chooser.entry.objects chooser.entry.shown) chooser.entry.shown.limit (line_in chooser.entry.objects chooser.entry.shown) chooser.entry.shown.form walk (W.contents writer.old) result (W.contents writer.new) }
 {
     let form = chooser.form();
     let mut sink = Sink {
@@ -73,7 +70,7 @@ where
         }
         Form::Reverse => {
             drawn?;
-            write_reversed(alloc, sink.ids, writer)
+            write_reversed(alloc, &chooser, sink.ids, writer)
         }
     }
 }
@@ -97,20 +94,36 @@ fn number_line(alloc: Global, number: usize) -> Result<Vec<u8>, AllocError>
     line.as_bytes().to_vec(alloc)
 }
 
-/// Writes ids, the last first, one a line.
+/// Writes the lines of these commits, the last first.
 ///
 /// # Errors
 /// `Memory`: nothing is written. `Write` where the writer failed: a beginning of the lines is.
 fn write_reversed<W: Write>(
     alloc: Global,
+    chooser: &Chooser<'_>,
     mut ids: Vec<ObjectId>,
     writer: &mut W,
 ) -> Result<(), Fault>
-    ensures { WritesWhole (W.contents writer.old) (flat_map line_of (reverse ids.items)) result (W.contents writer.new) }
+    ensures { WritesWhole (W.contents writer.old) (flat_map (line_in chooser.now.objects chooser.now.shown) (reverse ids.items)) result (W.contents writer.new) }
 {
     ids.reverse();
-    let mut lines = lines_of(alloc, ids.as_slice())?;
+    let mut lines = lines_of(alloc, chooser, ids.as_slice())?;
     write_out(&mut lines, writer)
+}
+
+/// The lines of these commits.
+///
+/// # Errors
+/// `Memory`.
+fn lines_of(alloc: Global, chooser: &Chooser<'_>, ids: &[ObjectId]) -> Result<Vec<u8>, Fault>
+    ensures ok { IfOk result (λ lines. lines.items ≡ flat_map (line_in chooser.now.objects chooser.now.shown) ids.now) }
+    ensures err { IfErr result (λ e. e ≡ Fault.Memory) }
+{
+    let mut lines = Vec::new(alloc);
+    for id in ids {
+        chooser.add_line(&mut lines, id)?;
+    }
+    Ok(lines)
 }
 
 /// Writes the buffered lines, and flushes the writer.
@@ -139,7 +152,8 @@ where
     requires can { I.can_next walk.old }
     requires finite { IsFinite (I.remaining walk.old) }
     requires fresh { chooser.old ≡ fresh_choosing chooser.old.objects chooser.old.shown }
-    ensures adds { AddsBegun I.next_gives E.converts (kept_in chooser.old.objects chooser.old.shown) chooser.old.shown.limit sink.old.form walk.old (W.contents writer.old) (held_in sink.old) result (W.contents writer.new) (held_in sink.new) }
+    ensures adds { AddsBegun I.next_gives E.converts (kept_in chooser.old.objects chooser.old.shown) chooser.old.shown.limit (line_in chooser.old.objects chooser.old.shown) sink.old.form walk.old (W.contents writer.old) (held_in sink.old) result (W.contents writer.new) (held_in sink.new) }
+    ensures lines { OnOk result (line_in chooser.new.objects chooser.new.shown ≡ line_in chooser.old.objects chooser.old.shown) }
     ensures within { OnOk result (StopsWithin I.next_gives (kept_in chooser.old.objects chooser.old.shown) chooser.old.shown.limit walk.old walk.new) }
 {
     'draws: while !chooser.is_done() {
@@ -151,7 +165,7 @@ where
             Err(fault) => return Err(fault.into()),
         };
         if chooser.takes(&info.id)? {
-            sink.take(info.id, writer)?;
+            sink.take(info.id, chooser, writer)?;
         }
     }
     Ok(())
@@ -159,13 +173,18 @@ where
 
 impl Sink {
     /// Adds a commit. After a failure of the writer no line is buffered.
-    fn take<W: Write>(&mut self, id: ObjectId, writer: &mut W) -> Result<(), Fault>
+    fn take<W: Write>(
+        &mut self,
+        id: ObjectId,
+        chooser: &Chooser<'_>,
+        writer: &mut W,
+    ) -> Result<(), Fault>
         ensures form { self.new.form ≡ self.old.form }
-        ensures ok { OnOk result (Takes self.old.form (W.contents writer.old) (held_in self.old) (id ∷ []) (W.contents writer.new) (held_in self.new)) }
+        ensures ok { OnOk result (Takes (line_in chooser.now.objects chooser.now.shown) self.old.form (W.contents writer.old) (held_in self.old) (id ∷ []) (W.contents writer.new) (held_in self.new)) }
         ensures err { IfErr result (TakesNone self.old.form (W.contents writer.old) (held_in self.old) (W.contents writer.new) (held_in self.new)) }
     {
         match self.form {
-            Form::Lines => add_line(&mut self.lines, writer, id),
+            Form::Lines => add_line(&mut self.lines, chooser, writer, &id),
             Form::Count => {
                 // No memory holds more commits than there are numbers.
                 let Some(number) = self.number.checked_add(1) else {
@@ -183,12 +202,17 @@ impl Sink {
 }
 
 /// Adds a line to the buffered lines. After a failure of the writer none is buffered.
-fn add_line<W: Write>(lines: &mut Vec<u8>, writer: &mut W, id: ObjectId) -> Result<(), Fault>
-    ensures ok { OnOk result (Grows (W.contents writer.old) lines.old.items (W.contents writer.new) lines.new.items (line_of id)) }
+fn add_line<W: Write>(
+    lines: &mut Vec<u8>,
+    chooser: &Chooser<'_>,
+    writer: &mut W,
+    id: &ObjectId,
+) -> Result<(), Fault>
+    ensures ok { OnOk result (Grows (W.contents writer.old) lines.old.items (W.contents writer.new) lines.new.items (line_in chooser.now.objects chooser.now.shown id.now)) }
     ensures err { IfErr result (AddsNone (W.contents writer.old) lines.old.items (W.contents writer.new) lines.new.items) }
 {
     make_room(lines, writer)?;
-    Ok(add_id(lines, &id, b'\n')?)
+    chooser.add_line(lines, id)
 }
 
 /// Writes the buffered lines, where they are many. After a failure none is buffered.

@@ -169,6 +169,8 @@ with a name that is empty or holds a slash.
   --until TIME leaves out the commits of a later time, in the first five commands, and goes on from them. --before TIME is the same
   --reverse    writes the lines of the first five commands with the last first, as --skip and -n have chosen them
   --count      writes the number of these lines and not the lines
+  --timestamp  writes the committer's seconds and a space before each id, in the first five commands
+  --parents    writes behind each id a space and the id of each parent, as the commit names them, in the first five commands
   --names      writes behind each id of contains and containing a space and the revision as it was given, or the name of
                the ref
   --first-parent
@@ -177,7 +179,7 @@ with a name that is empty or holds a slash.
                is in seconds since 1970, of 1 to 10 digits, or a date, as 2024-05-01 for its midnight in UTC, or
                2024-05-01T12:00:00 with nothing or Z for UTC behind it or an offset as +02:00. --after TIME, --since=TIME
                and --after=TIME are the same
-  -z           ends each entry in a byte 0 and not in a newline, in files: a path may have a newline
+  -z           ends each line in a byte 0 and not in a newline, in the first five commands and in files: a path may have a newline
   --all        adds all refs and HEAD to the revisions; --branches adds all branches, and --tags all tags
   --stdin      adds the lines of standard input to the revisions, none of which is empty or an option
   --border     takes the commits at the border of a shallow clone as commits without parents, as git does

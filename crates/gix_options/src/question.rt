@@ -69,6 +69,10 @@ pub struct Options {
     pub counts: bool,
     /// Whether the last line comes first.
     pub is_reversed: bool,
+    /// Whether a line begins with the committer's seconds.
+    pub gives_time: bool,
+    /// Whether a line ends with the ids of the parents.
+    pub gives_parents: bool,
     /// Whether a byte 0 ends each line.
     pub ends_in_zero: bool,
     /// Whether each line says how its revision was called.
@@ -88,6 +92,8 @@ impl Options {
             (self.no_merges, "--no-merges"),
             (self.counts, "--count"),
             (self.is_reversed, "--reverse"),
+            (self.gives_time, "--timestamp"),
+            (self.gives_parents, "--parents"),
         ];
         for (is_given, option) in given {
             if is_given {
@@ -228,6 +234,8 @@ impl Arguments {
                 limit: None,
                 counts: false,
                 is_reversed: false,
+                gives_time: false,
+                gives_parents: false,
                 ends_in_zero: false,
                 gives_names: false,
                 certificate: None,
@@ -259,6 +267,8 @@ impl Arguments {
             "--no-merges" => self.options.no_merges = true,
             "--count" => self.options.counts = true,
             "--reverse" => self.options.is_reversed = true,
+            "--timestamp" => self.options.gives_time = true,
+            "--parents" => self.options.gives_parents = true,
             "--help" | "-h" => self.needs_help = true,
             "--no-graph" => self.options.rows = Rows::Unused,
             "--trust-graph" => self.options.rows = Rows::Trusted,
@@ -429,7 +439,7 @@ impl Arguments {
         if self.options.since.is_some() && name != Name::Newest && name != Name::Oldest {
             return Err(Misuse::option("--since", name));
         }
-        if self.options.ends_in_zero && name != Name::Files {
+        if self.options.ends_in_zero && !name.is_list() && name != Name::Files {
             return Err(Misuse::option("-z", name));
         }
         if self.options.gives_names && !matches!(name, Name::Contains | Name::Containing) {

@@ -63,7 +63,16 @@ const CASES: &[(&str, &str)] = &[
         "-C . newest HEAD --first-parent",
         "--first-parent doesn't go with newest",
     ),
-    ("-C . topo -z HEAD", "-z doesn't go with topo"),
+    ("-C . topo -z --parents HEAD --timestamp", ""),
+    ("-C . ahead -z a b", "-z doesn't go with ahead"),
+    (
+        "-C . contains --timestamp a b",
+        "--timestamp doesn't go with contains",
+    ),
+    (
+        "-C . files --parents a",
+        "--parents doesn't go with files",
+    ),
     ("-C . files -n 1 HEAD", "-n doesn't go with files"),
     (
         "-C . topo HEAD -- x",

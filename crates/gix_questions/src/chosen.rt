@@ -236,14 +236,16 @@ fn push_options(
 ) -> Result<(), AllocError> {
     push_flag(alloc, options.by_first_parents, "--first-parent", words)?;
     push_value(alloc, "--since", &options.since, words)?;
-    push_flag(alloc, options.ends_in_zero, "-z", words)?;
     push_value(alloc, "--until", &options.until, words)?;
     push_flag(alloc, options.merges, "--merges", words)?;
     push_flag(alloc, options.no_merges, "--no-merges", words)?;
     push_value(alloc, "--skip", &options.skip, words)?;
     push_value(alloc, "-n", &options.limit, words)?;
     push_flag(alloc, options.counts, "--count", words)?;
-    push_flag(alloc, options.is_reversed, "--reverse", words)
+    push_flag(alloc, options.is_reversed, "--reverse", words)?;
+    push_flag(alloc, options.gives_time, "--timestamp", words)?;
+    push_flag(alloc, options.gives_parents, "--parents", words)?;
+    push_flag(alloc, options.ends_in_zero, "-z", words)
 }
 
 /// Adds an option if it is given.

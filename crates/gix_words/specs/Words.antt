@@ -141,7 +141,7 @@ files_from ending n (Err e) = Err (fault.Id n)
 
 -- all that is listed, one a line
 abbrev pub all_lines : Shown
-all_lines = record { until = None; merges = merges.Any; skip = 0; limit = None; form = form.Lines }
+all_lines = record { until = None; merges = merges.Any; skip = 0; limit = None; form = form.Lines; line = record { time = false; parents = false; ending = 10 } }
 
 abbrev pub chosen_from : Result Ids Fault → Result Asked Fault
 chosen_from (Ok ids) = Ok (record { shown = all_lines; tips = ids.0; hidden = ids.1 })
@@ -172,14 +172,38 @@ abbrev pub with_form : Form → Result Asked Fault → Result Asked Fault
 with_form by (Ok c) = Ok (record c { shown = record c.shown { form = by } })
 with_form by (Err e) = Err e
 
+abbrev pub with_time : Result Asked Fault → Result Asked Fault
+with_time (Ok c) = Ok (record c { shown = record c.shown { line = record c.shown.line { time = true } } })
+with_time (Err e) = Err e
+
+abbrev pub with_parents : Result Asked Fault → Result Asked Fault
+with_parents (Ok c) = Ok (record c { shown = record c.shown { line = record c.shown.line { parents = true } } })
+with_parents (Err e) = Err e
+
+abbrev pub with_zeros : Result Asked Fault → Result Asked Fault
+with_zeros (Ok c) = Ok (record c { shown = record c.shown { line = record c.shown.line { ending = 0 } } })
+with_zeros (Err e) = Err e
+
 -- ids, the first of them word n, and before them maybe options in one order, each at most once: `--until` and a time, `--merges` or
--- `--no-merges`, `--skip` and a number, `-n` and a limit, `--count` or `--reverse`
+-- `--no-merges`, `--skip` and a number, `-n` and a limit, `--count` or `--reverse`, `--timestamp`, `--parents`, `-z`
+abbrev pub ended_of : ℕ → List (List ℕ) → Result Asked Fault
+ended_of n [] = Err fault.Usage
+ended_of n (option ∷ words) = if bytes_eq option (codes "-z") then with_zeros (plain_of (n + 1) words) else plain_of n (option ∷ words)
+
+abbrev pub named_of : ℕ → List (List ℕ) → Result Asked Fault
+named_of n [] = Err fault.Usage
+named_of n (option ∷ words) = if bytes_eq option (codes "--parents") then with_parents (ended_of (n + 1) words) else ended_of n (option ∷ words)
+
+abbrev pub timed_of : ℕ → List (List ℕ) → Result Asked Fault
+timed_of n [] = Err fault.Usage
+timed_of n (option ∷ words) = if bytes_eq option (codes "--timestamp") then with_time (named_of (n + 1) words) else named_of n (option ∷ words)
+
 abbrev pub formed_of : ℕ → List (List ℕ) → Result Asked Fault
 formed_of n [] = Err fault.Usage
 formed_of n (option ∷ words) =
-    if bytes_eq option (codes "--count") then with_form form.Count (plain_of (n + 1) words)
-    else if bytes_eq option (codes "--reverse") then with_form form.Reverse (plain_of (n + 1) words)
-    else plain_of n (option ∷ words)
+    if bytes_eq option (codes "--count") then with_form form.Count (timed_of (n + 1) words)
+    else if bytes_eq option (codes "--reverse") then with_form form.Reverse (timed_of (n + 1) words)
+    else timed_of n (option ∷ words)
 
 abbrev pub limit_by : Option ℕ → ℕ → List (List ℕ) → Result Asked Fault
 limit_by (Some limit) n words = with_limit limit (formed_of n words)

@@ -1,7 +1,7 @@
 //! The words of a command.
 ghost use Rattle.std.specs.Prelude.{◌≡◌, ◌≤◌, IfSome, map, string_bytes};
 ghost use Rattle.std.specs.List.{list_all};
-ghost use Rattle.gix_words.specs.Words.{Bases, Contained, Containing, Gives, Tells, AddsId, begins_with_caret, begins_with_dash, begins_with_sign, number_in, request_of_command, request_of, order_named, by_first_parents, by_cutoff, ids_from, plain_of, asked_by, until_of, until_from, merges_of, no_merges_of, with_merges, skipped_of, skip_from, limited_of, limit_from, formed_of, listed_of, since_of, in_order_of, file_of, files_of, ahead_of, is_shown, several_among, several_of, several_in, asked};
+ghost use Rattle.gix_words.specs.Words.{Bases, Contained, Containing, Gives, Tells, AddsId, begins_with_caret, begins_with_dash, begins_with_sign, number_in, request_of_command, request_of, order_named, by_first_parents, by_cutoff, ids_from, plain_of, ended_of, named_of, timed_of, asked_by, until_of, until_from, merges_of, no_merges_of, with_merges, skipped_of, skip_from, limited_of, limit_from, formed_of, listed_of, since_of, in_order_of, file_of, files_of, ahead_of, is_shown, several_among, several_of, several_in, asked};
 
 use crate::fault::Fault;
 use gix_hash::ObjectId;
@@ -40,6 +40,17 @@ pub enum Form {
     Reverse,
 }
 
+/// What a line of a commit has besides the id.
+#[derive(Clone, Copy)]
+pub struct Line {
+    /// Before it the committer's seconds and a space.
+    pub time: bool,
+    /// Behind it a space and the id of each parent.
+    pub parents: bool,
+    /// The byte at its end.
+    pub ending: u8,
+}
+
 /// What is written of a list of commits.
 #[derive(Clone, Copy)]
 pub struct Shown {
@@ -53,6 +64,8 @@ pub struct Shown {
     pub limit: Option<u64>,
     /// How.
     pub form: Form,
+    /// What a line has.
+    pub line: Line,
 }
 
 /// What is written of a list of commits, and the ids of its tips and of the commits that are hidden.
@@ -103,8 +116,8 @@ pub enum Command {
 /// The command that the words are: `breadth`, `newest`, `oldest`, `topo` or `date`, maybe options, ids of tips, one at least, and ids of
 /// commits to be hidden, each after a `^`; or `files` and one id; or `ahead` and two ids; or `contains`, `containing` or `merge-base` and two
 /// ids at least. The options come in this order, each at most once: `--first-parent` for `breadth` or `--since` and a time for `newest` and `oldest`,
-/// `--until` and a time, `--merges` or `--no-merges`, `--skip` and a number, `-n` and a limit, `--count` or `--reverse`. An id is 40 or 64 hex
-/// digits, a time 1 to 10 decimal digits, another number 1 to 9.
+/// `--until` and a time, `--merges` or `--no-merges`, `--skip` and a number, `-n` and a limit, `--count` or `--reverse`,
+/// `--timestamp`, `--parents`, `-z`. An id is 40 or 64 hex digits, a time 1 to 10 decimal digits, another number 1 to 9.
 ///
 /// # Errors
 /// `Usage` where the words are no command, as where `files`, `ahead`, `contains`, `containing` or `merge-base` has a word that begins with `^` or `-`. `Id` at
@@ -379,7 +392,7 @@ fn limit(alloc: Global, words: &[String], number: usize) -> Result<Chosen, Fault
     Ok(chosen)
 }
 
-/// What these words choose: maybe `--count` or `--reverse`, and ids.
+/// What these words choose: maybe `--count` or `--reverse`, further options, ids.
 fn formed(alloc: Global, words: &[String], number: usize) -> Result<Chosen, Fault>
     requires few { number ≤ 11 }
     ensures { Gives asked_by result (formed_of number (map string_bytes words.now)) }
@@ -388,13 +401,61 @@ fn formed(alloc: Global, words: &[String], number: usize) -> Result<Chosen, Faul
         return Err(Fault::Usage);
     };
     if option.as_str() == "--count" {
-        let mut chosen = chosen_ids(alloc, behind, number + 1)?;
+        let mut chosen = timed(alloc, behind, number + 1)?;
         chosen.shown.form = Form::Count;
         return Ok(chosen);
     }
     if option.as_str() == "--reverse" {
-        let mut chosen = chosen_ids(alloc, behind, number + 1)?;
+        let mut chosen = timed(alloc, behind, number + 1)?;
         chosen.shown.form = Form::Reverse;
+        return Ok(chosen);
+    }
+    timed(alloc, words, number)
+}
+
+/// What these words choose: maybe `--timestamp`, further options, ids.
+fn timed(alloc: Global, words: &[String], number: usize) -> Result<Chosen, Fault>
+    requires few { number ≤ 12 }
+    ensures { Gives asked_by result (timed_of number (map string_bytes words.now)) }
+{
+    let [option, behind @ ..] = words else {
+        return Err(Fault::Usage);
+    };
+    if option.as_str() == "--timestamp" {
+        let mut chosen = named(alloc, behind, number + 1)?;
+        chosen.shown.line.time = true;
+        return Ok(chosen);
+    }
+    named(alloc, words, number)
+}
+
+/// What these words choose: maybe `--parents`, a further option, ids.
+fn named(alloc: Global, words: &[String], number: usize) -> Result<Chosen, Fault>
+    requires few { number ≤ 13 }
+    ensures { Gives asked_by result (named_of number (map string_bytes words.now)) }
+{
+    let [option, behind @ ..] = words else {
+        return Err(Fault::Usage);
+    };
+    if option.as_str() == "--parents" {
+        let mut chosen = ended(alloc, behind, number + 1)?;
+        chosen.shown.line.parents = true;
+        return Ok(chosen);
+    }
+    ended(alloc, words, number)
+}
+
+/// What these words choose: maybe `-z`, and ids.
+fn ended(alloc: Global, words: &[String], number: usize) -> Result<Chosen, Fault>
+    requires few { number ≤ 14 }
+    ensures { Gives asked_by result (ended_of number (map string_bytes words.now)) }
+{
+    let [option, behind @ ..] = words else {
+        return Err(Fault::Usage);
+    };
+    if option.as_str() == "-z" {
+        let mut chosen = chosen_ids(alloc, behind, number + 1)?;
+        chosen.shown.line.ending = 0;
         return Ok(chosen);
     }
     chosen_ids(alloc, words, number)
@@ -430,7 +491,7 @@ fn number_of(digits: &[u8], most: usize) -> Option<u64>
 
 /// All that is listed from these ids, of which one at least must be a tip. The first of them is the word of this number.
 fn chosen_ids(alloc: Global, ids: &[String], number: usize) -> Result<Chosen, Fault>
-    requires few { number ≤ 12 }
+    requires few { number ≤ 15 }
     ensures { Gives asked_by result (plain_of number (map string_bytes ids.now)) }
 {
     if are_hidden(ids) {
@@ -443,6 +504,11 @@ fn chosen_ids(alloc: Global, ids: &[String], number: usize) -> Result<Chosen, Fa
         skip: 0,
         limit: None,
         form: Form::Lines,
+        line: Line {
+            time: false,
+            parents: false,
+            ending: b'\n',
+        },
     };
     Ok(Chosen {
         shown,
@@ -604,7 +670,7 @@ fn read_ids(
     words: &[String],
     number: usize,
 ) -> Result<(Vec<ObjectId>, Vec<ObjectId>), Fault>
-    requires few { number ≤ 12 }
+    requires few { number ≤ 15 }
     ensures { Gives (λ ids. (ids.0.items, ids.1.items)) result (ids_from number (map string_bytes words.now)) }
 {
     let mut tips = Vec::new(alloc);

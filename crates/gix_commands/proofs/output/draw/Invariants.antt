@@ -1,6 +1,7 @@
 use Rattle.std.proofs.Common.{◌≡◌, List}
 use Rattle.std.specs.Iterator.{IsFinite, size}
 use Rattle.gix_commands.proofs.Common.{Yields, Info, kept_in}
+use Rattle.gix_commands.specs.Chosen.{line_in}
 use Rattle.gix_commands.specs.Output.{Takes, held_in}
 use Rattle.gix_commands.specs.Walked.{given}
 use Rattle.gix_commands.proofs.ChosenFacts.{IsAt}
@@ -15,7 +16,7 @@ invariant-draws g l = record {
   finite : IsFinite (g.I.Iterator.remaining l.walk);
   form : l.sink.form ≡ l.fn.sink.form;
   at : IsAt l.fn.chooser.objects l.fn.chooser.shown infos l.chooser;
-  takes : Takes l.fn.sink.form (g.W.Write.contents l.fn.writer) (held_in l.fn.sink) (kept_in l.fn.chooser.objects l.fn.chooser.shown infos) (g.W.Write.contents l.writer) (held_in l.sink);
+  takes : Takes (line_in l.fn.chooser.objects l.fn.chooser.shown) l.fn.sink.form (g.W.Write.contents l.fn.writer) (held_in l.fn.sink) (kept_in l.fn.chooser.objects l.fn.chooser.shown infos) (g.W.Write.contents l.writer) (held_in l.sink);
 }
 
 -- how many more answers may come
