@@ -31,7 +31,7 @@ use Rattle.gix_words.specs.Words.{request_of_command}
 use Rattle.gix_words.specs.declared.words.Command.{Command}
 use Rattle.gix_words.specs.declared.words.Command.TheVariants as command_of
 use Rattle.gix_commands.specs.Checked.{CheckedWalk, Checks}
-use Rattle.gix_commands.specs.Chosen.{fresh_choosing, kept_in}
+use Rattle.gix_commands.specs.Chosen.{fresh_choosing, kept_in, line_in}
 use Rattle.gix_commands.specs.Output.{WritesBegun, written}
 use Rattle.gix_commands.specs.TopoWalked as topo
 use Rattle.gix_commands.specs.Pages.{page_objects}
@@ -39,7 +39,7 @@ use Rattle.gix_commands.specs.Readable.{readable, reads_all_lines}
 use Rattle.gix_commands.specs.Run.{Runs, Serves, served}
 use Rattle.gix_commands.specs.StoredRuns as stored_runs
 use Rattle.gix_commands.specs.StoredRuns.{RunsStored}
-use Rattle.gix_commands.specs.Walked.{Answers, EndsBy, IsWalkFault, line_of}
+use Rattle.gix_commands.specs.Walked.{Answers, EndsBy, IsWalkFault}
 use Rattle.gix_commands.proofs.GivenRuns.{records_unread, serves_unread, words_unread}
 use Rattle.gix_commands.proofs.ReadableTexts.{have_texts, text_kept, tree_kept}
 use Rattle.gix_commands.proofs.MemoryFaults.{failed_so}
@@ -180,10 +180,10 @@ module _ (words : List (List ℕ)) (objects : Objects) (AreGiven : page.Objects 
 
     -- the lines of the commits that a walk gave before its fault
     abbrev lines_by : Objects → List Info → List ℕ
-    lines_by o infos = flat_map line_of (kept_in o shown_all infos)
+    lines_by o infos = flat_map (line_in o shown_all) (kept_in o shown_all infos)
 
     module _ {W E : Type 0} (Steps : W → Option (Result Info E) → W → Type 0) (Tells : E → Fault → Type 0) (o : Objects) (walk : W) where
-      writes_lines : (infos : List Info) (e : Fault) → EndsBy Steps Tells ids_given limit walk infos (Err e) → WritesBegun Steps Tells (kept_in o shown_all) limit form.Lines walk (Some []) (Err e) (Some (lines_by o infos))
+      writes_lines : (infos : List Info) (e : Fault) → EndsBy Steps Tells ids_given limit walk infos (Err e) → WritesBegun Steps Tells (kept_in o shown_all) limit (line_in o shown_all) form.Lines walk (Some []) (Err e) (Some (lines_by o infos))
       writes_lines infos e ends = written (record {
         infos = infos;
         ends = subst (λ (those : List Info → List ObjectId). EndsBy Steps Tells those limit walk infos (Err e)) (λ k xs. sym (all_kept limit (text_next o) (time_of o) (ids_given xs)) k) ends;
