@@ -47,10 +47,6 @@ header_unread objects i why header fails none zero other = go why (fails other)
     go (existing.ObjectKind oid wanted actual) f = of_kind actual f.3 f.2 f.4
     go existing.Memory f = absurd f
 
--- what was read, and what wasn't
-pub ok_read : (objects : Objects) (i : ObjectId) (result : Result Header Fault) (header : Header) → result ≡ Ok header → ReadsHeader objects i header → IfOk result (IsHeaderOf objects i)
-ok_read objects i result header is h = subst (λ x. IfOk x (IsHeaderOf objects i)) (sym is) (header_read objects i header h)
-
 pub ok_unread : (objects : Objects) (i : ObjectId) (why : ExistingError) (inner : Result Header Fault) → (why ≢ existing.Memory → IsExistingFault objects (never_faulty objects) i kind.Commit why)
     → IfOk inner (λ h. (h.parent_ids.items ≡ []) × (seconds_or_zero h.time ≡ pos 0) × (why ≢ existing.Memory)) → IfOk inner (IsHeaderOf objects i)
 ok_unread objects i why (Ok header) fails h = header_unread objects i why header fails h.0 h.1 h.2

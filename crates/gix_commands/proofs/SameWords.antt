@@ -16,7 +16,7 @@ use Rattle.gix_words.specs.declared.fault.Fault.TheVariants as fault
 use Rattle.gix_words.specs.declared.words.Form.TheVariants as form
 use Rattle.gix_words.specs.declared.words.Merges.{Merges}
 use Rattle.gix_words.specs.declared.words.Merges.TheVariants as merges
-use Rattle.gix_commands.specs.Chosen.{kept_of, kept_until, page_form}
+use Rattle.gix_commands.specs.Chosen.{kept_of, kept_until, page_form, page_line}
 use Rattle.gix_commands.proofs.SameNumbers.{decimal_digits, hex_spelled}
 
 -- the name of an order
@@ -196,9 +196,10 @@ ended_are n (option ∷ words) = option_are 7 8 (omega arith) (codes "-z") with_
     adds words (Err e) h = tt
     adds words (Ok a) (place, chooses, late, some, ever, all) = (7, page.zero_ended (omega (arith, late)) chooses, omega arith, some, (λ k. ever (omega arith)), λ k. all (omega arith))
 
-named_are : (n : ℕ) (words : List (List ℕ)) → AreChosen 6 words (named_of n words)
-named_are n [] = tt
-named_are n (option ∷ words) = option_are 6 7 (omega arith) (codes "--parents") with_parents adds option words (ended_of (n + 1) words) (ended_of n (option ∷ words)) (ended_are (n + 1) words) (ended_are n (option ∷ words))
+parents_are : (n : ℕ) (words : List (List ℕ)) → AreChosen 6 words (named_of n words)
+unfolding named_of
+parents_are n [] = tt
+parents_are n (option ∷ words) = option_are 6 7 (omega arith) (codes "--parents") with_parents adds option words (ended_of (n + 1) words) (ended_of n (option ∷ words)) (ended_are (n + 1) words) (ended_are n (option ∷ words))
   where
     adds : (words : List (List ℕ)) (r : Result Asked Fault) → AreChosen 7 words r → AreChosen 6 (codes "--parents" ∷ words) (with_parents r)
     adds words (Err e) h = tt
@@ -206,7 +207,7 @@ named_are n (option ∷ words) = option_are 6 7 (omega arith) (codes "--parents"
 
 timed_are : (n : ℕ) (words : List (List ℕ)) → AreChosen 5 words (timed_of n words)
 timed_are n [] = tt
-timed_are n (option ∷ words) = option_are 5 6 (omega arith) (codes "--timestamp") with_time adds option words (named_of (n + 1) words) (named_of n (option ∷ words)) (named_are (n + 1) words) (named_are n (option ∷ words))
+timed_are n (option ∷ words) = option_are 5 6 (omega arith) (codes "--timestamp") with_time adds option words (named_of (n + 1) words) (named_of n (option ∷ words)) (parents_are (n + 1) words) (parents_are n (option ∷ words))
   where
     adds : (words : List (List ℕ)) (r : Result Asked Fault) → AreChosen 6 words r → AreChosen 5 (codes "--timestamp" ∷ words) (with_time r)
     adds words (Err e) h = tt
@@ -278,10 +279,10 @@ merges_are n [] = tt
 merges_are n (option ∷ words) = first (bytes_eq option (codes "--merges")) refl
   where
     kept_by : Shown → (ℕ → Bool) → Option ℤ → Merges → page.Choice
-    kept_by shown test ever all = record { keeps = λ parents time. test parents && kept_until ever time (kept_of all parents true); skip = shown.skip; limit = shown.limit; form = page_form shown.form }
+    kept_by shown test ever all = record { keeps = λ parents time. test parents && kept_until ever time (kept_of all parents true); skip = shown.skip; limit = shown.limit; form = page_form shown.form; line = page_line shown.line }
 
     kept_so : Shown → (ℕ → Bool) → Option ℤ → page.Choice
-    kept_so shown test ever = record { keeps = λ parents time. kept_until ever time (test parents && true); skip = shown.skip; limit = shown.limit; form = page_form shown.form }
+    kept_so shown test ever = record { keeps = λ parents time. kept_until ever time (test parents && true); skip = shown.skip; limit = shown.limit; form = page_form shown.form; line = page_line shown.line }
 
     same : (shown : Shown) (test : ℕ → Bool) → shown.until ≡ None → shown.merges ≡ merges.Any → kept_by shown test shown.until shown.merges ≡ kept_so shown test shown.until
     same shown test ever all = (λ k. kept_by shown test (ever k) (all k)) ∙ sym (λ k. kept_so shown test (ever k))
@@ -321,7 +322,7 @@ until_are n [] = tt
 until_are n (option ∷ words) = first (bytes_eq option (codes "--until")) refl
   where
     kept_by : Shown → ℕ → Option ℤ → page.Choice
-    kept_by shown seconds ever = record { keeps = λ parents time. int_le time (pos seconds) && kept_until ever time (kept_of shown.merges parents true); skip = shown.skip; limit = shown.limit; form = page_form shown.form }
+    kept_by shown seconds ever = record { keeps = λ parents time. int_le time (pos seconds) && kept_until ever time (kept_of shown.merges parents true); skip = shown.skip; limit = shown.limit; form = page_form shown.form; line = page_line shown.line }
 
     one_more : (number : List ℕ) (rest : List (List ℕ)) (seconds : ℕ) → IsNumber 10 10 number seconds → (r : Result Asked Fault) → AreChosen 1 rest r → AreChosen 0 (codes "--until" ∷ number ∷ rest) (with_until (pos seconds) r)
     one_more number rest seconds is (Err e) h = tt

@@ -146,6 +146,7 @@ ended_words n (option ∷ words) =
     either_words (bytes_eq option (codes "-z")) (with_zeros (plain_of (n + 1) words)) (plain_of n (option ∷ words)) (with_words_of with_zeros (λ a. tt) (λ e h. h) (plain_of (n + 1) words) (plain_words (n + 1) words)) (plain_words n (option ∷ words))
 
 named_words : (n : ℕ) (words : List (List ℕ)) → OfWords (named_of n words)
+unfolding named_of
 named_words n [] = tt
 named_words n (option ∷ words) =
     either_words (bytes_eq option (codes "--parents")) (with_parents (ended_of (n + 1) words)) (ended_of n (option ∷ words)) (with_words_of with_parents (λ a. tt) (λ e h. h) (ended_of (n + 1) words) (ended_words (n + 1) words)) (ended_words n (option ∷ words))

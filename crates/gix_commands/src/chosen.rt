@@ -17,8 +17,8 @@ use gix_commitgraph::Graph;
 use gix_hash::ObjectId;
 use gix_object::find::existing_iter;
 use gix_records::LentStore;
-use gix_revwalk::{ParentIds, Parents};
 use gix_revwalk::read::{Header, find_header};
+use gix_revwalk::{ParentIds, Parents};
 use gix_words::{Fault, Form, Line, Merges, Shown};
 use std::alloc::{AllocError, Global};
 use std::marker::Model;
@@ -185,12 +185,7 @@ fn no_header(alloc: Global, why: existing_iter::Error) -> Result<Header, Fault>
 }
 
 /// The line of a commit that has this header.
-fn line_of(
-    alloc: Global,
-    has: Line,
-    id: &ObjectId,
-    header: &Header,
-) -> Result<Vec<u8>, AllocError>
+fn line_of(alloc: Global, has: Line, id: &ObjectId, header: &Header) -> Result<Vec<u8>, AllocError>
     ensures { IfOk result (λ line. line.items ≡ commit_line (λ i. header.now.parent_ids.items) (λ i. seconds_or_zero header.now.time) (page_line has) id.now) }
 {
     let mut line = time_before(alloc, has.time, header)?;

@@ -69,10 +69,7 @@ const CASES: &[(&str, &str)] = &[
         "-C . contains --timestamp a b",
         "--timestamp doesn't go with contains",
     ),
-    (
-        "-C . files --parents a",
-        "--parents doesn't go with files",
-    ),
+    ("-C . files --parents a", "--parents doesn't go with files"),
     ("-C . files -n 1 HEAD", "-n doesn't go with files"),
     (
         "-C . topo HEAD -- x",

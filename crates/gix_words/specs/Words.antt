@@ -190,7 +190,7 @@ abbrev pub ended_of : ℕ → List (List ℕ) → Result Asked Fault
 ended_of n [] = Err fault.Usage
 ended_of n (option ∷ words) = if bytes_eq option (codes "-z") then with_zeros (plain_of (n + 1) words) else plain_of n (option ∷ words)
 
-abbrev pub named_of : ℕ → List (List ℕ) → Result Asked Fault
+unfoldable pub named_of : ℕ → List (List ℕ) → Result Asked Fault
 named_of n [] = Err fault.Usage
 named_of n (option ∷ words) = if bytes_eq option (codes "--parents") then with_parents (ended_of (n + 1) words) else ended_of n (option ∷ words)
 

@@ -1,7 +1,7 @@
 //! The words of a command.
 ghost use Rattle.std.specs.Prelude.{◌≡◌, ◌≤◌, IfSome, map, string_bytes};
 ghost use Rattle.std.specs.List.{list_all};
-ghost use Rattle.gix_words.specs.Words.{Bases, Contained, Containing, Gives, Tells, AddsId, begins_with_caret, begins_with_dash, begins_with_sign, number_in, request_of_command, request_of, order_named, by_first_parents, by_cutoff, ids_from, plain_of, ended_of, named_of, timed_of, asked_by, until_of, until_from, merges_of, no_merges_of, with_merges, skipped_of, skip_from, limited_of, limit_from, formed_of, listed_of, since_of, in_order_of, file_of, files_of, ahead_of, is_shown, several_among, several_of, several_in, asked};
+ghost use Rattle.gix_words.specs.Words.{Bases, Contained, Containing, Gives, Tells, AddsId, begins_with_caret, begins_with_dash, begins_with_sign, number_in, request_of_command, request_of, order_named, by_first_parents, by_cutoff, ids_from, plain_of, ended_of, named_of, timed_of, asked_by, until_of, until_from, merges_of, no_merges_of, with_merges, with_time, skipped_of, skip_from, limited_of, limit_from, formed_of, listed_of, since_of, in_order_of, file_of, files_of, ahead_of, is_shown, several_among, several_of, several_in, asked};
 
 use crate::fault::Fault;
 use gix_hash::ObjectId;
@@ -422,14 +422,23 @@ fn timed(alloc: Global, words: &[String], number: usize) -> Result<Chosen, Fault
         return Err(Fault::Usage);
     };
     if option.as_str() == "--timestamp" {
-        let mut chosen = named(alloc, behind, number + 1)?;
-        chosen.shown.line.time = true;
-        return Ok(chosen);
+        return with_time(alloc, behind, number + 1);
     }
     named(alloc, words, number)
 }
 
+/// What these words choose, with the time in front of each line. The first of them is the word of this number.
+fn with_time(alloc: Global, words: &[String], number: usize) -> Result<Chosen, Fault>
+    requires few { number ≤ 13 }
+    ensures { Gives asked_by result (with_time (named_of number (map string_bytes words.now))) }
+{
+    let mut chosen = named(alloc, words, number)?;
+    chosen.shown.line.time = true;
+    Ok(chosen)
+}
+
 /// What these words choose: maybe `--parents`, a further option, ids.
+#[tactic(auto, unfolding(crate::specs::Words::named_of))]
 fn named(alloc: Global, words: &[String], number: usize) -> Result<Chosen, Fault>
     requires few { number ≤ 13 }
     ensures { Gives asked_by result (named_of number (map string_bytes words.now)) }
