@@ -90,8 +90,8 @@ class RawFile(ctypes.Structure):
 
 
 class Fault(Exception):
-    """Why a run failed: its `number`, one of Number, the number of the word or of the record that it names as `place`, or 0, and the id that
-    it names as `id`, bytes, or none. For ROOM `length` is the number of bytes that are needed."""
+    """Why a run failed. `number` is one of Number. `place` is the number of the word or of the record that the fault names, or 0. `id` is the
+    id that it names, as bytes, or empty. For ROOM `length` is the number of bytes that are needed."""
 
     def __init__(self, answer):
         self.number, self.place, self.length = answer.number, answer.place, answer.length
@@ -103,7 +103,7 @@ class Fault(Exception):
 
 
 class Commit(typing.NamedTuple):
-    """A commit of a list: its id, those of its parents, each as bytes, its committer's seconds and its generation, where they are known."""
+    """A commit of a list: its id and those of its parents, as bytes; its committer's seconds and its generation, if they are known."""
 
     id: bytes
     parents: typing.Tuple[bytes, ...]
@@ -144,7 +144,7 @@ def _joined(words):
 
 
 def _lent(records):
-    """Bytes for a call, not copied but where they can be read alone and aren't `bytes`."""
+    """Bytes for a call. They are copied only if they are read-only and aren't `bytes`."""
     if isinstance(records, bytes):
         return records, len(records)
     view = memoryview(records).cast("B")
@@ -154,8 +154,8 @@ def _lent(records):
 
 
 def run_into(words, records, room):
-    """Runs a command over records, bytes, and puts its lines at the front of the room, a ctypes array of bytes. Gives the number of bytes
-    that these are. At a Fault the room is as it was."""
+    """Runs a command over records, which are bytes, and puts its lines at the front of the room, a ctypes array of bytes. Gives the length of
+    the lines. At a Fault the room is as it was."""
     text = _joined(words)
     answer = _run(text, len(text), *_lent(records), room, ctypes.sizeof(room))
     if answer.number != Number.WELL:
@@ -164,7 +164,7 @@ def run_into(words, records, room):
 
 
 def run(words, records):
-    """Runs a command over records, and gives the lines that it writes, as bytes. Where they are longer than the records, it runs twice."""
+    """Runs a command over records, and gives the lines that it writes, as bytes. It runs twice if they are longer than the records."""
     words = words if isinstance(words, (str, bytes)) else list(words)
     room = (ctypes.c_char * max(len(records), 64))()
     try:
@@ -179,10 +179,10 @@ def run(words, records):
 
 def commits(words, records, first=1000):
     """Gives the commits of a list command over records one at a time, each as a Commit. The Fault of the walk, if there is one, comes behind
-    the commits before it. The records are read where they are until the last is given, and may not change.
+    the commits before it. The records aren't copied, and may not change until the last commit is given.
 
-    They come in batches: of `first` commits, then of eight times as many, and so on. Nothing is kept between two batches: each walks from
-    the start."""
+    The commits come in batches: of `first` commits, then of eight times as many, and so on. Nothing is kept between two batches: each walks
+    from the start."""
     text = _joined(words)
     if first < 1:
         raise ValueError("no commit in a batch")
@@ -221,7 +221,7 @@ def _decoded(batch, parents, number):
 
 # The most commits of a batch over a repository, whose number of commits isn't known.
 _MOST = 1 << 18
-# Files that are as long are mapped, shorter ones are read.
+# Files of this length or more are mapped, and shorter ones are read.
 _MAPPED = 1 << 16
 # How many folders of objects lead from the first to one that is given, at the most, as in git.
 _LEVELS = 6
@@ -231,7 +231,7 @@ _OWN = ("HEAD", "refs/bisect/", "refs/rewritten/", "refs/worktree/")
 
 class Repository:
     """A repository: a folder that has a `.git` or is one, or the first above it that does. Its files are mapped or read when it is opened:
-    what is written later isn't seen. A mapped file may not be cut short by anybody, or the process ends by SIGBUS; git cuts none.
+    what is written later isn't seen. If anybody cuts a mapped file short, the process ends by SIGBUS. Git cuts none.
 
     The files of alternates and of the folder that a linked worktree belongs to are given too."""
 
@@ -265,7 +265,7 @@ class Repository:
 
     def _add(self, name, path):
         key = os.fsencode(name)
-        # What is no file, as a pipe, isn't opened.
+        # What is no file, such as a pipe, isn't opened.
         if key in self._given or not os.path.isfile(path):
             return
         with open(path, "rb") as file:
