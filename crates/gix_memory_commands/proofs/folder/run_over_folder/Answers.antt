@@ -1,5 +1,5 @@
 use Rattle.std.proofs.Common.{◌≤◌, refl, sym, ap, subst, ◌∙◌}
-use Rattle.gix_memory_commands.specs.FolderAnswers.{PromisesNamed}
+use Rattle.gix_memory_commands.specs.Room.{PromisesNamed}
 use Rattle.gix_memory_commands.proofs.WholeAnswers.{room_stays, trouble_numbered}
 use Rattle.gix_memory_commands.proofs.folder.run_over_folder.Goals as goal
 
