@@ -14,4 +14,4 @@ returns-in-Ok c =
     }
 
 pub returns-in-Err : goal.returns-in-Err
-returns-in-Err c = record { whole = ((λ number. absurd (trouble_numbered c.in-Err.trouble (subst (λ answer. answer.number ≤ 1) c.of_trouble.ensures number))), λ other. refl); }
+returns-in-Err c = record { whole = ((λ number. absurd (trouble_numbered c.in-Err.trouble (subst (λ answer. answer.number ≤ 1) c.of_trouble.ensures number))), λ other. refl) }
