@@ -124,6 +124,9 @@ _commits_in.argtypes, _commits_in.restype = [*_slice, *_slice, ctypes.c_uint64, 
 _commit = struct.Struct("@32sqNNIHH")
 # A record of a commit has no fewer bytes: a head, the line of a tree, and newlines.
 _LEAST = 98
+# How many commits the first batch has, how many times as many each has as the one before, and how many the largest has. Since each call
+# walks from the start, few large batches cost least.
+_FIRST, _GROWTH, _MOST = 1 << 13, 32, 1 << 20
 
 
 def text_of(number):
@@ -177,16 +180,16 @@ def run(words, records):
     return bytes(memoryview(room)[:length])
 
 
-def commits(words, records, first=1000):
+def commits(words, records, first=_FIRST):
     """Gives the commits of a list command over records one at a time, each as a Commit. The Fault of the walk, if there is one, comes behind
     the commits before it. The records are read where they are until the last is given, and may not change.
 
-    They come in batches: of `first` commits, then of eight times as many, and so on. Nothing is kept between two batches: each walks from
-    the start."""
+    They come in batches: of `first` commits, then of 32 times as many, and so on. Nothing is kept between two batches: each walks from the
+    start."""
     text = _joined(words)
     if first < 1:
         raise ValueError("no commit in a batch")
-    return _batches(_commits, text, *_lent(records), first, len(records) // _LEAST + 1)
+    return _batches(_commits, text, *_lent(records), first, min(len(records) // _LEAST + 1, _MOST))
 
 
 def _batches(call, text, given, length, size, most):
@@ -202,7 +205,7 @@ def _batches(call, text, given, length, size, most):
         if answer.number == Number.ROOM:
             room = answer.place
         elif answer.number == Number.MORE:
-            size = min(size * 8, most)
+            size = min(size * _GROWTH, most)
             room = max(room, 2 * size)
         else:
             raise Fault(answer)
@@ -219,8 +222,6 @@ def _decoded(batch, parents, number):
         )
 
 
-# The most commits of a batch over a repository, whose number of commits isn't known.
-_MOST = 1 << 18
 # Files that are as long are mapped, shorter ones are read.
 _MAPPED = 1 << 16
 # How many folders of objects lead from the first to one that is given, at the most, as in git.
@@ -317,7 +318,7 @@ class Repository:
             return "".join(f"{word}\n" for word in resolved[1:]).encode()
         return self._text(_run_in, _joined(resolved))
 
-    def commits(self, words, first=1000):
+    def commits(self, words, first=_FIRST):
         """Gives the commits of a list command one at a time, as `commits` does over records. Its revisions are resolved once."""
         text = _joined(self.resolve(words))
         if first < 1:

@@ -313,8 +313,8 @@ pub struct Commit {
 
 /// The commits of a list command, one at a time, and behind them the fault of the walk, if there is one.
 ///
-/// They come in batches: of 1,000 commits, then of eight times as many, and so on. Nothing is kept between two batches: each walks from the
-/// start.
+/// They come in batches: of 8,192 commits, then of 32 times as many, and so on. Nothing is kept between two batches: each walks from the
+/// start, so few large batches cost least.
 pub struct Commits<'a> {
     words: String,
     source: Source<'a>,
@@ -330,15 +330,17 @@ pub struct Commits<'a> {
 
 /// A record of a commit has no fewer bytes: a head, the line of a tree, and newlines.
 const LEAST: usize = 98;
-/// The most commits of a batch over a repository, whose number of commits isn't known.
-const MOST: usize = 1 << 18;
+/// How many commits the first batch has, how many times as many each has as the one before, and how many the largest has.
+const FIRST: usize = 1 << 13;
+const GROWTH: usize = 32;
+const MOST: usize = 1 << 20;
 
 /// The commits of a list command over records.
 ///
 /// # Errors
 /// A word that isn't one.
 pub fn commits<'a>(words: &[&str], records: &'a [u8]) -> Result<Commits<'a>, Error> {
-    commits_by(words, records, 1000)
+    commits_by(words, records, FIRST)
 }
 
 /// The same, with so many commits in the first batch, one at least.
@@ -346,7 +348,7 @@ pub fn commits<'a>(words: &[&str], records: &'a [u8]) -> Result<Commits<'a>, Err
 /// # Errors
 /// A word that isn't one.
 pub fn commits_by<'a>(words: &[&str], records: &'a [u8], first: usize) -> Result<Commits<'a>, Error> {
-    Ok(Commits::of(joined(words)?, Source::Records(records), records.len() / LEAST + 1, first))
+    Ok(Commits::of(joined(words)?, Source::Records(records), (records.len() / LEAST + 1).min(MOST), first))
 }
 
 impl<'a> Commits<'a> {
@@ -374,7 +376,7 @@ impl<'a> Commits<'a> {
 
     /// Has more room for the next call.
     fn grow(&mut self) {
-        let size = self.batch.len().saturating_mul(8).min(self.most).max(self.batch.len());
+        let size = self.batch.len().saturating_mul(GROWTH).min(self.most).max(self.batch.len());
         self.batch.resize(size, RawCommit::NONE);
         self.parents.resize(self.parents.len().max(2 * size), RawId::NONE);
     }
@@ -617,7 +619,7 @@ impl Repository {
     /// # Errors
     /// Those of [`resolve`](Repository::resolve).
     pub fn commits(&self, words: &[&str]) -> Result<Commits<'_>, Error> {
-        self.commits_by(words, 1000)
+        self.commits_by(words, FIRST)
     }
 
     /// The same, with so many commits in the first batch, one at least.
