@@ -15,6 +15,7 @@ import enum
 import mmap
 import os
 import pathlib
+import stat
 import struct
 import typing
 
@@ -226,8 +227,8 @@ def _decoded(batch, parents, number):
 _MAPPED = 1 << 16
 # How many folders of objects lead from the first to one that is given, at the most, as in git.
 _LEVELS = 6
-# What a worktree has for itself.
-_OWN = ("HEAD", "refs/bisect/", "refs/rewritten/", "refs/worktree/")
+# The folders of refs that a worktree has for itself.
+_OWN = ("refs/bisect", "refs/rewritten", "refs/worktree")
 
 
 class Repository:
@@ -242,9 +243,10 @@ class Repository:
         common = git
         if (git / "commondir").is_file():
             common = (git / (git / "commondir").read_text().rstrip("\n")).resolve()
+        self._add("HEAD", git / "HEAD")
         if common != git:
             self._add_own(git, common)
-        for name in ("HEAD", "config", "packed-refs", "shallow", "info/grafts"):
+        for name in ("config", "packed-refs", "shallow", "info/grafts"):
             self._add(name, common / name)
         for name in ("refs", "worktrees"):
             self._add_below(name, common / name)
@@ -257,20 +259,28 @@ class Repository:
 
     def _add_own(self, git, common):
         for name in _OWN:
-            if name.endswith("/"):
-                self._add_below(name[:-1], git / name)
-            else:
-                self._add(name, git / name)
+            self._add_below(name, git / name)
         self._add("worktrees/main-worktree/HEAD", common / "HEAD")
         self._add("worktrees/main-worktree/gitdir", common / "HEAD")
 
     def _add(self, name, path):
         key = os.fsencode(name)
-        # What is no file, as a pipe, isn't opened.
-        if key in self._given or not os.path.isfile(path):
+        if key in self._given:
             return
+        try:
+            about = os.stat(path)
+        except OSError:
+            # As git does, a link that leads nowhere is passed over.
+            if os.path.islink(path) or not os.path.lexists(path):
+                return
+            raise
+        if not stat.S_ISREG(about.st_mode):
+            # Below worktrees are sockets of git's. Elsewhere a pipe may be in the place of a ref, which mustn't be left out.
+            if name.startswith("worktrees/"):
+                return
+            raise OSError(f"{str(path)!r} is no file")
         with open(path, "rb") as file:
-            if os.fstat(file.fileno()).st_size < _MAPPED:
+            if about.st_size < _MAPPED:
                 held = file.read()
                 self._given[key] = (ctypes.c_char_p(held), len(held))
             else:
@@ -278,13 +288,17 @@ class Repository:
                 self._given[key] = ((ctypes.c_char * len(held)).from_buffer(held), len(held))
 
     def _add_below(self, name, folder):
-        if folder.is_dir():
-            self._given.setdefault(os.fsencode(name) + b"/", (ctypes.c_char_p(b""), 0))
-        for path, folders, files in os.walk(folder):
+        if not os.path.isdir(folder):
+            return
+        met = set()
+        for path, _, files in os.walk(folder, onerror=_refuse, followlinks=True):
+            about = os.stat(path)
+            if (about.st_dev, about.st_ino) in met:
+                raise OSError(f"{path!r} is met twice, by links")
+            met.add((about.st_dev, about.st_ino))
             below = os.path.relpath(path, folder)
             front = name if below == "." else f"{name}/{below}"
-            for inner in folders:
-                self._given.setdefault(os.fsencode(f"{front}/{inner}/"), (ctypes.c_char_p(b""), 0))
+            self._given.setdefault(os.fsencode(front) + b"/", (ctypes.c_char_p(b""), 0))
             for file in files:
                 self._add(f"{front}/{file}", os.path.join(path, file))
 
@@ -327,6 +341,10 @@ class Repository:
 
     def _batches(self, text, first):
         yield from _batches(_commits_in, text, self._files, len(self._files), first, _MOST)
+
+
+def _refuse(error):
+    raise error
 
 
 def _git_folder(folder):

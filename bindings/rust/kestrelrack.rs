@@ -13,6 +13,7 @@ use std::io::{self, Read};
 use std::iter::FusedIterator;
 use std::os::fd::AsRawFd;
 use std::os::unix::ffi::{OsStrExt, OsStringExt};
+use std::os::unix::fs::MetadataExt;
 use std::path::{Path, PathBuf};
 
 /// The numbers of answers, as in `kestrelrack.h`. Those from `READ` to `DISAGREES` are never answered.
@@ -467,7 +468,7 @@ impl Repository {
     /// Opens the repository that a folder is in.
     ///
     /// # Errors
-    /// `NotFound` where there is none; a file or a folder can't be read.
+    /// `NotFound` where there is none; a file or a folder can't be read, or there is neither, as a pipe.
     pub fn open(folder: impl AsRef<Path>) -> io::Result<Repository> {
         let git = git_folder(folder.as_ref())?;
         let common = match fs::read(git.join("commondir")) {
@@ -475,15 +476,15 @@ impl Repository {
             Err(_) => git.clone(),
         };
         let mut repository = Repository { files: Vec::new(), names: HashSet::new() };
+        repository.add("HEAD".into(), &git.join("HEAD"))?;
         if common != git {
-            repository.add("HEAD".into(), &git.join("HEAD"))?;
             for name in ["refs/bisect", "refs/rewritten", "refs/worktree"] {
                 repository.add_below(name.into(), &git.join(name))?;
             }
             repository.add("worktrees/main-worktree/HEAD".into(), &common.join("HEAD"))?;
             repository.add("worktrees/main-worktree/gitdir".into(), &common.join("HEAD"))?;
         }
-        for name in ["HEAD", "config", "packed-refs", "shallow", "info/grafts"] {
+        for name in ["config", "packed-refs", "shallow", "info/grafts"] {
             repository.add(name.into(), &common.join(name))?;
         }
         for name in ["refs", "worktrees"] {
@@ -496,8 +497,16 @@ impl Repository {
     /// Adds a file, unless there is one of its name.
     fn add(&mut self, name: OsString, path: &Path) -> io::Result<()> {
         let name = name.into_vec();
-        if self.names.contains(&name) || !path.is_file() {
+        if self.names.contains(&name) {
             return Ok(());
+        }
+        match fs::metadata(path) {
+            Ok(about) if about.is_file() => {}
+            // Below worktrees are sockets of git's. Elsewhere a pipe may be in the place of a ref, which mustn't be left out.
+            Ok(_) if name.starts_with(b"worktrees/") => return Ok(()),
+            Ok(_) => return Err(io::Error::other(format!("{} is no file", path.display()))),
+            // As git does, a link that leads nowhere is passed over.
+            Err(error) => return if path.symlink_metadata().is_ok_and(|about| !about.is_symlink()) { Err(error) } else { Ok(()) },
         }
         let mut file = File::open(path)?;
         let length = file.metadata()?.len();
@@ -521,8 +530,14 @@ impl Repository {
 
     /// Adds a folder and what is below it.
     fn add_below(&mut self, name: OsString, folder: &Path) -> io::Result<()> {
-        if !folder.is_dir() {
-            return Ok(());
+        if folder.is_dir() { self.add_folder(name, folder, &mut HashSet::new()) } else { Ok(()) }
+    }
+
+    /// The same, where these folders have been met.
+    fn add_folder(&mut self, name: OsString, folder: &Path, met: &mut HashSet<(u64, u64)>) -> io::Result<()> {
+        let about = fs::metadata(folder)?;
+        if !met.insert((about.dev(), about.ino())) {
+            return Err(io::Error::other(format!("{} is met twice, by links", folder.display())));
         }
         let mut own = name.clone().into_vec();
         own.push(b'/');
@@ -535,7 +550,7 @@ impl Repository {
             inner.push("/");
             inner.push(path.file_name().unwrap_or_default());
             if path.is_dir() {
-                self.add_below(inner, &path)?;
+                self.add_folder(inner, &path, met)?;
             } else {
                 self.add(inner, &path)?;
             }
