@@ -6,6 +6,7 @@
  * those that HEAD reaches. The status is 2 at a fault. */
 #define _DEFAULT_SOURCE
 #include <dirent.h>
+#include <errno.h>
 #include <fcntl.h>
 #include <inttypes.h>
 #include <stdio.h>
@@ -45,11 +46,11 @@ static void add(const char *name, const void *bytes, size_t length) {
 
 /* Maps a file, or does nothing where there is none. A pipe may be in the place of a ref, which mustn't be left out. */
 static void add_file(const char *name, const char *path) {
-    struct stat about;
+    struct stat about = {0};
     void *bytes = "";
     size_t length;
     int file;
-    if (stat(path, &about) != 0) {
+    if (stat(path, &about) != 0 && (errno == ENOENT || errno == ENOTDIR)) {
         return;
     }
     if (!S_ISREG(about.st_mode) || (file = open(path, O_RDONLY)) < 0) {

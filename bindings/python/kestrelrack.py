@@ -269,11 +269,8 @@ class Repository:
             return
         try:
             about = os.stat(path)
-        except OSError:
-            # As git does, a link that leads nowhere is passed over.
-            if os.path.islink(path) or not os.path.lexists(path):
-                return
-            raise
+        except (FileNotFoundError, NotADirectoryError):
+            return
         if not stat.S_ISREG(about.st_mode):
             # Below worktrees are sockets of git's. Elsewhere a pipe may be in the place of a ref, which mustn't be left out.
             if name.startswith("worktrees/"):

@@ -494,7 +494,7 @@ impl Repository {
         Ok(repository)
     }
 
-    /// Adds a file, unless there is one of its name.
+    /// Adds a file, unless there is one of its name, or none at this path.
     fn add(&mut self, name: OsString, path: &Path) -> io::Result<()> {
         let name = name.into_vec();
         if self.names.contains(&name) {
@@ -505,8 +505,8 @@ impl Repository {
             // Below worktrees are sockets of git's. Elsewhere a pipe may be in the place of a ref, which mustn't be left out.
             Ok(_) if name.starts_with(b"worktrees/") => return Ok(()),
             Ok(_) => return Err(io::Error::other(format!("{} is no file", path.display()))),
-            // As git does, a link that leads nowhere is passed over.
-            Err(error) => return if path.symlink_metadata().is_ok_and(|about| !about.is_symlink()) { Err(error) } else { Ok(()) },
+            Err(error) if matches!(error.kind(), io::ErrorKind::NotFound | io::ErrorKind::NotADirectory) => return Ok(()),
+            Err(error) => return Err(error),
         }
         let mut file = File::open(path)?;
         let length = file.metadata()?.len();
