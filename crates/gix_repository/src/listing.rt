@@ -55,9 +55,9 @@ impl<R: Files + AllocGlobal + Clone + Drop> Repository<R>
 where
     R::File: FileExt,
 {
-    /// The refs whose names begin with this, which is a folder as `refs/` or `refs/heads/`, by rising names; for `refs/` each packed ref too,
-    /// whatever its name begins with, as in git. Symbolic refs are followed, and
-    /// those that lead to none aren't in the list. Refs that are damaged are passed over, as in git.
+    /// The refs whose names begin with this, which is a folder as `refs/` or `refs/heads/`, by rising names. For `refs/` these are all packed
+    /// refs, whatever their names begin with, as in git. Symbolic refs are followed, and those that lead to none aren't in the list. Refs that
+    /// are damaged are passed over, as in git.
     ///
     /// # Errors
     ///
