@@ -1,15 +1,14 @@
 /* Kestrelrack's commands over the objects of a Git repository, for callers in C.
  *
- * All functions keep nothing between calls, write to the room alone, or to the two slices that take its place, and end whatever the bytes
- * are. A call owes them:
- *   - each pointer, also that of 0 bytes, isn't NULL and begins as many bytes as its length says, which are fewer than 2^63;
- *   - what is written overlaps neither the words nor the records nor what else is written, and no other thread writes any of them during
- *     the call;
- *   - a pointer to commits or ids is aligned as these are, and the lengths of such slices count them and not their bytes;
- *   - malloc, realloc and free are of one allocator, and the call is in no signal handler, and in no forked child of a program
- *     with threads;
- *   - there are 32 KiB of stack: the most that was measured is 20 KiB, however deep the history or the tree is;
- *   - the processor is one of x86-64-v2 or later (SSE4.2, POPCNT), under Linux. This isn't tested at run time.
+ * A function keeps nothing between calls. It writes only into the *room*, the bytes that a caller lends for lines, or into two slices in its
+ * place. It ends whatever the bytes are. A caller owes it:
+ *   - No pointer is NULL, not even that of 0 bytes. Each begins as many bytes as its length says, which are fewer than 2^63.
+ *   - What is written overlaps neither the words nor the records nor what else is written, and no other thread writes any of them during
+ *     the call.
+ *   - A pointer to commits or ids is aligned as these are, and the lengths of such slices count them and not their bytes.
+ *   - malloc, realloc and free are of one allocator. The call is in no signal handler, and in no forked child of a program with threads.
+ *   - There are 32 KiB of stack: the most that was measured is 20 KiB, however deep the history or the tree is.
+ *   - The processor is one of x86-64-v2 or later (SSE4.2, POPCNT), under Linux. This isn't tested at run time.
  * A call has no source of random bytes, so its tables hash ids with keys that anybody knows. Whoever chooses the ids of the records can
  * make it slow: its time then grows with the square of their number. No answer changes.
  * To link: cc program.c libkestrelrack.a, with nothing else.
@@ -35,7 +34,7 @@ enum {
     KESTRELRACK_ID = 3,         /* the word number `place` is no id; the command is word 1 */
     KESTRELRACK_RECORD = 4,     /* the record number `place` isn't one, or is cut; the first is record 1 */
     KESTRELRACK_MISSING = 5,    /* the records have no object of this `id` */
-    KESTRELRACK_WRONG_KIND = 6, /* the object of this `id` is no commit where a commit is needed, or no tree where a tree is */
+    KESTRELRACK_WRONG_KIND = 6, /* a commit is needed, or a tree, and the object of this `id` is none */
     KESTRELRACK_BROKEN = 7,     /* an object's bytes are broken */
     KESTRELRACK_CYCLE = 8,      /* the tree of this `id` is under itself */
     KESTRELRACK_MEMORY = 9,     /* malloc or realloc gave NULL */
@@ -47,42 +46,42 @@ enum {
     KESTRELRACK_DISAGREES = 15, /* never answered */
     KESTRELRACK_NAME = 16,      /* the tree of this `id` has an entry whose name is empty or holds a '/' */
     KESTRELRACK_MORE = 17,      /* of commits alone: there is no room for more, and there may be more */
-    KESTRELRACK_REPOSITORY = 18, /* the files are no repository that is known, or one of them is damaged that has no objects */
-    KESTRELRACK_REVISION = 19,  /* the revision number `place`, from 1 on, stands for nothing; at 0 there is no commit */
+    KESTRELRACK_REPOSITORY = 18, /* the files are no known repository, or one that holds no objects is damaged */
+    KESTRELRACK_REVISION = 19,  /* the revision number `place`, from 1 on, stands for nothing; at 0 the repository has no commit */
     KESTRELRACK_OBJECTS = 20,   /* a file of objects is damaged */
     KESTRELRACK_HASH = 21       /* the object that is stored for this `id` is another's */
 };
 
 struct kestrelrack_answer {
     uint32_t number;    /* one of the numbers above; a later version may have more */
-    uint32_t id_length; /* how many bytes of `id` are an id: 20 (SHA-1), 32 (SHA-256), or 0 where the number names no object */
+    uint32_t id_length; /* how many bytes of `id` are an id: 20 (SHA-1), 32 (SHA-256), or 0 if the number names no object */
     size_t length;      /* in bytes: of the lines, at KESTRELRACK_WELL and KESTRELRACK_ROOM; otherwise 0. Of kestrelrack_commits: how many
-                           commits there are, at each number */
-    size_t place;       /* the number of the word or of the record that is named, or the room for parents that a commit needs; otherwise 0 */
+                           commits it gave, at each number */
+    size_t place;       /* the number of the word or record that is named, or the room for parents that a commit needs; otherwise 0 */
     uint8_t id[32];     /* the id that is named, as bytes and not as digits, and zeros behind it */
 };
 
 /* Runs a command over records, and puts the lines that it writes at the front of the room.
  *
- * words    The command and its ids: "breadth", "newest", "oldest", "topo" or "date", maybe "--first-parent" behind "breadth", or
- *          "--since" and a number of 1 to 10 digits behind "newest" or "oldest", maybe options that choose lines, and ids of tips, one at
- *          least, and ids of commits to be hidden, each after a ^; "ahead" and two ids; "contains", "containing" or "merge-base" and two ids
- *          at least; "files" and the id of a tree. One space or one newline is between two words, and none at either end. An id is 40 or 64 hex
- *          digits.
- *          The options that choose lines come in this order, each at most once: "--until" and a number of 1 to 10 digits leaves out the
- *          commits of a later time; "--merges" those of fewer than two parents, or "--no-merges" those of more than one; "--skip" and a
- *          number of 1 to 9 digits so many of the others first; after "-n" and such a number no more lines are written than it says;
- *          with "--reverse" the last of these lines comes first, or with "--count" their number is the only line; with "--timestamp" a
- *          line begins with the committer's seconds and a space, with "--parents" a space and the id of each parent follow its id, and
- *          with "-z" it ends in a zero byte.
+ * words    The command and its ids. "breadth", "newest", "oldest", "topo" and "date" make a list. Ids of tips follow them, one at least,
+ *          and ids of commits to be hidden, each after a ^. "ahead" has two ids, and "contains", "containing" and "merge-base" have two at
+ *          least. "files" has the id of a tree. An id is 40 or 64 hex digits. One space or one newline is between two words, and none at
+ *          either end.
+ *          Options of lists come before the ids, in this order, each at most once. "breadth" may have "--first-parent". "newest" and
+ *          "oldest" may have "--since" and a number of 1 to 10 digits. "--until" and such a number leaves out commits of a later time.
+ *          "--merges" leaves out those of fewer than two parents, and "--no-merges" those of more than one. "--skip" and a number of 1 to 9
+ *          digits leaves out so many of the others first. After "-n" and such a number no more lines are written than it says. With
+ *          "--reverse" the last of these lines comes first. With "--count" their number is the only line. With "--timestamp" a line begins
+ *          with the committer's seconds and a space. With "--parents" a space and the id of each parent follow its id. With "-z" it ends in
+ *          a zero byte.
  * records  The objects, as `git cat-file --batch='%(objecttype) %(objectname) %(objectsize)'` prints them. They are read where they
  *          are: only an object that the walk looks up is copied, one at a time.
- * room     For the lines, each with a newline and none with a zero byte, except with "-z". The lines of commits are never longer than the records (only
- *          "0" and a newline may be), those of "ahead" are at most 42 bytes, those of "contains" and "containing" never longer than the
- *          words, and those of "merge-base" never longer than the records.
+ * room     For the lines, each with a newline and none with a zero byte, except with "-z". The lines of a list and of "merge-base" are never longer than the
+ *          records, except that "0" and a newline may be. Those of "ahead" are at most 42 bytes. Those of "contains" and "containing" are
+ *          never longer than the words.
  *
  * At KESTRELRACK_WELL the first `length` bytes of the room are the lines, and the rest of it is as it was. At every other number the
- * whole room is as it was, also where a list of commits breaks off midway: of faults no line is written.
+ * whole room is as it was, also if a list breaks off midway.
  */
 struct kestrelrack_answer kestrelrack_run(const void *words, size_t words_length, const void *records, size_t records_length, void *room,
                                           size_t room_length);
@@ -95,10 +94,10 @@ struct kestrelrack_id {
 /* A commit that a walk gives: 64 bytes, none of them padding. */
 struct kestrelrack_commit {
     struct kestrelrack_id id;
-    int64_t time;        /* the committer's seconds since 1970-01-01 00:00 UTC where `known` has the bit KESTRELRACK_TIME, otherwise 0 */
+    int64_t time;        /* the committer's seconds since 1970-01-01 00:00 UTC if `known` has the bit KESTRELRACK_TIME, otherwise 0 */
     size_t parents_at;   /* its parents are parents[parents_at] and those behind it, as the commit names them, repeats kept */
-    size_t parents;      /* how many they are; with "--first-parent" one at most */
-    uint32_t generation; /* in its row of a commit-graph where `known` has the bit KESTRELRACK_GENERATION, otherwise 0 */
+    size_t parents;      /* how many these are; with "--first-parent" one at most */
+    uint32_t generation; /* in its row of a commit-graph if `known` has the bit KESTRELRACK_GENERATION, otherwise 0 */
     uint16_t id_length;  /* how many bytes its id has, and those of its parents: 20 (SHA-1) or 32 (SHA-256) */
     uint16_t known;      /* KESTRELRACK_TIME and KESTRELRACK_GENERATION, or'ed: by "breadth" no time is known, and of records no generation */
 };
@@ -108,31 +107,31 @@ enum { KESTRELRACK_TIME = 1, KESTRELRACK_GENERATION = 2 };
 /* Runs a list command over records, and puts its commits from the one number `skip` on (the first is 0) at the front of `commits`, and the
  * ids of their parents at the front of `parents`, as many commits as both have room for.
  *
- * words    "breadth", "newest", "oldest", "topo" or "date" with its options and ids, as for kestrelrack_run. Another command is
- *          KESTRELRACK_USAGE, and so are "--until", "--merges", "--no-merges", "--skip", "--reverse", "--count", "--timestamp",
- *          "--parents" and "-z": a caller has each
- *          commit's time and parents, and chooses by itself. The number behind "-n" counts those that are skipped.
+ * words    A list with its options and ids, as for kestrelrack_run. Another command is KESTRELRACK_USAGE, and so are "--until", "--merges",
+ *          "--no-merges", "--skip", "--reverse", "--count", "--timestamp", "--parents" and "-z": a caller has each commit's time and parents, and chooses by itself. The
+ *          number behind "-n" also counts commits that are skipped.
  * records  As for kestrelrack_run.
  *
  * The answer's `length` is the number of commits, at each number:
- *   KESTRELRACK_WELL  they are the last (and none where `skip` is at the end or behind it);
+ *   KESTRELRACK_WELL  they are the last (and none if `skip` is at the end or behind it);
  *   KESTRELRACK_MORE  there is no room for more of them: go on with skip + length. `length` isn't 0;
- *   KESTRELRACK_ROOM  not one fits, and `length` is 0: `place` is the room for parents that the next commit needs, or 0 where there is no
+ *   KESTRELRACK_ROOM  not one fits, and `length` is 0. `place` is the room for parents that the next commit needs, or 0 if there is no
  *                     room for a commit;
  *   any other         the fault, which comes behind these commits.
  * What is behind the commits in `commits`, and behind their parents in `parents`, is as it was.
  *
- * Each call finds all records and walks from the start, and it looks up as many objects as one with "-n" and skip + length. Whoever wants
- * all takes one large room, or batches that grow, as 1,000, 8,000, 64,000: over 200,000 commits these took 1.9 to 2.3 times as long as one
- * call by breadth and newest, and 2.6 to 3.3 times by topo and date. As long as the words and the records are the same, batches one behind
- * another are the list: this is proved of each batch, and of all of them together.
+ * Each call finds all records and walks from the start, and it looks up as many objects as one with "-n" and skip + length. If you want
+ * all commits, take one large room, or few batches that grow, as 8,192 and then 32 times as many. Over 200,000 commits such batches took 1.2
+ * times as long as one call by breadth, newest and oldest, and 1.5 to 1.6 times by topo and date; over a repository's files 1.1 and 1.8 times.
+ * As long as the words and the records are the same, batches one behind another are the list: this is proved of each batch, and of all of
+ * them together.
  */
 struct kestrelrack_answer kestrelrack_commits(const void *words, size_t words_length, const void *records, size_t records_length,
                                               uint64_t skip, struct kestrelrack_commit *commits, size_t commits_length,
                                               struct kestrelrack_id *parents, size_t parents_length);
 
 /* A file of a repository: its path below the repository's folder, as "HEAD" or "objects/pack/pack-1.idx", and what it holds, mapped or read.
- * A path that ends in '/' says that there is a folder, as "refs/" where all refs are packed. No pointer is NULL, also that of 0 bytes.
+ * A path that ends in '/' says that there is a folder, as "refs/" if all refs are packed. No pointer is NULL, not even that of 0 bytes.
  */
 struct kestrelrack_file {
     const void *name;
@@ -141,15 +140,15 @@ struct kestrelrack_file {
     size_t length;
 };
 
-/* The three calls below are over a repository: a folder such as .git, whose files the caller maps or reads. It gives those that hold what is
- * asked for, in any order: HEAD, config, packed-refs, shallow, all below refs and all below objects; of several of one path the first
- * counts. Nothing of them is kept or written, and what a call reads is copied as far as it is needed. While a call runs no one may change
- * these bytes, or cut a mapped file short, which git never does: it writes new files.
+/* The three calls below are over a repository: a folder such as .git, whose files the caller maps or reads. The caller gives, in any order,
+ * HEAD, config, packed-refs, shallow, all below refs and all below objects. Of several files of one path the first counts. Nothing of them is
+ * kept or written, and what a call reads is copied as far as it is needed. While a call runs no one may change these bytes, or cut a mapped
+ * file short, which git never does: it writes new files.
  *
  * Each object is compared with its id before it is used, so the answer is right of every repository that has these objects. Git's
- * commit-graph isn't taken. No other folder is followed: where there is objects/info/alternates, give the files of the folders of objects
- * that it names below "objects/" too; of a linked worktree give the files of the folder that its commondir names, and in place of HEAD that of
- * the worktree. The commands end before the parents of a shallow clone's border with KESTRELRACK_MISSING.
+ * commit-graph isn't taken. No other folder is followed. If there is objects/info/alternates, give the files of the folders of objects that it
+ * names below "objects/" too. Of a linked worktree give the files of the folder that its commondir names, with the worktree's own HEAD. At the
+ * border of a shallow clone, whose parents are missing, a command ends with KESTRELRACK_MISSING.
  *
  * These calls need 256 KiB of stack.
  */
@@ -159,8 +158,8 @@ struct kestrelrack_file {
  * words    A command as for kestrelrack_run, or "resolve", whose revisions are as the program takes them: "main~2", "^v1.0", "A..B",
  *          "A...B", "HEAD^{tree}", an id or the first digits of one; and "--all", "--branches" and "--tags".
  *
- * At KESTRELRACK_WELL the first `length` bytes of the room are words for the two calls below; those of "resolve" are none of a command: its
- * ids are behind its name. At KESTRELRACK_ROOM they need `length` bytes. At every number but KESTRELRACK_WELL the room is as it was.
+ * At KESTRELRACK_WELL the first `length` bytes of the room are words for the two calls below. Those of "resolve" are no command: they are
+ * its name, and the ids. At KESTRELRACK_ROOM the words need `length` bytes. At every number but KESTRELRACK_WELL the room is as it was.
  */
 struct kestrelrack_answer kestrelrack_resolve_in(const void *words, size_t words_length, const struct kestrelrack_file *files,
                                                  size_t files_length, void *room, size_t room_length);
@@ -170,15 +169,15 @@ struct kestrelrack_answer kestrelrack_run_in(const void *words, size_t words_len
                                              void *room, size_t room_length);
 
 /* As kestrelrack_commits, over a repository: the words have ids. By breadth, newest and oldest only as many commits are read as a batch
- * needs. Over ids each call walks the same commits, also where the repository has grown meanwhile. A fault of the files comes with `length`
- * 0, and both slices are as they were.
+ * needs. Over ids each call walks the same commits, also if the repository has grown meanwhile. A fault of the files comes with `length` 0,
+ * and both slices are as they were.
  */
 struct kestrelrack_answer kestrelrack_commits_in(const void *words, size_t words_length, const struct kestrelrack_file *files,
                                                  size_t files_length, uint64_t skip, struct kestrelrack_commit *commits, size_t commits_length,
                                                  struct kestrelrack_id *parents, size_t parents_length);
 
 /* Puts the text of a number at the front of the room, in English, without a place, an id or a zero byte at the end: "missing". Gives the
- * length of the text in bytes, at most 32. Where the room is smaller it is as it was; the rest of a larger room is too.
+ * length of the text in bytes, at most 32. A smaller room is as it was, and so is the rest of a larger one.
  */
 size_t kestrelrack_text(uint32_t number, void *room, size_t room_length);
 

@@ -1,4 +1,4 @@
-/* The first commits that an id reaches, newest first, in batches of a hundred:
+/* The first commits that an id reaches, newest first, in batches that grow:
  *
  *   git rev-list TIP | git cat-file --batch='%(objecttype) %(objectname) %(objectsize)' | commits $(git rev-parse TIP^{commit}) NUMBER
  *
@@ -9,7 +9,13 @@
 
 #include "kestrelrack.h"
 
-enum { MANY = 100 };
+/* How many commits the first batch has, how many times as many each has as the one before, and the least bytes of a commit's record. Since
+ * each call walks from the start, few large batches cost least. */
+enum { FIRST = 8192, GROWTH = 32, LEAST = 98 };
+
+static size_t least_of(uint64_t one, uint64_t other) {
+    return (size_t)(one < other ? one : other);
+}
 
 static void fail(const char *why) {
     fprintf(stderr, "commits: %s\n", why);
@@ -66,20 +72,24 @@ int main(int count, char **arguments) {
     if (words_length < 0 || (size_t)words_length >= sizeof words) {
         fail("the id is too long");
     }
-    size_t records_length, parents_length = 2 * MANY;
+    size_t records_length, many = 0, parents_length = 0;
     char *records = read_all(&records_length);
-    struct kestrelrack_commit commits[MANY];
-    struct kestrelrack_id *parents = malloc(parents_length * sizeof *parents);
+    struct kestrelrack_commit *commits = NULL;
+    struct kestrelrack_id *parents = NULL;
     struct kestrelrack_answer answer = {.number = KESTRELRACK_MORE};
     while (skip < wanted && (answer.number == KESTRELRACK_MORE || answer.number == KESTRELRACK_ROOM)) {
-        size_t many = wanted - skip < MANY ? (size_t)(wanted - skip) : MANY;
         if (answer.number == KESTRELRACK_ROOM) {
             /* A commit has more parents than there is room for. */
             parents_length = answer.place;
-            free(parents);
-            parents = malloc(parents_length * sizeof *parents);
+        } else {
+            many = least_of(many == 0 ? FIRST : many * GROWTH, least_of(wanted - skip, records_length / LEAST + 1));
+            parents_length = parents_length > 2 * many ? parents_length : 2 * many;
         }
-        if (parents == NULL) {
+        free(commits);
+        free(parents);
+        commits = malloc(many * sizeof *commits);
+        parents = malloc(parents_length * sizeof *parents);
+        if (commits == NULL || parents == NULL) {
             fail("out of memory");
         }
         answer = kestrelrack_commits(words, (size_t)words_length, records, records_length, skip, commits, many, parents, parents_length);
@@ -88,6 +98,7 @@ int main(int count, char **arguments) {
         }
         skip += answer.length;
     }
+    free(commits);
     free(parents);
     free(records);
     if (answer.number != KESTRELRACK_WELL && answer.number != KESTRELRACK_MORE) {

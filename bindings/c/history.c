@@ -6,6 +6,7 @@
  * those that HEAD reaches. The status is 2 at a fault. */
 #define _DEFAULT_SOURCE
 #include <dirent.h>
+#include <errno.h>
 #include <fcntl.h>
 #include <inttypes.h>
 #include <stdio.h>
@@ -43,21 +44,23 @@ static void add(const char *name, const void *bytes, size_t length) {
     files[count++].length = length;
 }
 
-/* Maps a file, or does nothing where there is none. */
+/* Maps a file, or does nothing where there is none. A pipe may be in the place of a ref, which mustn't be left out. */
 static void add_file(const char *name, const char *path) {
-    struct stat about;
-    int file = open(path, O_RDONLY);
-    if (file < 0) {
+    struct stat about = {0};
+    void *bytes = "";
+    size_t length;
+    int file;
+    if (stat(path, &about) != 0 && (errno == ENOENT || errno == ENOTDIR)) {
         return;
     }
-    if (fstat(file, &about) == 0 && S_ISREG(about.st_mode)) {
-        size_t length = (size_t)about.st_size;
-        void *bytes = length == 0 ? "" : mmap(NULL, length, PROT_READ, MAP_PRIVATE, file, 0);
-        if (bytes == MAP_FAILED) {
-            fail("a file can't be mapped");
-        }
-        add(name, bytes, length);
+    if (!S_ISREG(about.st_mode) || (file = open(path, O_RDONLY)) < 0) {
+        fail("what is in the place of a file can't be read");
     }
+    length = (size_t)about.st_size;
+    if (length != 0 && (bytes = mmap(NULL, length, PROT_READ, MAP_PRIVATE, file, 0)) == MAP_FAILED) {
+        fail("a file can't be mapped");
+    }
+    add(name, bytes, length);
     close(file);
 }
 

@@ -15,6 +15,7 @@ import enum
 import mmap
 import os
 import pathlib
+import stat
 import struct
 import typing
 
@@ -90,8 +91,8 @@ class RawFile(ctypes.Structure):
 
 
 class Fault(Exception):
-    """Why a run failed: its `number`, one of Number, the number of the word or of the record that it names as `place`, or 0, and the id that
-    it names as `id`, bytes, or none. For ROOM `length` is the number of bytes that are needed."""
+    """Why a run failed. `number` is one of Number. `place` is the number of the word or of the record that the fault names, or 0. `id` is the
+    id that it names, as bytes, or empty. For ROOM `length` is the number of bytes that are needed."""
 
     def __init__(self, answer):
         self.number, self.place, self.length = answer.number, answer.place, answer.length
@@ -103,7 +104,7 @@ class Fault(Exception):
 
 
 class Commit(typing.NamedTuple):
-    """A commit of a list: its id, those of its parents, each as bytes, its committer's seconds and its generation, where they are known."""
+    """A commit of a list: its id and those of its parents, as bytes; its committer's seconds and its generation, if they are known."""
 
     id: bytes
     parents: typing.Tuple[bytes, ...]
@@ -124,6 +125,9 @@ _commits_in.argtypes, _commits_in.restype = [*_slice, *_slice, ctypes.c_uint64, 
 _commit = struct.Struct("@32sqNNIHH")
 # A record of a commit has no fewer bytes: a head, the line of a tree, and newlines.
 _LEAST = 98
+# How many commits the first batch has, how many times as many each has as the one before, and how many the largest has. Since each call
+# walks from the start, few large batches cost least.
+_FIRST, _GROWTH, _MOST = 1 << 13, 32, 1 << 20
 
 
 def text_of(number):
@@ -144,7 +148,7 @@ def _joined(words):
 
 
 def _lent(records):
-    """Bytes for a call, not copied but where they can be read alone and aren't `bytes`."""
+    """Bytes for a call. They are copied only if they are read-only and aren't `bytes`."""
     if isinstance(records, bytes):
         return records, len(records)
     view = memoryview(records).cast("B")
@@ -154,8 +158,8 @@ def _lent(records):
 
 
 def run_into(words, records, room):
-    """Runs a command over records, bytes, and puts its lines at the front of the room, a ctypes array of bytes. Gives the number of bytes
-    that these are. At a Fault the room is as it was."""
+    """Runs a command over records, which are bytes, and puts its lines at the front of the room, a ctypes array of bytes. Gives the length of
+    the lines. At a Fault the room is as it was."""
     text = _joined(words)
     answer = _run(text, len(text), *_lent(records), room, ctypes.sizeof(room))
     if answer.number != Number.WELL:
@@ -164,7 +168,7 @@ def run_into(words, records, room):
 
 
 def run(words, records):
-    """Runs a command over records, and gives the lines that it writes, as bytes. Where they are longer than the records, it runs twice."""
+    """Runs a command over records, and gives the lines that it writes, as bytes. It runs twice if they are longer than the records."""
     words = words if isinstance(words, (str, bytes)) else list(words)
     room = (ctypes.c_char * max(len(records), 64))()
     try:
@@ -177,16 +181,16 @@ def run(words, records):
     return bytes(memoryview(room)[:length])
 
 
-def commits(words, records, first=1000):
+def commits(words, records, first=_FIRST):
     """Gives the commits of a list command over records one at a time, each as a Commit. The Fault of the walk, if there is one, comes behind
-    the commits before it. The records are read where they are until the last is given, and may not change.
+    the commits before it. The records aren't copied, and may not change until the last commit is given.
 
-    They come in batches: of `first` commits, then of eight times as many, and so on. Nothing is kept between two batches: each walks from
-    the start."""
+    The commits come in batches: of `first` commits, then of 32 times as many, and so on. Nothing is kept between two batches: each walks
+    from the start."""
     text = _joined(words)
     if first < 1:
         raise ValueError("no commit in a batch")
-    return _batches(_commits, text, *_lent(records), first, len(records) // _LEAST + 1)
+    return _batches(_commits, text, *_lent(records), first, min(len(records) // _LEAST + 1, _MOST))
 
 
 def _batches(call, text, given, length, size, most):
@@ -202,7 +206,7 @@ def _batches(call, text, given, length, size, most):
         if answer.number == Number.ROOM:
             room = answer.place
         elif answer.number == Number.MORE:
-            size = min(size * 8, most)
+            size = min(size * _GROWTH, most)
             room = max(room, 2 * size)
         else:
             raise Fault(answer)
@@ -219,19 +223,17 @@ def _decoded(batch, parents, number):
         )
 
 
-# The most commits of a batch over a repository, whose number of commits isn't known.
-_MOST = 1 << 18
-# Files that are as long are mapped, shorter ones are read.
+# Files of this length or more are mapped, and shorter ones are read.
 _MAPPED = 1 << 16
 # How many folders of objects lead from the first to one that is given, at the most, as in git.
 _LEVELS = 6
-# What a worktree has for itself.
-_OWN = ("HEAD", "refs/bisect/", "refs/rewritten/", "refs/worktree/")
+# The folders of refs that a worktree has for itself.
+_OWN = ("refs/bisect", "refs/rewritten", "refs/worktree")
 
 
 class Repository:
     """A repository: a folder that has a `.git` or is one, or the first above it that does. Its files are mapped or read when it is opened:
-    what is written later isn't seen. A mapped file may not be cut short by anybody, or the process ends by SIGBUS; git cuts none.
+    what is written later isn't seen. If anybody cuts a mapped file short, the process ends by SIGBUS. Git cuts none.
 
     The files of alternates and of the folder that a linked worktree belongs to are given too."""
 
@@ -241,9 +243,10 @@ class Repository:
         common = git
         if (git / "commondir").is_file():
             common = (git / (git / "commondir").read_text().rstrip("\n")).resolve()
+        self._add("HEAD", git / "HEAD")
         if common != git:
             self._add_own(git, common)
-        for name in ("HEAD", "config", "packed-refs", "shallow", "info/grafts"):
+        for name in ("config", "packed-refs", "shallow", "info/grafts"):
             self._add(name, common / name)
         for name in ("refs", "worktrees"):
             self._add_below(name, common / name)
@@ -256,20 +259,25 @@ class Repository:
 
     def _add_own(self, git, common):
         for name in _OWN:
-            if name.endswith("/"):
-                self._add_below(name[:-1], git / name)
-            else:
-                self._add(name, git / name)
+            self._add_below(name, git / name)
         self._add("worktrees/main-worktree/HEAD", common / "HEAD")
         self._add("worktrees/main-worktree/gitdir", common / "HEAD")
 
     def _add(self, name, path):
         key = os.fsencode(name)
-        # What is no file, as a pipe, isn't opened.
-        if key in self._given or not os.path.isfile(path):
+        if key in self._given:
             return
+        try:
+            about = os.stat(path)
+        except (FileNotFoundError, NotADirectoryError):
+            return
+        if not stat.S_ISREG(about.st_mode):
+            # Below worktrees are sockets of git's. Elsewhere a pipe may be in the place of a ref, which mustn't be left out.
+            if name.startswith("worktrees/"):
+                return
+            raise OSError(f"{str(path)!r} is no file")
         with open(path, "rb") as file:
-            if os.fstat(file.fileno()).st_size < _MAPPED:
+            if about.st_size < _MAPPED:
                 held = file.read()
                 self._given[key] = (ctypes.c_char_p(held), len(held))
             else:
@@ -277,13 +285,17 @@ class Repository:
                 self._given[key] = ((ctypes.c_char * len(held)).from_buffer(held), len(held))
 
     def _add_below(self, name, folder):
-        if folder.is_dir():
-            self._given.setdefault(os.fsencode(name) + b"/", (ctypes.c_char_p(b""), 0))
-        for path, folders, files in os.walk(folder):
+        if not os.path.isdir(folder):
+            return
+        met = set()
+        for path, _, files in os.walk(folder, onerror=_refuse, followlinks=True):
+            about = os.stat(path)
+            if (about.st_dev, about.st_ino) in met:
+                raise OSError(f"{path!r} is met twice, by links")
+            met.add((about.st_dev, about.st_ino))
             below = os.path.relpath(path, folder)
             front = name if below == "." else f"{name}/{below}"
-            for inner in folders:
-                self._given.setdefault(os.fsencode(f"{front}/{inner}/"), (ctypes.c_char_p(b""), 0))
+            self._given.setdefault(os.fsencode(front) + b"/", (ctypes.c_char_p(b""), 0))
             for file in files:
                 self._add(f"{front}/{file}", os.path.join(path, file))
 
@@ -317,7 +329,7 @@ class Repository:
             return "".join(f"{word}\n" for word in resolved[1:]).encode()
         return self._text(_run_in, _joined(resolved))
 
-    def commits(self, words, first=1000):
+    def commits(self, words, first=_FIRST):
         """Gives the commits of a list command one at a time, as `commits` does over records. Its revisions are resolved once."""
         text = _joined(self.resolve(words))
         if first < 1:
@@ -326,6 +338,10 @@ class Repository:
 
     def _batches(self, text, first):
         yield from _batches(_commits_in, text, self._files, len(self._files), first, _MOST)
+
+
+def _refuse(error):
+    raise error
 
 
 def _git_folder(folder):

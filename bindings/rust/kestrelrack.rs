@@ -13,6 +13,7 @@ use std::io::{self, Read};
 use std::iter::FusedIterator;
 use std::os::fd::AsRawFd;
 use std::os::unix::ffi::{OsStrExt, OsStringExt};
+use std::os::unix::fs::MetadataExt;
 use std::path::{Path, PathBuf};
 
 /// The numbers of answers, as in `kestrelrack.h`. Those from `READ` to `DISAGREES` are never answered.
@@ -313,8 +314,8 @@ pub struct Commit {
 
 /// The commits of a list command, one at a time, and behind them the fault of the walk, if there is one.
 ///
-/// They come in batches: of 1,000 commits, then of eight times as many, and so on. Nothing is kept between two batches: each walks from the
-/// start.
+/// They come in batches: of 8,192 commits, then of 32 times as many, and so on. Nothing is kept between two batches: each walks from the
+/// start, so few large batches cost least.
 pub struct Commits<'a> {
     words: String,
     source: Source<'a>,
@@ -330,15 +331,17 @@ pub struct Commits<'a> {
 
 /// A record of a commit has no fewer bytes: a head, the line of a tree, and newlines.
 const LEAST: usize = 98;
-/// The most commits of a batch over a repository, whose number of commits isn't known.
-const MOST: usize = 1 << 18;
+/// How many commits the first batch has, how many times as many each has as the one before, and how many the largest has.
+const FIRST: usize = 1 << 13;
+const GROWTH: usize = 32;
+const MOST: usize = 1 << 20;
 
 /// The commits of a list command over records.
 ///
 /// # Errors
 /// A word that isn't one.
 pub fn commits<'a>(words: &[&str], records: &'a [u8]) -> Result<Commits<'a>, Error> {
-    commits_by(words, records, 1000)
+    commits_by(words, records, FIRST)
 }
 
 /// The same, with so many commits in the first batch, one at least.
@@ -346,7 +349,7 @@ pub fn commits<'a>(words: &[&str], records: &'a [u8]) -> Result<Commits<'a>, Err
 /// # Errors
 /// A word that isn't one.
 pub fn commits_by<'a>(words: &[&str], records: &'a [u8], first: usize) -> Result<Commits<'a>, Error> {
-    Ok(Commits::of(joined(words)?, Source::Records(records), records.len() / LEAST + 1, first))
+    Ok(Commits::of(joined(words)?, Source::Records(records), (records.len() / LEAST + 1).min(MOST), first))
 }
 
 impl<'a> Commits<'a> {
@@ -374,7 +377,7 @@ impl<'a> Commits<'a> {
 
     /// Has more room for the next call.
     fn grow(&mut self) {
-        let size = self.batch.len().saturating_mul(8).min(self.most).max(self.batch.len());
+        let size = self.batch.len().saturating_mul(GROWTH).min(self.most).max(self.batch.len());
         self.batch.resize(size, RawCommit::NONE);
         self.parents.resize(self.parents.len().max(2 * size), RawId::NONE);
     }
@@ -465,7 +468,7 @@ impl Repository {
     /// Opens the repository that a folder is in.
     ///
     /// # Errors
-    /// `NotFound` where there is none; a file or a folder can't be read.
+    /// `NotFound` where there is none; a file or a folder can't be read, or there is neither, as a pipe.
     pub fn open(folder: impl AsRef<Path>) -> io::Result<Repository> {
         let git = git_folder(folder.as_ref())?;
         let common = match fs::read(git.join("commondir")) {
@@ -473,15 +476,15 @@ impl Repository {
             Err(_) => git.clone(),
         };
         let mut repository = Repository { files: Vec::new(), names: HashSet::new() };
+        repository.add("HEAD".into(), &git.join("HEAD"))?;
         if common != git {
-            repository.add("HEAD".into(), &git.join("HEAD"))?;
             for name in ["refs/bisect", "refs/rewritten", "refs/worktree"] {
                 repository.add_below(name.into(), &git.join(name))?;
             }
             repository.add("worktrees/main-worktree/HEAD".into(), &common.join("HEAD"))?;
             repository.add("worktrees/main-worktree/gitdir".into(), &common.join("HEAD"))?;
         }
-        for name in ["HEAD", "config", "packed-refs", "shallow", "info/grafts"] {
+        for name in ["config", "packed-refs", "shallow", "info/grafts"] {
             repository.add(name.into(), &common.join(name))?;
         }
         for name in ["refs", "worktrees"] {
@@ -491,11 +494,19 @@ impl Repository {
         Ok(repository)
     }
 
-    /// Adds a file, unless there is one of its name.
+    /// Adds a file, unless there is one of its name, or none at this path.
     fn add(&mut self, name: OsString, path: &Path) -> io::Result<()> {
         let name = name.into_vec();
-        if self.names.contains(&name) || !path.is_file() {
+        if self.names.contains(&name) {
             return Ok(());
+        }
+        match fs::metadata(path) {
+            Ok(about) if about.is_file() => {}
+            // Below worktrees are sockets of git's. Elsewhere a pipe may be in the place of a ref, which mustn't be left out.
+            Ok(_) if name.starts_with(b"worktrees/") => return Ok(()),
+            Ok(_) => return Err(io::Error::other(format!("{} is no file", path.display()))),
+            Err(error) if matches!(error.kind(), io::ErrorKind::NotFound | io::ErrorKind::NotADirectory) => return Ok(()),
+            Err(error) => return Err(error),
         }
         let mut file = File::open(path)?;
         let length = file.metadata()?.len();
@@ -519,8 +530,14 @@ impl Repository {
 
     /// Adds a folder and what is below it.
     fn add_below(&mut self, name: OsString, folder: &Path) -> io::Result<()> {
-        if !folder.is_dir() {
-            return Ok(());
+        if folder.is_dir() { self.add_folder(name, folder, &mut HashSet::new()) } else { Ok(()) }
+    }
+
+    /// The same, where these folders have been met.
+    fn add_folder(&mut self, name: OsString, folder: &Path, met: &mut HashSet<(u64, u64)>) -> io::Result<()> {
+        let about = fs::metadata(folder)?;
+        if !met.insert((about.dev(), about.ino())) {
+            return Err(io::Error::other(format!("{} is met twice, by links", folder.display())));
         }
         let mut own = name.clone().into_vec();
         own.push(b'/');
@@ -533,7 +550,7 @@ impl Repository {
             inner.push("/");
             inner.push(path.file_name().unwrap_or_default());
             if path.is_dir() {
-                self.add_below(inner, &path)?;
+                self.add_folder(inner, &path, met)?;
             } else {
                 self.add(inner, &path)?;
             }
@@ -617,7 +634,7 @@ impl Repository {
     /// # Errors
     /// Those of [`resolve`](Repository::resolve).
     pub fn commits(&self, words: &[&str]) -> Result<Commits<'_>, Error> {
-        self.commits_by(words, 1000)
+        self.commits_by(words, FIRST)
     }
 
     /// The same, with so many commits in the first batch, one at least.

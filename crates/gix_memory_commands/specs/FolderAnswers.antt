@@ -1,8 +1,7 @@
 -- What a call over a repository in memory answers, and what it leaves in the room or in the slices.
-use Rattle.std.specs.Prelude.{◌≡◌, ◌≢◌, ◌≤◌, ℕ, List, [], map, Some, Ok}
+use Rattle.std.specs.Prelude.{◌≡◌, ℕ, List, map}
 use Rattle.std.specs.Str.Lossy.{utf8_lossy}
-use Rattle.gix_statement.specs.WholeStatement.{AreNamed, Objects, Promises, Row}
-use Rattle.gix_words.specs.declared.fault.Fault.TheVariants as fault
+use Rattle.gix_statement.specs.WholeStatement.{AreNamed}
 use Rattle.gix_batches.specs.declared.commit.Batch.{Batch}
 use Rattle.gix_batches.specs.declared.commit.Commit.{Commit}
 use Rattle.gix_batches.specs.declared.commit.CommitId.{CommitId}
@@ -22,15 +21,6 @@ of_trouble trouble.Repository = of_length 18 0
 of_trouble (trouble.Revision place) = of_place 19 place
 of_trouble trouble.Objects = of_length 20 0
 of_trouble (trouble.Hash i) = of_id 21 i
-
--- what the page promises of a run over a text of words and some objects, each of whose ids is its hash, that ended well and wrote these lines
-abbrev pub PromisesNamed : List ℕ → List ℕ → Type 0
-PromisesNamed words lines =
-    Promises fault.Write (map utf8_lossy (words_of words)) (λ (objects : Objects) (rows : List Row). AreNamed objects × (rows ≡ [])) (Some []) (Ok tt)
-    (Some lines)
-
-abbrev pub IsWholeNamed : (words room : List ℕ) → Answer → List ℕ → Type 0
-IsWholeNamed words = IsWholeOf (PromisesNamed words)
 
 -- some text
 abbrev pub IsWholeText : (room : List ℕ) → Answer → List ℕ → Type 0

@@ -1,7 +1,7 @@
 -- What a caller finds in its room: the lines that the page promises, where they fit.
 use Rattle.std.specs.Prelude.{◌≡◌, ◌≢◌, ◌≤◌, ℕ, nat_le, List, [], ◌++◌, map, length, drop, replicate, Some, Ok, if◌then◌else◌}
 use Rattle.std.specs.Str.Lossy.{utf8_lossy}
-use Rattle.gix_statement.specs.WholeStatement.{AreFed, Objects, Promises, Row}
+use Rattle.gix_statement.specs.WholeStatement.{AreFed, AreNamed, Objects, Promises, Row}
 use Rattle.gix_words.specs.declared.fault.Fault.TheVariants as fault
 use Rattle.gix_memory_commands.specs.declared.answer.Answer.{Answer}
 use Rattle.gix_memory_commands.specs.WordsOf.{words_of}
@@ -26,11 +26,19 @@ put_in bytes room = if nat_le (length bytes) (length room) then bytes ++ drop (l
 abbrev pub answer_to : List ℕ → List ℕ → Answer
 answer_to lines room = if nat_le (length lines) (length room) then well (length lines) else too_small (length lines)
 
--- what the page promises of a run over a text of words and the bytes of records that ended well and wrote these lines
-abbrev pub PromisesOver : List ℕ → List ℕ → List ℕ → Type 0
-PromisesOver words records lines =
-    Promises fault.Write (map utf8_lossy (words_of words))
-    (λ (objects : Objects) (rows : List Row). AreFed (Some records) objects × (rows ≡ [])) (Some []) (Ok tt) (Some lines)
+-- what the page promises of a run over a text of words and such objects that ended well and wrote these lines
+abbrev pub PromisesOf : (AreGiven : Objects → Type 0) → (words lines : List ℕ) → Type 0
+PromisesOf AreGiven words lines =
+    Promises fault.Write (map utf8_lossy (words_of words)) (λ (objects : Objects) (rows : List Row). AreGiven objects × (rows ≡ [])) (Some []) (Ok tt)
+    (Some lines)
+
+-- over the bytes of records
+abbrev pub PromisesOver : (words records lines : List ℕ) → Type 0
+PromisesOver words records = PromisesOf (AreFed (Some records)) words
+
+-- over a repository, each of whose ids is the hash of its object
+abbrev pub PromisesNamed : (words lines : List ℕ) → Type 0
+PromisesNamed = PromisesOf AreNamed
 
 -- By the numbers 0 and 1 there are lines of which this is promised: by 0 they are at the front of the room, and by 1 the answer says how many
 -- bytes they have. By each number but 0 the room is as it was.
@@ -41,3 +49,6 @@ IsWholeOf IsPromised room answer new =
 
 abbrev pub IsWhole : (words records room : List ℕ) → Answer → List ℕ → Type 0
 IsWhole words records = IsWholeOf (PromisesOver words records)
+
+abbrev pub IsWholeNamed : (words room : List ℕ) → Answer → List ℕ → Type 0
+IsWholeNamed words = IsWholeOf (PromisesNamed words)

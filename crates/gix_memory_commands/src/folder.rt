@@ -1,6 +1,7 @@
 //! The commands over a repository whose files are in memory.
 ghost use Rattle.std.specs.Prelude.{◌≡◌, IfOk, IfErr};
-ghost use Rattle.gix_memory_commands.specs.FolderAnswers.{AnswersFolder, GivesFolder, IsWholeNamed, IsWholeText, PromisesNamed};
+ghost use Rattle.gix_memory_commands.specs.FolderAnswers.{AnswersFolder, GivesFolder, IsWholeText};
+ghost use Rattle.gix_memory_commands.specs.Room.{IsWholeNamed, PromisesNamed};
 
 use crate::answer::Answer;
 use crate::put_lines;
@@ -33,7 +34,7 @@ pub fn run_over_folder(
     room: &mut [u8],
 ) -> Answer
     // What the lines are, from lists of bytes up: they are right of objects each of whose ids is the hash of its object.
-    ensures { IsWholeNamed words.now room.old result room.new }
+    ensures whole { IsWholeNamed words.now room.old result room.new }
 {
     match folder_lines(alloc, words, files) {
         Ok(lines) => put_lines(lines.as_slice(), room),

@@ -55,8 +55,9 @@ impl<R: Files + AllocGlobal + Clone + Drop> Repository<R>
 where
     R::File: FileExt,
 {
-    /// The refs whose names begin with this, which is a folder as `refs/` or `refs/heads/`, by rising names. Symbolic refs are followed, and
-    /// those that lead to none aren't in the list. Refs that are damaged are passed over, as in git.
+    /// The refs whose names begin with this, which is a folder as `refs/` or `refs/heads/`, by rising names. For `refs/` these are all packed
+    /// refs, whatever their names begin with, as in git. Symbolic refs are followed, and those that lead to none aren't in the list. Refs that
+    /// are damaged are passed over, as in git.
     ///
     /// # Errors
     ///
@@ -90,8 +91,11 @@ where
         // A ref that git packs meanwhile is among the packed ones, which are read behind the files.
         let mut targets = self.read_below(prefix)?;
         let packed = self.all_packed(passes_over)?;
+        // Git's `--all` takes each packed ref, whatever its name begins with.
+        let takes_each = prefix == "refs/";
         for (name, id) in packed.iter() {
-            if name.as_str().starts_with(prefix) && !targets.contains_key(name.as_str()) {
+            let is_below = takes_each || name.as_str().starts_with(prefix);
+            if is_below && !targets.contains_key(name.as_str()) {
                 targets.insert(name.clone()?, Target::Id(*id))?;
             }
         }

@@ -4,8 +4,8 @@
 ghost use Rattle.std.specs.Prelude.{◌≡◌, length};
 ghost use Rattle.gix_memory_commands.specs.Answers.{Answers, text_of};
 ghost use Rattle.gix_memory_commands.specs.BatchAnswers.{AnswersBatch};
-ghost use Rattle.gix_memory_commands.specs.FolderAnswers.{AnswersFolder, IsWholeNamed, IsWholeText};
-ghost use Rattle.gix_memory_commands.specs.Room.{IsWhole, put_in};
+ghost use Rattle.gix_memory_commands.specs.FolderAnswers.{AnswersFolder, IsWholeText};
+ghost use Rattle.gix_memory_commands.specs.Room.{IsWhole, IsWholeNamed, put_in};
 
 use gix_batches::{Commit, CommitId};
 use gix_mapped_folder::NamedFile;
@@ -56,7 +56,7 @@ pub extern "C" fn kestrelrack_run_in(
     room: &mut [u8],
 ) -> Answer
     // What the lines are, from lists of bytes up: they are right of objects each of whose ids is the hash of its object.
-    ensures { IsWholeNamed words.now room.old result room.new }
+    ensures whole { IsWholeNamed words.now room.old result room.new }
 {
     run_over_folder(alloc, words, files, room)
 }

@@ -1,4 +1,4 @@
-use Rattle.std.proofs.Common.{◌≤◌, refl, sym, ap, subst, ◌∙◌}
+use Rattle.std.proofs.Common.{◌≤◌, refl, ap, subst, ◌∙◌}
 use Rattle.gix_memory_commands.proofs.WholeAnswers.{room_stays, trouble_numbered}
 use Rattle.gix_memory_commands.proofs.folder.resolve_in_folder.Goals as goal
 

@@ -1,14 +1,17 @@
 use Rattle.std.proofs.Common.{◌≤◌, refl, sym, ap, subst, ◌∙◌}
-use Rattle.gix_memory_commands.specs.FolderAnswers.{PromisesNamed}
+use Rattle.gix_memory_commands.specs.Room.{PromisesNamed}
 use Rattle.gix_memory_commands.proofs.WholeAnswers.{room_stays, trouble_numbered}
 use Rattle.gix_memory_commands.proofs.folder.run_over_folder.Goals as goal
 
 pub returns-in-Ok : goal.returns-in-Ok
 returns-in-Ok c =
-    let lines = c.as_slice.result.now in (
-      λ number. (lines, subst (PromisesNamed c.args.words.now) (sym c.as_slice.ensures.value) c.in-Ok.ensures, c.put_lines.ensures.answer, c.put_lines.ensures.room),
-      λ other. c.put_lines.ensures.room ∙ room_stays lines c.args.room.now (λ none. other (ap (λ answer. answer.number) c.put_lines.ensures.answer ∙ none)),
-    )
+    let lines = c.as_slice.result.now in
+    record {
+      whole = (
+        λ number. (lines, subst (PromisesNamed c.args.words.now) (sym c.as_slice.ensures.value) c.in-Ok.ensures, c.put_lines.ensures.answer, c.put_lines.ensures.room),
+        λ other. c.put_lines.ensures.room ∙ room_stays lines c.args.room.now (λ none. other (ap (λ answer. answer.number) c.put_lines.ensures.answer ∙ none)),
+      );
+    }
 
 pub returns-in-Err : goal.returns-in-Err
-returns-in-Err c = ((λ number. absurd (trouble_numbered c.in-Err.trouble (subst (λ answer. answer.number ≤ 1) c.of_trouble.ensures number))), λ other. refl)
+returns-in-Err c = record { whole = ((λ number. absurd (trouble_numbered c.in-Err.trouble (subst (λ answer. answer.number ≤ 1) c.of_trouble.ensures number))), λ other. refl) }
