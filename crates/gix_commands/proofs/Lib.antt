@@ -6,7 +6,6 @@ mod OutputFacts
 mod WrittenForms
 mod ChosenFacts
 mod LookedAt
-mod LineFacts
 mod BrokenOff
 mod InternalFacts
 mod TreeFacts
