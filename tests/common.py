@@ -147,7 +147,7 @@ class Repository:
             order = {"topo": ["--topo-order"], "date": ["--date-order"]}.get(command, [])
             rest = [{"--since": "--max-age", "--until": "--min-age"}.get(word, word) for word in rest if word != "--stdin"]
             listed = self.git("rev-list", *order, *(word for word in rest if word != "-z"), *input.split())
-            return listed.replace("\n", "\0") + "\0" if "-z" in rest else listed, 0
+            return listed.replace("\n", "\0") + "\0" if "-z" in rest and "--count" not in rest else listed, 0
         if command == "ahead":
             pair = "...".join(revisions)
             return self.git("rev-list", "--left-right", "--count", pair).replace("\t", " "), 0
