@@ -85,6 +85,9 @@ pub(crate) fn answer_from<W: Write>(
         Name::Contains | Name::Containing | Name::MergeBase
     );
     if chosen.tips.is_empty() || asks_of_others && chosen.tips.len() < 2 {
+        if question.options.counts {
+            write(output, b"0\n")?;
+        }
         return Ok(Answered {
             status: 0,
             rows: Rows::Unused,
