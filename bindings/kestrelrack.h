@@ -122,7 +122,7 @@ enum { KESTRELRACK_TIME = 1, KESTRELRACK_GENERATION = 2 };
  *
  * Each call finds all records and walks from the start, and it looks up as many objects as one with "-n" and skip + length. If you want
  * all commits, take one large room, or few batches that grow, as 8,192 and then 32 times as many. Over 200,000 commits such batches took 1.2
- * times as long as one call by breadth, newest and oldest, and 1.5 to 1.6 times by topo and date; over a repository's files 1.1 and 1.8 times.
+ * times as long as one call by breadth, newest and oldest, and 1.5 times by topo and date; over a repository's files 1.2 and 1.8 times.
  * As long as the words and the records are the same, batches one behind another are the list: this is proved of each batch, and of all of
  * them together.
  */
