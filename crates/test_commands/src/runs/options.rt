@@ -58,6 +58,40 @@ fn lines_are_counted(rt: HostRuntime) -> Result<(), Fail> {
 }
 
 #[test]
+fn lines_have_times_and_parents(rt: HostRuntime) -> Result<(), Fail> {
+    check(
+        rt.alloc(),
+        &[SAMPLE],
+        &[
+            (
+                &["newest", "--timestamp", "-n", "1", "#8"],
+                "! bad id in word 3",
+            ),
+            (&["newest", "-n", "2", "--timestamp", "#8"], "8 #8\n7 #7\n"),
+            (
+                &["topo", "--parents", "#8", "^#6"],
+                "#8 #6 #7\n#7 #4\n#4 #2\n#2 #1\n",
+            ),
+            (
+                &["date", "-n", "1", "--timestamp", "--parents", "-z", "#8"],
+                "8 #8 #6 #7\0",
+            ),
+            (&["oldest", "--reverse", "--timestamp", "#1"], "1 #1\n"),
+            // A commit names all of its parents, also if the walk takes the first.
+            (
+                &["breadth", "--first-parent", "-n", "1", "--parents", "#8"],
+                "#8 #6 #7\n",
+            ),
+            (&["newest", "--count", "--timestamp", "-z", "#8"], "8\n"),
+            (
+                &["newest", "--parents", "--timestamp", "#8"],
+                "! bad id in word 3",
+            ),
+        ],
+    )
+}
+
+#[test]
 fn merges_are_told_from_others(rt: HostRuntime) -> Result<(), Fail> {
     check(
         rt.alloc(),
