@@ -137,7 +137,8 @@ static size_t refuse_each(struct slice words, struct slice records, uint64_t ski
 }
 
 static void write_layout(void) {
-    printf("answer %zu\nid %zu\ncommit %zu\n", sizeof(struct kestrelrack_answer), sizeof(struct kestrelrack_id), sizeof(struct kestrelrack_commit));
+    printf("answer %zu\nid %zu\ncommit %zu\nfile %zu\n", sizeof(struct kestrelrack_answer), sizeof(struct kestrelrack_id),
+           sizeof(struct kestrelrack_commit), sizeof(struct kestrelrack_file));
 #define FIELD(type, field) printf(#type "." #field " %zu\n", offsetof(struct kestrelrack_##type, field))
     FIELD(answer, number);
     FIELD(answer, id_length);
@@ -151,6 +152,10 @@ static void write_layout(void) {
     FIELD(commit, generation);
     FIELD(commit, id_length);
     FIELD(commit, known);
+    FIELD(file, name);
+    FIELD(file, name_length);
+    FIELD(file, bytes);
+    FIELD(file, length);
 }
 
 int main(void) {
