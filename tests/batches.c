@@ -8,6 +8,7 @@
 #include <unistd.h>
 
 #include "kestrelrack.h"
+#include "requests.h"
 
 _Static_assert(sizeof(struct kestrelrack_commit) == 64 && sizeof(struct kestrelrack_id) == 32, "no padding");
 
@@ -15,30 +16,6 @@ struct slice {
     unsigned char *mapped, *bytes;
     size_t mapped_length, length;
 };
-
-/* How many requests for memory a call has made, which one is refused (the first is 1), and how many pieces are held. */
-static size_t requests, refused, held;
-
-void *__real_malloc(size_t size);
-void *__real_realloc(void *old, size_t size);
-void __real_free(void *old);
-
-void *__wrap_malloc(size_t size) {
-    void *made = ++requests == refused ? NULL : __real_malloc(size);
-    held += made != NULL;
-    return made;
-}
-
-void *__wrap_realloc(void *old, size_t size) {
-    void *made = ++requests == refused ? NULL : __real_realloc(old, size);
-    held += old == NULL && made != NULL;
-    return made;
-}
-
-void __wrap_free(void *old) {
-    held -= old != NULL;
-    __real_free(old);
-}
 
 static void fail(const char *why) {
     fprintf(stderr, "batches: %s\n", why);

@@ -8,35 +8,12 @@
 #include <unistd.h>
 
 #include "kestrelrack.h"
+#include "requests.h"
 
 struct slice {
     unsigned char *mapped, *bytes;
     size_t mapped_length, length;
 };
-
-/* How many requests for memory a call has made, which one is refused (the first is 1), and how many pieces are held. */
-static size_t requests, refused, held;
-
-void *__real_malloc(size_t size);
-void *__real_realloc(void *old, size_t size);
-void __real_free(void *old);
-
-void *__wrap_malloc(size_t size) {
-    void *made = ++requests == refused ? NULL : __real_malloc(size);
-    held += made != NULL;
-    return made;
-}
-
-void *__wrap_realloc(void *old, size_t size) {
-    void *made = ++requests == refused ? NULL : __real_realloc(old, size);
-    held += old == NULL && made != NULL;
-    return made;
-}
-
-void __wrap_free(void *old) {
-    held -= old != NULL;
-    __real_free(old);
-}
 
 static void fail(const char *why) {
     fprintf(stderr, "bindings: %s\n", why);

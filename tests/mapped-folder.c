@@ -9,31 +9,11 @@
 #include <string.h>
 
 #include "kestrelrack.h"
+#include "requests.h"
 
 enum { COMMITS = 40, PARENTS = 90, ROOM = 1 << 16 };
 
-static size_t requests, refused, held, refusals;
-
-void *__real_malloc(size_t size);
-void *__real_realloc(void *old, size_t size);
-void __real_free(void *old);
-
-void *__wrap_malloc(size_t size) {
-    void *made = ++requests == refused ? NULL : __real_malloc(size);
-    held += made != NULL;
-    return made;
-}
-
-void *__wrap_realloc(void *old, size_t size) {
-    void *made = ++requests == refused ? NULL : __real_realloc(old, size);
-    held += old == NULL && made != NULL;
-    return made;
-}
-
-void __wrap_free(void *old) {
-    held -= old != NULL;
-    __real_free(old);
-}
+static size_t refusals;
 
 static void fail(const char *why, const char *what) {
     fprintf(stderr, "mapped-folder: %s, %s\n", what, why);
