@@ -21,30 +21,9 @@ import typing
 
 
 class Number(enum.IntEnum):
-    """The numbers of answers, as in `kestrelrack.h`. Those from READ to DISAGREES are never answered."""
+    """The numbers of answers, each explained in `kestrelrack.h`. Those from READ to DISAGREES are never answered."""
 
-    WELL = 0
-    ROOM = 1
-    USAGE = 2
-    ID = 3
-    RECORD = 4
-    MISSING = 5
-    WRONG_KIND = 6
-    BROKEN = 7
-    CYCLE = 8
-    MEMORY = 9
-    READ = 10
-    WRITE = 11
-    INTERNAL = 12
-    GRAPH = 13
-    ROW = 14
-    DISAGREES = 15
-    NAME = 16
-    MORE = 17
-    REPOSITORY = 18
-    REVISION = 19
-    OBJECTS = 20
-    HASH = 21
+    # @NUMBERS@
 
 
 class Answer(ctypes.Structure):

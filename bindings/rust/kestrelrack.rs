@@ -16,30 +16,9 @@ use std::os::unix::ffi::{OsStrExt, OsStringExt};
 use std::os::unix::fs::MetadataExt;
 use std::path::{Path, PathBuf};
 
-/// The numbers of answers, as in `kestrelrack.h`. Those from `READ` to `DISAGREES` are never answered.
+/// The numbers of answers, each explained in `kestrelrack.h`. Those from `READ` to `DISAGREES` are never answered.
 pub mod number {
-    pub const WELL: u32 = 0;
-    pub const ROOM: u32 = 1;
-    pub const USAGE: u32 = 2;
-    pub const ID: u32 = 3;
-    pub const RECORD: u32 = 4;
-    pub const MISSING: u32 = 5;
-    pub const WRONG_KIND: u32 = 6;
-    pub const BROKEN: u32 = 7;
-    pub const CYCLE: u32 = 8;
-    pub const MEMORY: u32 = 9;
-    pub const READ: u32 = 10;
-    pub const WRITE: u32 = 11;
-    pub const INTERNAL: u32 = 12;
-    pub const GRAPH: u32 = 13;
-    pub const ROW: u32 = 14;
-    pub const DISAGREES: u32 = 15;
-    pub const NAME: u32 = 16;
-    pub const MORE: u32 = 17;
-    pub const REPOSITORY: u32 = 18;
-    pub const REVISION: u32 = 19;
-    pub const OBJECTS: u32 = 20;
-    pub const HASH: u32 = 21;
+    // @NUMBERS@
 }
 
 #[repr(C)]

@@ -59,7 +59,8 @@ fn after_long_list(rows: u32, words: &[u8]) -> Option<&[u8]>
 /// The overflow words that a row leaves, whose parent words these are; the word `next` is the first that is left.
 fn after_parents(rows: u32, next: u32, first: u32, second: u32, words: &[u8]) -> Option<&[u8]>
     requires { next < 2147483647 }
-    ensures { option_map (λ rest. words_of rest.now) result ≡ option_map (λ p. p.1) (parents_at rows next first second (words_of words.now)) }
+    ensures { option_map (λ rest. words_of rest.now) result
+        ≡ option_map (λ p. p.1) (parents_at rows next first second (words_of words.now)) }
 {
     if first == NO_PARENT {
         return if second == NO_PARENT {
@@ -156,7 +157,8 @@ fn check_row<'a>(
     requires before { IfSome before (λ row. row_len layout.kind ≤ length row.now) }
     requires whole { row_len layout.kind ≤ length row.now }
     ensures { (left : ℕ) → StepsOver (rows_left layout (left + 1) r (id_before layout.kind before.entry) row.now (words_of words.now))
-        (λ rest. rows_left layout left (r + 1) (Some (id_field layout.kind row.now)) (drop (row_len layout.kind) row.now) (words_of rest.now)) result }
+        (λ rest. rows_left layout left (r + 1) (Some (id_field layout.kind row.now)) (drop (row_len layout.kind) row.now) (words_of rest.now))
+        result }
 {
     if !is_above(layout.kind, before, row) {
         return Err(Place::Order(r));
@@ -192,7 +194,8 @@ fn check_rows(layout: Layout, rows: &[u8], words: &[u8]) -> Result<(), Place>
 
 /// The layout of packed rows, and of other bytes the first place that is not as it should be.
 pub(super) fn check(bytes: &[u8]) -> Result<Layout, Place>
-    ensures { MatchResult result (λ layout. IsPackedAs bytes.now layout (rows_in (read_packed bytes.now)) × IsOk (read_packed bytes.now)) (λ place. read_packed bytes.now ≡ Err place) }
+    ensures { MatchResult result (λ layout. IsPackedAs bytes.now layout (rows_in (read_packed bytes.now)) × IsOk (read_packed bytes.now))
+        (λ place. read_packed bytes.now ≡ Err place) }
 {
     let layout = layout_of(bytes)?;
     let rows = bytes.split_at(12).1;

@@ -57,7 +57,8 @@ fn second_word(parents: &[ParentPlace], next: u32, numbers: &[u32]) -> u32
 fn push_row(out: &mut Vec<u8>, row: &Row, next: u32, numbers: &[u32]) -> Result<(), AllocError>
     requires places { AllByRecursion (IsPlaceAmong (length numbers.now)) row.now.parents.items }
     requires few { next ≤ most }
-    ensures bytes { OnOk result (out.new.items ≡ out.old.items ++ row_bytes next (renumbered (slice_index numbers.now) (row_seen row.now))) }
+    ensures bytes { OnOk result (out.new.items ≡ out.old.items
+        ++ row_bytes next (renumbered (slice_index numbers.now) (row_seen row.now))) }
     ensures range { IsInRange (row_seen row.now) }
 {
     let first = first_word(row.parents.as_slice(), numbers);
@@ -77,7 +78,8 @@ fn push_row(out: &mut Vec<u8>, row: &Row, next: u32, numbers: &[u32]) -> Result<
 fn push_list(out: &mut Vec<u8>, parents: &[ParentPlace], numbers: &[u32]) -> Result<(), AllocError>
     requires places { AllByRecursion (IsPlaceAmong (length numbers.now)) parents.now }
     requires small { (place : ℕ) → slice_index numbers.now place ≤ most }
-    ensures { OnOk result (out.new.items ≡ out.old.items ++ flat_map (to_be_bytes w32) (overflow_of (map (moved (slice_index numbers.now)) parents.now))) }
+    ensures { OnOk result (out.new.items ≡ out.old.items
+        ++ flat_map (to_be_bytes w32) (overflow_of (map (moved (slice_index numbers.now)) parents.now))) }
 {
     if parents.len() < 3 {
         return Ok(());
@@ -119,7 +121,8 @@ fn push_lists(
     numbers: &[u32],
 ) -> Result<(), AllocError>
     requires { CanArrange (rows_seen rows.now) order.now numbers.now }
-    ensures { OnOk result (out.new.items ≡ out.old.items ++ flat_map (to_be_bytes w32) (overflow_words (arranged (rows_seen rows.now) order.now numbers.now))) }
+    ensures { OnOk result (out.new.items ≡ out.old.items
+        ++ flat_map (to_be_bytes w32) (overflow_words (arranged (rows_seen rows.now) order.now numbers.now))) }
 {
     for (_, place) in order {
         let row = &rows[*place as usize];

@@ -22,7 +22,8 @@ pub(super) fn overflow_len(parents: &[ParentPlace]) -> usize
 
 /// How many overflow words the rows have, where they are not too many.
 pub(super) fn count_words(rows: &[Row]) -> Option<u32>
-    ensures { MatchOption result (most < length (overflow_words (rows_seen rows.now))) (λ words. (words ≡ length (overflow_words (rows_seen rows.now))) × (words ≤ most)) }
+    ensures { MatchOption result (most < length (overflow_words (rows_seen rows.now)))
+        (λ words. (words ≡ length (overflow_words (rows_seen rows.now))) × (words ≤ most)) }
 {
     let mut words = 0;
     for row in rows {
@@ -115,7 +116,8 @@ fn kind_of_rows(rows: &[Row]) -> Kind
 
 /// What the head of the rows' packed bytes will say, where they are not too many and of one kind.
 pub(super) fn layout_of(rows: &[Row]) -> Result<Layout, GraphError>
-    ensures { MatchResult result (HasLayout (rows_seen rows.now)) (λ error. Refuses (rows_seen rows.now) error × (error ≢ GraphError.Memory)) }
+    ensures { MatchResult result (HasLayout (rows_seen rows.now))
+        (λ error. Refuses (rows_seen rows.now) error × (error ≢ GraphError.Memory)) }
 {
     if rows.len() > MOST as usize {
         return Err(GraphError::TooMany);

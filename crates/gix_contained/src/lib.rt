@@ -90,7 +90,8 @@ pub fn contained<F: Find>(
     graph: Option<&Graph>,
 ) -> Result<Vec<ObjectId>, Error>
     ensures ok { IfOk result (λ those. Selects (F.objects objects.now) (rows_in graph.entry) tips.now ids.now those.items) }
-    ensures err { IfErr result (λ e. e ≢ error.Memory → FailsBy (F.objects objects.now) (F.faulty objects.now) (rows_in graph.entry) tips.now ids.now e) }
+    ensures err { IfErr result (λ e. e ≢ error.Memory
+        → FailsBy (F.objects objects.now) (F.faulty objects.now) (rows_in graph.entry) tips.now ids.now e) }
 {
     if tips.is_empty() || ids.is_empty() {
         return Ok(Vec::new(alloc));

@@ -115,8 +115,10 @@ pub(super) fn reached<'a, F: Find>(
     tips: &[ObjectId],
     mut asked: AskedIds,
 ) -> Result<IdSet, Hidden>
-    ensures ok { IfOk result (λ met. (ids : List ObjectId) → AreAsked (rows_in graph.entry) ids asked → Decides (F.objects objects.now) (rows_in graph.entry) tips.now ids met) }
-    ensures fault { IfErr result (λ why. (ids : List ObjectId) → AreAsked (rows_in graph.entry) ids asked → SearchFails (F.objects objects.now) (F.faulty objects.now) (rows_in graph.entry) tips.now ids why) }
+    ensures ok { IfOk result (λ met. (ids : List ObjectId) → AreAsked (rows_in graph.entry) ids asked
+        → Decides (F.objects objects.now) (rows_in graph.entry) tips.now ids met) }
+    ensures fault { IfErr result (λ why. (ids : List ObjectId) → AreAsked (rows_in graph.entry) ids asked
+        → SearchFails (F.objects objects.now) (F.faulty objects.now) (rows_in graph.entry) tips.now ids why) }
 {
     let mut search = Search {
         source: Source {

@@ -65,7 +65,8 @@ impl<'a, F: Find> Source<'a, F> {
         ensures graph { self.new.graph ≡ self.old.graph }
         ensures in_use { self.new.in_use ≡ self.old.in_use }
         ensures read { IfOk result (λ stored. Reads (F.objects self.old.objects.now) id.now stored.parent_ids.items) }
-        ensures fault { IfErr result (λ why. why ≢ Hidden.Find existing.Memory → IsFaultAt (F.objects self.old.objects.now) (F.faulty self.old.objects.now) id.now why) }
+        ensures fault { IfErr result (λ why. why ≢ Hidden.Find existing.Memory
+            → IsFaultAt (F.objects self.old.objects.now) (F.faulty self.old.objects.now) id.now why) }
     {
         let Header { parent_ids, time } = find_header(
             self.alloc,
@@ -122,7 +123,8 @@ impl<'a, F: Find> Source<'a, F> {
     fn read(&mut self, id: &ObjectId, near: u32) -> Result<Named, Hidden>
         ensures objects { self.new.objects ≡ self.old.objects }
         ensures graph { self.new.graph ≡ self.old.graph }
-        ensures read { IfOk result (λ named. ReadsParents (F.objects self.old.objects.now) (rows_in self.old.graph) self.old.in_use id.now named.parent_ids.items self.new.in_use) }
+        ensures read { IfOk result (λ named. ReadsParents (F.objects self.old.objects.now) (rows_in self.old.graph) self.old.in_use id.now
+            named.parent_ids.items self.new.in_use) }
         ensures fault { IfErr result (λ why. why ≢ Hidden.Find existing.Memory → IsPassed (rows_in self.old.graph) self.old.in_use id.now
             × IsFaultAt (F.objects self.old.objects.now) (F.faulty self.old.objects.now) id.now why) }
     {
@@ -143,8 +145,10 @@ impl<'a, F: Find> Source<'a, F> {
     pub(super) fn parents(&mut self, waiting: Waiting) -> Result<Named, Hidden>
         ensures objects { self.new.objects ≡ self.old.objects }
         ensures graph { self.new.graph ≡ self.old.graph }
-        ensures parents { IfOk result (λ named. GivesParents (F.objects self.old.objects.now) (rows_in self.old.graph) self.old.in_use waiting named.parent_ids.items self.new.in_use) }
-        ensures fault { IfErr result (λ why. why ≢ Hidden.Find existing.Memory → IsPassed (rows_in self.old.graph) self.old.in_use waiting.id
+        ensures parents { IfOk result (λ named. GivesParents (F.objects self.old.objects.now) (rows_in self.old.graph) self.old.in_use
+            waiting named.parent_ids.items self.new.in_use) }
+        ensures fault { IfErr result (λ why. why ≢ Hidden.Find existing.Memory
+            → IsPassed (rows_in self.old.graph) self.old.in_use waiting.id
             × IsFaultAt (F.objects self.old.objects.now) (F.faulty self.old.objects.now) waiting.id why) }
     {
         let Waiting {

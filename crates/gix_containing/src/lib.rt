@@ -55,7 +55,8 @@ pub fn containing<F: Find>(
     graph: Option<&Graph>,
 ) -> Result<Vec<ObjectId>, Error>
     ensures ok { IfOk result (λ those. FindsContaining (F.objects objects.now) (rows_in graph.entry) target tips.now those.items) }
-    ensures err { IfErr result (λ e. e ≢ error.Memory → FailsBy (F.objects objects.now) (F.faulty objects.now) (rows_in graph.entry) target tips.now e) }
+    ensures err { IfErr result (λ e. e ≢ error.Memory
+        → FailsBy (F.objects objects.now) (F.faulty objects.now) (rows_in graph.entry) target tips.now e) }
 {
     let marks = marked(alloc, target, tips, objects, graph)?;
     let others = others_among(alloc, tips, &marks)?;
@@ -76,7 +77,8 @@ fn marked<F: Find>(
     graph: Option<&Graph>,
 ) -> Result<IdSet, Error>
     ensures ok { IfOk result (MarksOnly (F.objects objects.now) (rows_in graph.entry) target tips.now) }
-    ensures err { IfErr result (λ e. e ≢ error.Memory → FailsBy (F.objects objects.now) (F.faulty objects.now) (rows_in graph.entry) target tips.now e) }
+    ensures err { IfErr result (λ e. e ≢ error.Memory
+        → FailsBy (F.objects objects.now) (F.faulty objects.now) (rows_in graph.entry) target tips.now e) }
 {
     let walk = walk_from(alloc, target, tips, objects, graph)?;
     let children = children_of(alloc, objects.keys(), walk)?;
@@ -93,7 +95,8 @@ fn reaches<F: Find>(
     graph: Option<&Graph>,
 ) -> Result<bool, Error>
     ensures ok { IfOk result (λ any. TellsReach (F.objects objects.now) (rows_in graph.entry) tips.now target any) }
-    ensures err { IfErr result (λ e. e ≢ error.Memory → FailsBy (F.objects objects.now) (F.faulty objects.now) (rows_in graph.entry) target tips.now e) }
+    ensures err { IfErr result (λ e. e ≢ error.Memory
+        → FailsBy (F.objects objects.now) (F.faulty objects.now) (rows_in graph.entry) target tips.now e) }
 {
     let met = contained(alloc, tips, &[target], objects, graph)?;
     Ok(!met.is_empty())
@@ -108,7 +111,8 @@ fn each_alone<F: Find>(
     graph: Option<&Graph>,
 ) -> Result<Vec<ObjectId>, Error>
     ensures ok { IfOk result (λ those. SelectsTips (F.objects objects.now) (rows_in graph.entry) target tips.now those.items) }
-    ensures err { IfErr result (λ e. e ≢ error.Memory → FailsBy (F.objects objects.now) (F.faulty objects.now) (rows_in graph.entry) target tips.now e) }
+    ensures err { IfErr result (λ e. e ≢ error.Memory
+        → FailsBy (F.objects objects.now) (F.faulty objects.now) (rows_in graph.entry) target tips.now e) }
 {
     let mut those = Vec::new(alloc);
     for tip in tips {

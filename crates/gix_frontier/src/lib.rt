@@ -53,7 +53,8 @@ impl Flags for Marks {
 
     ghost exact = { ⊤ };
 
-    ghost table = { (codes "TIPS_MET", 1) ∷ (codes "TIPS_DONE", 2) ∷ (codes "ENDS_MET", 4) ∷ (codes "ENDS_DONE", 8) ∷ (codes "WAS_READY", 16) ∷ [] };
+    ghost table = { (codes "TIPS_MET", 1) ∷ (codes "TIPS_DONE", 2) ∷ (codes "ENDS_MET", 4) ∷ (codes "ENDS_DONE", 8)
+        ∷ (codes "WAS_READY", 16) ∷ [] };
 
     ghost set_of = { λ m. m.0 };
 

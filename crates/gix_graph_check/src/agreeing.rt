@@ -51,7 +51,8 @@ fn place_agrees(
 fn places_agree(graph: &Graph, generation: u32, commit: Commit<'_>, ids: &[ObjectId]) -> bool
     requires rows { AreGraphRows graph.now }
     requires same { rows_of_commit commit ≡ graph.now }
-    ensures { MatchBool result (PlacesAgree graph.now generation ids.now (row_of_commit commit.entry).parents) (¬ PlacesAgree graph.now generation ids.now (row_of_commit commit.entry).parents) }
+    ensures { MatchBool result (PlacesAgree graph.now generation ids.now (row_of_commit commit.entry).parents)
+        (¬ PlacesAgree graph.now generation ids.now (row_of_commit commit.entry).parents) }
 {
     let mut places = commit.iter_parents();
     for id in ids {
@@ -70,7 +71,8 @@ fn places_agree(graph: &Graph, generation: u32, commit: Commit<'_>, ids: &[Objec
 pub fn row_agrees(graph: &Graph, commit: Commit<'_>, stored: &StoredCommit) -> bool
     requires rows { AreGraphRows graph.now }
     requires same { rows_of_commit commit ≡ graph.now }
-    ensures { MatchBool result (AgreesWith graph.now (row_of_commit commit.entry) (commit_shown stored.now)) (¬ AgreesWith graph.now (row_of_commit commit.entry) (commit_shown stored.now)) }
+    ensures { MatchBool result (AgreesWith graph.now (row_of_commit commit.entry) (commit_shown stored.now))
+        (¬ AgreesWith graph.now (row_of_commit commit.entry) (commit_shown stored.now)) }
 {
     let generation = commit.generation();
     if generation == GENERATION_NUMBER_INFINITY {
@@ -105,7 +107,8 @@ fn read_stored<F: Find>(
     id: ObjectId,
     text: &mut Vec<u8>,
 ) -> Result<StoredCommit, Disagreement>
-    ensures { MatchResult result (λ stored. commit_at (F.objects store.now) id ≡ Some (commit_shown stored)) (IsUnread (F.objects store.now) (F.faulty store.now) id) }
+    ensures { MatchResult result (λ stored. commit_at (F.objects store.now) id ≡ Some (commit_shown stored))
+        (IsUnread (F.objects store.now) (F.faulty store.now) id) }
 {
     let items = match store.find_commit_iter(&id, text) {
         Ok(items) => items,
@@ -128,7 +131,8 @@ fn check_row<F: Find>(
 ) -> Result<(), Disagreement>
     requires rows { AreGraphRows graph.now }
     requires within { number < length graph.now }
-    ensures { MatchResult result (λ _. RowAgrees (F.objects store.now) graph.now (row_at graph.now number)) (RowDisagrees (F.objects store.now) (F.faulty store.now) graph.now number) }
+    ensures { MatchResult result (λ _. RowAgrees (F.objects store.now) graph.now (row_at graph.now number))
+        (RowDisagrees (F.objects store.now) (F.faulty store.now) graph.now number) }
 {
     let commit = graph.commit_at(Position(number));
     let id = commit.id();

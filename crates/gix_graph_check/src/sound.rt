@@ -23,7 +23,8 @@ fn is_sound_place(graph: &Graph, generation: u32, place: Result<Position, Parent
 /// Whether each place of the commit is the row of a generation below this one.
 fn has_sound_places(graph: &Graph, generation: u32, commit: Commit<'_>) -> bool
     requires { rows_of_commit commit ≡ graph.now }
-    ensures { MatchBool result (AllByRecursion (IsSoundPlace graph.now generation) (row_of_commit commit.entry).parents) (¬ AllByRecursion (IsSoundPlace graph.now generation) (row_of_commit commit.entry).parents) }
+    ensures { MatchBool result (AllByRecursion (IsSoundPlace graph.now generation) (row_of_commit commit.entry).parents)
+        (¬ AllByRecursion (IsSoundPlace graph.now generation) (row_of_commit commit.entry).parents) }
 {
     let mut places = commit.iter_parents();
     while let Some(place) = places.next() {

@@ -52,7 +52,8 @@ fn edge_list<'a>(
     limit: usize,
     edges: &'a [u8],
 ) -> Result<Option<&'a [u8]>, AllocError>
-    ensures { IfOk result (λ left. joined out.old.items (edge_list limit (words_of edges.now)) ≡ option_map (λ bytes. (out.new.items, words_of bytes.now)) left) }
+    ensures { IfOk result (λ left. joined out.old.items (edge_list limit (words_of edges.now))
+        ≡ option_map (λ bytes. (out.new.items, words_of bytes.now)) left) }
 {
     let mut left = edges;
     while let [a, b, c, d, rest @ ..] = left {
@@ -73,7 +74,8 @@ fn long_edge_list<'a>(
     limit: usize,
     edges: &'a [u8],
 ) -> Result<Option<&'a [u8]>, AllocError>
-    ensures { IfOk result (λ left. joined out.old.items (long_edge_list limit (words_of edges.now)) ≡ option_map (λ bytes. (out.new.items, words_of bytes.now)) left) }
+    ensures { IfOk result (λ left. joined out.old.items (long_edge_list limit (words_of edges.now))
+        ≡ option_map (λ bytes. (out.new.items, words_of bytes.now)) left) }
 {
     match edges {
         [a, b, c, d, ..] => {
@@ -97,7 +99,8 @@ fn second_parents<'a>(
     edges: &'a [u8],
 ) -> Result<Option<&'a [u8]>, AllocError>
     requires { at ≤ most_words }
-    ensures { IfOk result (λ left. joined out.old.items (second_said limit at second (words_of edges.now)) ≡ option_map (λ bytes. (out.new.items, words_of bytes.now)) left) }
+    ensures { IfOk result (λ left. joined out.old.items (second_said limit at second (words_of edges.now))
+        ≡ option_map (λ bytes. (out.new.items, words_of bytes.now)) left) }
 {
     if second == NONE {
         return Ok(Some(edges));
@@ -123,7 +126,8 @@ fn parents<'a>(
     edges: &'a [u8],
 ) -> Result<Option<&'a [u8]>, AllocError>
     requires { at ≤ most_words }
-    ensures { IfOk result (λ left. joined out.old.items (parents_said limit at first second (words_of edges.now)) ≡ option_map (λ bytes. (out.new.items, words_of bytes.now)) left) }
+    ensures { IfOk result (λ left. joined out.old.items (parents_said limit at first second (words_of edges.now))
+        ≡ option_map (λ bytes. (out.new.items, words_of bytes.now)) left) }
 {
     if first == NONE {
         return if second == NONE {
@@ -183,7 +187,9 @@ fn row<'a>(
     requires tree { length tree.now ≡ id_len kind }
     requires numbers { 16 ≤ length numbers.now }
     requires few { at ≤ most_words }
-    ensures { MatchResult result (λ read. row_read kind limit at r before id.now tree.now numbers.now (words_of edges.now) ≡ Ok (row_seen read.0, words_of read.1.now)) (λ error. error ≢ Error.Memory → row_read kind limit at r before id.now tree.now numbers.now (words_of edges.now) ≡ Err error) }
+    ensures { MatchResult result (λ read. row_read kind limit at r before id.now tree.now numbers.now (words_of edges.now)
+        ≡ Ok (row_seen read.0, words_of read.1.now))
+        (λ error. error ≢ Error.Memory → row_read kind limit at r before id.now tree.now numbers.now (words_of edges.now) ≡ Err error) }
 {
     let id = id_of(kind, id);
     if !is_above(before, id) {
@@ -276,7 +282,8 @@ fn add_parts(alloc: Global, below: &mut Below, file: &[u8], layout: Layout<'_>) 
     requires whole { IsWhole (seen layout) }
     requires table { HasTable layout.kind file.now }
     ensures layer { OnOk result (with_parts (below_seen below.old) file.now (seen layout.entry) ≡ Ok (below_seen below.new)) }
-    ensures fault { IfErr result (λ error. error ≢ Error.Memory → with_parts (below_seen below.old) file.now (seen layout.entry) ≡ Err error) }
+    ensures fault { IfErr result (λ error. error ≢ Error.Memory
+        → with_parts (below_seen below.old) file.now (seen layout.entry) ≡ Err error) }
 {
     if !is_kind(below.kind, layout.kind) {
         return Err(Error::Kind);

@@ -93,7 +93,8 @@ fn push_row(
 /// Writes the rows.
 fn push_rows(out: &mut Vec<u8>, layout: Layout<'_>) -> Result<(), AllocError>
     requires { IsWhole (seen layout) }
-    ensures { OnOk result (out.new.items ≡ out.old.items ++ rows_packed layout.entry.kind layout.entry.rows layout.entry.rows layout.entry.ids.now layout.entry.commits.now) }
+    ensures { OnOk result (out.new.items ≡ out.old.items
+        ++ rows_packed layout.entry.kind layout.entry.rows layout.entry.rows layout.entry.ids.now layout.entry.commits.now) }
 {
     let len = layout.kind.len_in_bytes();
     let mut ids = layout.ids;

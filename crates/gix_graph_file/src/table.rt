@@ -184,7 +184,8 @@ fn sized<'a>(
     commits: &'a [u8],
     edges: &'a [u8],
 ) -> Result<Layout<'a>, Error>
-    ensures parts { MatchResult result (λ layout. sized_parts kind fan_out.now ids.now commits.now edges.now ≡ Ok (seen layout)) (λ error. sized_parts kind fan_out.now ids.now commits.now edges.now ≡ Err error) }
+    ensures parts { MatchResult result (λ layout. sized_parts kind fan_out.now ids.now commits.now edges.now ≡ Ok (seen layout))
+        (λ error. sized_parts kind fan_out.now ids.now commits.now edges.now ≡ Err error) }
     ensures whole { IfOk result (λ layout. IsWhole (seen layout)) }
     ensures kind { IfOk result (λ layout. layout.kind ≡ kind) }
 {
@@ -241,7 +242,8 @@ fn parts_of(kind: Kind, file: &[u8]) -> Result<Layout<'_>, Error>
 
 /// The parts of a file that say its rows, where it has this number of lower layers.
 pub(super) fn layout_of(number: usize, file: &[u8]) -> Result<Layout<'_>, Error>
-    ensures parts { MatchResult result (λ layout. read_layer number file.now ≡ Ok (seen layout)) (λ error. read_layer number file.now ≡ Err error) }
+    ensures parts { MatchResult result (λ layout. read_layer number file.now ≡ Ok (seen layout))
+        (λ error. read_layer number file.now ≡ Err error) }
     ensures whole { IfOk result (λ layout. IsWhole (seen layout)) }
     ensures table { IfOk result (λ layout. HasTable layout.kind file.now) }
 {

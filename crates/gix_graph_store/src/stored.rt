@@ -27,7 +27,8 @@ fn is_id(id: ObjectId, other: &ObjectId) -> bool
 /// Whether the places of the commit are rows of these ids, in their order.
 fn are_parents(graph: &Graph, commit: Commit<'_>, ids: &[ObjectId]) -> bool
     requires { rows_of_commit commit ≡ graph.now }
-    ensures { MatchBool result (ids_at graph.now (row_of_commit commit.entry).parents ≡ Some ids.now) (ids_at graph.now (row_of_commit commit.entry).parents ≢ Some ids.now) }
+    ensures { MatchBool result (ids_at graph.now (row_of_commit commit.entry).parents ≡ Some ids.now)
+        (ids_at graph.now (row_of_commit commit.entry).parents ≢ Some ids.now) }
 {
     let mut places = commit.iter_parents();
     for id in ids {
@@ -47,7 +48,8 @@ fn are_parents(graph: &Graph, commit: Commit<'_>, ids: &[ObjectId]) -> bool
 /// Whether the row of the commit says what its text says.
 fn says(graph: &Graph, commit: Commit<'_>, stored: &StoredCommit) -> bool
     requires { rows_of_commit commit ≡ graph.now }
-    ensures { MatchBool result (Says graph.now (row_of_commit commit.entry) (commit_shown stored.now)) (¬ Says graph.now (row_of_commit commit.entry) (commit_shown stored.now)) }
+    ensures { MatchBool result (Says graph.now (row_of_commit commit.entry) (commit_shown stored.now))
+        (¬ Says graph.now (row_of_commit commit.entry) (commit_shown stored.now)) }
 {
     if stored.time != commit.committer_timestamp() {
         return false;
@@ -68,7 +70,8 @@ fn is_said(
     text: &[u8],
 ) -> Result<bool, AllocError>
     requires { rows_of_commit commit ≡ graph.now }
-    ensures { IfOk result (λ said. MatchBool said (IsSaid graph.now (row_of_commit commit.entry) id kind text.now) (¬ IsSaid graph.now (row_of_commit commit.entry) id kind text.now)) }
+    ensures { IfOk result (λ said. MatchBool said (IsSaid graph.now (row_of_commit commit.entry) id kind text.now)
+        (¬ IsSaid graph.now (row_of_commit commit.entry) id kind text.now)) }
 {
     match kind {
         Kind::Commit => {}
@@ -99,7 +102,8 @@ fn check_row<F: Find>(
     text: &mut Vec<u8>,
 ) -> Result<(), Disagreement>
     requires { number < length graph.now }
-    ensures { MatchResult result (λ _. IsStoredSo graph.now (F.objects store.now) (row_at graph.now number)) (IsNotStoredSo (F.objects store.now) (F.faulty store.now) graph.now number) }
+    ensures { MatchResult result (λ _. IsStoredSo graph.now (F.objects store.now) (row_at graph.now number))
+        (IsNotStoredSo (F.objects store.now) (F.faulty store.now) graph.now number) }
 {
     let commit = graph.commit_at(Position(number));
     let id = commit.id();

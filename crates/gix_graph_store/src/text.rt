@@ -28,7 +28,8 @@ fn add_id_line(text: &mut Vec<u8>, word: &[u8], id: &ObjectId) -> Result<(), All
 /// Adds a line for each parent of a commit, and says whether all its places are rows.
 fn add_parents(text: &mut Vec<u8>, graph: &Graph, commit: Commit<'_>) -> Result<bool, AllocError>
     requires { rows_of_commit commit ≡ graph.now }
-    ensures { IfOk result (λ whole. text_if whole text.new.items ≡ option_map (λ ids. text.old.items ++ parent_lines ids) (ids_at graph.now (row_of_commit commit.entry).parents)) }
+    ensures { IfOk result (λ whole. text_if whole text.new.items ≡ option_map (λ ids. text.old.items ++ parent_lines ids)
+        (ids_at graph.now (row_of_commit commit.entry).parents)) }
 {
     let mut places = commit.iter_parents();
     while let Some(place) = places.next() {

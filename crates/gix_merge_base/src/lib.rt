@@ -152,7 +152,8 @@ pub fn merge_bases<F: Find>(
     graph: Option<&Graph>,
 ) -> Result<Vec<ObjectId>, Error>
     ensures ok { IfOk result (λ bases. FindsBases (F.objects objects.now) (rows_in graph.entry) one others.now bases.items) }
-    ensures err { IfErr result (λ e. e ≢ error.Memory → FailsBy (F.objects objects.now) (F.faulty objects.now) (rows_in graph.entry) one others.now e) }
+    ensures err { IfErr result (λ e. e ≢ error.Memory
+        → FailsBy (F.objects objects.now) (F.faulty objects.now) (rows_in graph.entry) one others.now e) }
 {
     let common = first_common(alloc, one, others, objects, graph)?;
     let parents = other_parents(alloc, &common, objects, graph)?;
@@ -173,7 +174,8 @@ fn first_common<F: Find>(
     graph: Option<&Graph>,
 ) -> Result<Vec<ObjectId>, Error>
     ensures ok { IfOk result (λ common. MeetsFirst (F.objects objects.now) (rows_in graph.entry) one others.now common.items) }
-    ensures err { IfErr result (λ e. e ≢ error.Memory → FailsBy (F.objects objects.now) (F.faulty objects.now) (rows_in graph.entry) one others.now e) }
+    ensures err { IfErr result (λ e. e ≢ error.Memory
+        → FailsBy (F.objects objects.now) (F.faulty objects.now) (rows_in graph.entry) one others.now e) }
 {
     let walk = walk_from(alloc, one, others, objects, graph)?;
     let Gathered { only, named } = gather(alloc, objects.keys(), others, walk)?;
@@ -204,7 +206,8 @@ pub fn walk_from<'a, F: Find>(
     objects: &'a F,
     graph: Option<&Graph>,
 ) -> Result<Simple<&'a F, Unfiltered>, Error>
-    ensures ok { IfOk result (λ walk. StartsFrom (λ (f : Bor F). F.objects f.now) (λ (f : Bor F). F.faulty f.now) accepts_all objects.entry (record {}) (rows_in graph.entry) one others.now walk) }
+    ensures ok { IfOk result (λ walk. StartsFrom (λ (f : Bor F). F.objects f.now) (λ (f : Bor F). F.faulty f.now) accepts_all objects.entry
+        (record {}) (rows_in graph.entry) one others.now walk) }
     ensures err { IfErr result (λ e. e ≡ error.Memory) }
 {
     let rows = copy_of(graph)?;

@@ -140,7 +140,8 @@ impl<'a, F: Find> Painter<'a, F> {
     /// Puts a commit into the queue.
     fn enqueue(&mut self, id: ObjectId, side: Side) -> Result<(), Hidden>
         ensures ok { IfOk result (λ _. Queues F.objects self.old id side self.new) }
-        ensures fault { IfErr result (FailsAmong (F.objects self.old.source.objects.now) (F.faulty self.old.source.objects.now) (rows_in (graph_in_use self.old.source)) (id ∷ [])) }
+        ensures fault { IfErr result (FailsAmong (F.objects self.old.source.objects.now) (F.faulty self.old.source.objects.now)
+            (rows_in (graph_in_use self.old.source)) (id ∷ [])) }
     {
         let LookedUp { key, parent_ids } = self.source.look_up(&id)?;
         self.queue.insert(
@@ -157,7 +158,8 @@ impl<'a, F: Find> Painter<'a, F> {
     /// An id that visible tips reach is queued once. One that is hidden already is left to the hidden side.
     fn show(&mut self, id: ObjectId) -> Result<(), Hidden>
         ensures ok { IfOk result (λ _. Meets F.objects Side.Visible (id ∷ []) self.old self.new) }
-        ensures fault { IfErr result (FailsAmong (F.objects self.old.source.objects.now) (F.faulty self.old.source.objects.now) (rows_in (graph_in_use self.old.source)) (id ∷ [])) }
+        ensures fault { IfErr result (FailsAmong (F.objects self.old.source.objects.now) (F.faulty self.old.source.objects.now)
+            (rows_in (graph_in_use self.old.source)) (id ∷ [])) }
     {
         if self.marks.get(&id).is_some() {
             return Ok(());
@@ -170,7 +172,8 @@ impl<'a, F: Find> Painter<'a, F> {
     /// An id that hidden tips reach is queued once for them, whatever visible tips did.
     fn hide(&mut self, id: ObjectId) -> Result<(), Hidden>
         ensures ok { IfOk result (λ _. Meets F.objects Side.Hidden (id ∷ []) self.old self.new) }
-        ensures fault { IfErr result (FailsAmong (F.objects self.old.source.objects.now) (F.faulty self.old.source.objects.now) (rows_in (graph_in_use self.old.source)) (id ∷ [])) }
+        ensures fault { IfErr result (FailsAmong (F.objects self.old.source.objects.now) (F.faulty self.old.source.objects.now)
+            (rows_in (graph_in_use self.old.source)) (id ∷ [])) }
     {
         if is_hidden(&self.marks, &id) {
             return Ok(());
@@ -183,7 +186,8 @@ impl<'a, F: Find> Painter<'a, F> {
     /// Ids that are reached on a side, in order.
     fn meet_all(&mut self, mut ids: &[ObjectId], side: Side) -> Result<(), Hidden>
         ensures ok { IfOk result (λ _. Meets F.objects side ids.entry.now self.old self.new) }
-        ensures fault { IfErr result (FailsAmong (F.objects self.old.source.objects.now) (F.faulty self.old.source.objects.now) (rows_in (graph_in_use self.old.source)) ids.entry.now) }
+        ensures fault { IfErr result (FailsAmong (F.objects self.old.source.objects.now) (F.faulty self.old.source.objects.now)
+            (rows_in (graph_in_use self.old.source)) ids.entry.now) }
     {
         while let Some((id, rest)) = ids.split_first() {
             match side {
@@ -197,7 +201,8 @@ impl<'a, F: Find> Painter<'a, F> {
 
     fn show_all(&mut self, tips: &VecDeque<Pending>) -> Result<(), Hidden>
         ensures ok { IfOk result (λ _. Meets F.objects Side.Visible (ids_of tips.now.items) self.old self.new) }
-        ensures fault { IfErr result (FailsAmong (F.objects self.old.source.objects.now) (F.faulty self.old.source.objects.now) (rows_in (graph_in_use self.old.source)) (ids_of tips.now.items)) }
+        ensures fault { IfErr result (FailsAmong (F.objects self.old.source.objects.now) (F.faulty self.old.source.objects.now)
+            (rows_in (graph_in_use self.old.source)) (ids_of tips.now.items)) }
     {
         for tip in tips.iter() {
             self.show(tip.id)?;
@@ -220,7 +225,8 @@ impl<'a, F: Find> Painter<'a, F> {
     /// The commit of an entry is read, and its parents are met on its side.
     fn treat(&mut self, entry: Entry) -> Result<(), Hidden>
         ensures ok { IfOk result (λ _. TreatsEntry F.objects self.old entry self.new) }
-        ensures fault { IfErr result (TreatFails (F.objects self.old.source.objects.now) (F.faulty self.old.source.objects.now) (graph_in_use self.old.source) entry) }
+        ensures fault { IfErr result (TreatFails (F.objects self.old.source.objects.now) (F.faulty self.old.source.objects.now)
+            (graph_in_use self.old.source) entry) }
     {
         if !self.begins(&entry) {
             return Ok(());
@@ -245,7 +251,8 @@ impl<'a, F: Find> Painter<'a, F> {
     /// The entry whose turn it is, and None where the painting is settled.
     fn next_entry(&mut self) -> Option<Entry>
         ensures none { IfNone result (IsSettled self.old × (self.new ≡ self.old)) }
-        ensures some { IfSome result (λ entry. ¬ (IsSettled self.old) × ((key : Key) × Pops ⟦<Key as Ord>⟧.cmp self.old (key, entry) self.new)) }
+        ensures some { IfSome result (λ entry. ¬ (IsSettled self.old)
+            × ((key : Key) × Pops ⟦<Key as Ord>⟧.cmp self.old (key, entry) self.new)) }
     {
         if self.is_settled() {
             return None;
@@ -278,8 +285,10 @@ pub fn paint<'a, F: Find>(
     tips: &VecDeque<Pending>,
     hidden_tips: &[ObjectId],
 ) -> Result<Painting, Hidden>
-    ensures ok { IfOk result (λ p. Paints (F.objects objects.now) (rows_in graph.entry) (ids_of tips.now.items) hidden_tips.now p.hidden (if p.rows_in_use then rows_in graph.entry else [])) }
-    ensures fault { IfErr result (λ why. why ≢ Hidden.Find existing.Memory → IsHiddenFault (F.objects objects.now) (F.faulty objects.now) (rows_in graph.entry)
+    ensures ok { IfOk result (λ p. Paints (F.objects objects.now) (rows_in graph.entry) (ids_of tips.now.items) hidden_tips.now p.hidden
+        (if p.rows_in_use then rows_in graph.entry else [])) }
+    ensures fault { IfErr result (λ why. why ≢ Hidden.Find existing.Memory
+        → IsHiddenFault (F.objects objects.now) (F.faulty objects.now) (rows_in graph.entry)
         (ids_of tips.now.items) hidden_tips.now why) }
 {
     let keys = objects.keys();

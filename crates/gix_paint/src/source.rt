@@ -84,7 +84,8 @@ impl<'a, F: Find> Source<'a, F> {
         ensures objects { self.new.objects ≡ self.old.objects }
         ensures graph { graph_in_use self.new ≡ graph_in_use self.old }
         ensures known { IfOk result (Knows (F.objects self.old.objects.now) (rows_in (graph_in_use self.old)) id.now) }
-        ensures fault { IfErr result (FailsAmong (F.objects self.old.objects.now) (F.faulty self.old.objects.now) (rows_in (graph_in_use self.old)) (id.now ∷ [])) }
+        ensures fault { IfErr result (FailsAmong (F.objects self.old.objects.now) (F.faulty self.old.objects.now)
+            (rows_in (graph_in_use self.old)) (id.now ∷ [])) }
     {
         if let Some(graph) = self.graph_in_use()
             && let Some(commit) = graph.commit_by_id(id)
@@ -112,8 +113,10 @@ impl<'a, F: Find> Source<'a, F> {
     /// The parents by the row, or else from the store.
     fn parents_of(&mut self, id: &ObjectId) -> Result<ParentIds, Hidden>
         ensures objects { self.new.objects ≡ self.old.objects }
-        ensures parents { IfOk result (λ ids. ReadsParents (F.objects self.old.objects.now) (graph_in_use self.old) id.now ids.items (graph_in_use self.new)) }
-        ensures fault { IfErr result (ReadFails (F.objects self.old.objects.now) (F.faulty self.old.objects.now) (rows_in (graph_in_use self.old)) id.now) }
+        ensures parents { IfOk result (λ ids. ReadsParents (F.objects self.old.objects.now) (graph_in_use self.old) id.now ids.items
+            (graph_in_use self.new)) }
+        ensures fault { IfErr result (ReadFails (F.objects self.old.objects.now) (F.faulty self.old.objects.now)
+            (rows_in (graph_in_use self.old)) id.now) }
     {
         if let Some(row) = read_row(self.alloc, self.graph, &mut self.in_use, id, NOWHERE)? {
             return Ok(row.parent_ids);
@@ -124,8 +127,10 @@ impl<'a, F: Find> Source<'a, F> {
     /// The parents of an entry's commit: those that it brings, or else those that are read now.
     pub(super) fn parents(&mut self, entry: Entry) -> Result<ParentIds, Hidden>
         ensures objects { self.new.objects ≡ self.old.objects }
-        ensures parents { IfOk result (λ ids. GivesParents (F.objects self.old.objects.now) (graph_in_use self.old) entry ids.items (graph_in_use self.new)) }
-        ensures fault { IfErr result (ReadFails (F.objects self.old.objects.now) (F.faulty self.old.objects.now) (rows_in (graph_in_use self.old)) entry.id) }
+        ensures parents { IfOk result (λ ids. GivesParents (F.objects self.old.objects.now) (graph_in_use self.old) entry ids.items
+            (graph_in_use self.new)) }
+        ensures fault { IfErr result (ReadFails (F.objects self.old.objects.now) (F.faulty self.old.objects.now)
+            (rows_in (graph_in_use self.old)) entry.id) }
     {
         let Entry { id, parent_ids, .. } = entry;
         match parent_ids {

@@ -89,7 +89,8 @@ pub fn read<R: Read>(alloc: Global, keys: Keys, reader: &mut R) -> Result<Memory
     ensures read { IfOk result (λ store. IsReadFrom (R.remaining reader.old) store) }
     ensures fault { IfErr result (λ e. IsReadFault (R.remaining reader.old) e) }
     // Input that is records is read, unless the reader fails or memory runs out.
-    ensures only { (input : List ℕ) (records : List Record) → R.remaining reader.old ≡ Some input → AreRecords records input → MatchResult result (λ store. store ≡ stored records) (λ e. (e ≡ Error.Read) ⊎ (e ≡ Error.Memory)) }
+    ensures only { (input : List ℕ) (records : List Record) → R.remaining reader.old ≡ Some input → AreRecords records input
+        → MatchResult result (λ store. store ≡ stored records) (λ e. (e ≡ Error.Read) ⊎ (e ≡ Error.Memory)) }
 {
     let input = read_to_end(alloc, reader, READS)?;
     records_of(alloc, keys, input)
@@ -104,7 +105,8 @@ pub fn records_of(alloc: Global, keys: Keys, input: Vec<u8>) -> Result<MemorySto
     ensures read { IfOk result (λ store. (records : List Record) × AreRecords records input.items × (store ≡ stored records)) }
     ensures fault { IfErr result (λ e. IsRecordFault input.items e) }
     // Input that is records is read, unless memory runs out.
-    ensures only { (records : List Record) → AreRecords records input.items → MatchResult result (λ store. store ≡ stored records) (λ e. e ≡ Error.Memory) }
+    ensures only { (records : List Record) → AreRecords records input.items
+        → MatchResult result (λ store. store ≡ stored records) (λ e. e ≡ Error.Memory) }
 {
     let objects = places_of(alloc, keys, input.as_slice())?;
     Ok(MemoryStore::over(input, objects))
@@ -119,7 +121,8 @@ pub fn records_in(alloc: Global, keys: Keys, bytes: &[u8]) -> Result<LentStore<'
     ensures read { IfOk result (λ store. (records : List Record) × AreRecords records bytes.now × (store ≡ stored records)) }
     ensures fault { IfErr result (λ e. IsRecordFault bytes.now e) }
     // Bytes that are records are read, unless memory runs out.
-    ensures only { (records : List Record) → AreRecords records bytes.now → MatchResult result (λ store. store ≡ stored records) (λ e. e ≡ Error.Memory) }
+    ensures only { (records : List Record) → AreRecords records bytes.now
+        → MatchResult result (λ store. store ≡ stored records) (λ e. e ≡ Error.Memory) }
 {
     let objects = places_of(alloc, keys, bytes)?;
     Ok(LentStore::over(bytes, objects))
@@ -128,9 +131,11 @@ pub fn records_in(alloc: Global, keys: Keys, bytes: &[u8]) -> Result<LentStore<'
 /// The places of the objects of the records that the bytes are.
 fn places_of(alloc: Global, keys: Keys, bytes: &[u8]) -> Result<IdMap<Stored>, Error>
     ensures within { IfOk result (λ places. AreWithin places (length bytes.now)) }
-    ensures read { IfOk result (λ places. (records : List Record) × AreRecords records bytes.now × (objects_at bytes.now places ≡ stored records)) }
+    ensures read { IfOk result (λ places. (records : List Record) × AreRecords records bytes.now
+        × (objects_at bytes.now places ≡ stored records)) }
     ensures fault { IfErr result (λ e. IsRecordFault bytes.now e) }
-    ensures only { (records : List Record) → AreRecords records bytes.now → MatchResult result (λ places. objects_at bytes.now places ≡ stored records) (λ e. e ≡ Error.Memory) }
+    ensures only { (records : List Record) → AreRecords records bytes.now
+        → MatchResult result (λ places. objects_at bytes.now places ≡ stored records) (λ e. e ≡ Error.Memory) }
 {
     let mut objects = IdMap::new(alloc, keys);
     let mut rest = bytes;

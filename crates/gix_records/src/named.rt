@@ -17,11 +17,14 @@ use std::alloc::Global;
 /// `Record` with the number of the first that isn't one, and `Name` with the number and the id of the first whose id is another than its
 /// object has, where all are records. `Memory`.
 pub fn named_records_in(alloc: Global, keys: Keys, bytes: &[u8]) -> Result<LentStore<'_>, Error>
-    ensures read { IfOk result (λ store. (records : List Record) × AreRecords records bytes.now × All IsNamedRecord records × (store ≡ stored records)) }
+    ensures read { IfOk result (λ store. (records : List Record) × AreRecords records bytes.now × All IsNamedRecord records
+        × (store ≡ stored records)) }
     ensures named { IfOk result (λ store. AreNamed store) }
-    ensures fault { IfErr result (λ e. IsRecordFault bytes.now e ⊎ ((records : List Record) × AreRecords records bytes.now × IsNameFault bytes.now e)) }
+    ensures fault { IfErr result (λ e. IsRecordFault bytes.now e
+        ⊎ ((records : List Record) × AreRecords records bytes.now × IsNameFault bytes.now e)) }
     // Bytes that are named records are read, unless memory runs out.
-    ensures only { (records : List Record) → AreRecords records bytes.now → All IsNamedRecord records → MatchResult result (λ store. store ≡ stored records) (λ e. e ≡ Error.Memory) }
+    ensures only { (records : List Record) → AreRecords records bytes.now → All IsNamedRecord records
+        → MatchResult result (λ store. store ≡ stored records) (λ e. e ≡ Error.Memory) }
 {
     let store = records_in(alloc, keys, bytes)?;
     check_names(bytes)?;

@@ -42,7 +42,8 @@ where
     R: Files + AllocGlobal + Clone + Drop,
     R::File: FileExt,
     // What the lines are, from lists of bytes up: they are right of objects each of whose ids is the hash of its object.
-    ensures named { graph.entry ≡ None → IfOk result (λ answered. Promises Fault.Write (map string_bytes words.now) (λ (given : Objects) (rows : List Row). AreNamed given × (rows ≡ [])) (Some []) answered.ended (Some answered.lines.items)) }
+    ensures named { graph.entry ≡ None → IfOk result (λ answered. Promises Fault.Write (map string_bytes words.now)
+        (λ (given : Objects) (rows : List Row). AreNamed given × (rows ≡ [])) (Some []) answered.ended (Some answered.lines.items)) }
 {
     part.read_first(odb, graph, watch)?;
     for _ in 0..MOST_READINGS {

@@ -117,7 +117,8 @@ pub fn find_header<F: Find>(
     text: &mut Vec<u8>,
 ) -> Result<Header, existing_iter::Error>
     ensures reads { IfOk result (ReadsHeader (F.objects objects.now) id.now) }
-    ensures fault { IfErr result (λ why. why ≢ existing.Memory → IsExistingFault (F.objects objects.now) (F.faulty objects.now) id.now object.Commit why) }
+    ensures fault { IfErr result (λ why. why ≢ existing.Memory
+        → IsExistingFault (F.objects objects.now) (F.faulty objects.now) id.now object.Commit why) }
 {
     let items = objects.find_commit_iter(id, text)?;
     match read_header(alloc, items) {

@@ -4,7 +4,7 @@ ghost use Rattle.std.specs.FinSet as set;
 ghost use Rattle.gix_object.specs.declared.find.existing_iter.Error.TheVariants as existing;
 ghost use Rattle.gix_paint.specs.declared.Hidden.TheVariants as hidden_by;
 ghost use Rattle.gix_paint.specs.Painting.{Paints, IsHiddenFault};
-ghost use Rattle.gix_simple.specs.Inside.Steps.{Hides, unpainted};
+ghost use Rattle.gix_simple.specs.Inside.Steps.{Hides, concealed, unpainted};
 ghost use Rattle.gix_simple.specs.Walk.{FirstStep};
 ghost use Rattle.gix_revwalk.specs.Ids.{ids_of};
 
@@ -74,8 +74,10 @@ impl<F: Find + Drop, P: Predicate + Drop> Simple<F, P> {
     }
 
     fn painted(&self, tips: &VecDeque<Pending>) -> Result<Painting, Hidden>
-        ensures ok { IfOk result (λ p. Paints (F.objects self.now.store) self.now.rows (ids_of tips.now.items) self.now.hidden_tips p.hidden (if p.rows_in_use then self.now.rows else [])) }
-        ensures fault { IfErr result (λ why. why ≢ hidden_by.Find existing.Memory → IsHiddenFault (F.objects self.now.store) (F.faulty self.now.store) self.now.rows
+        ensures ok { IfOk result (λ p. Paints (F.objects self.now.store) self.now.rows (ids_of tips.now.items) self.now.hidden_tips p.hidden
+            (if p.rows_in_use then self.now.rows else [])) }
+        ensures fault { IfErr result (λ why. why ≢ hidden_by.Find existing.Memory
+            → IsHiddenFault (F.objects self.now.store) (F.faulty self.now.store) self.now.rows
             (ids_of tips.now.items) self.now.hidden_tips why) }
     {
         paint(
@@ -122,7 +124,7 @@ impl<F: Find + Drop, P: Predicate + Drop> Simple<F, P> {
     }
 
     fn conceal(&mut self, shown: VecDeque<Pending>, painting: Painting)
-        ensures { self.new ≡ record self.old { pending = shown.items; hidden = painting.hidden; hidden_tips = []; rows = if painting.rows_in_use then self.old.rows else [] } }
+        ensures { self.new ≡ concealed self.old shown.items painting }
     {
         self.pending.set_list(shown);
         self.hidden = painting.hidden;

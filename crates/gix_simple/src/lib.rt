@@ -263,7 +263,8 @@ impl<F: Find + Drop> Simple<F, Unfiltered> {
     where
         T::IntoIter: Drop,
         requires { IsFiniteIterable T.into_iter_gives T.IntoIter.can_next T.IntoIter.remaining tips }
-        ensures { IfOk result (λ walk. Draws T.into_iter_gives T.IntoIter.next_gives tips (λ ids. IsMade F.objects F.faulty ⟦<Unfiltered as Predicate>⟧.answers find (record {}) ids walk)) }
+        ensures { IfOk result (λ walk. Draws T.into_iter_gives T.IntoIter.next_gives tips
+            (λ ids. IsMade F.objects F.faulty ⟦<Unfiltered as Predicate>⟧.answers find (record {}) ids walk)) }
     {
         Simple::filtered(alloc, tips, find, Unfiltered)
     }
@@ -286,7 +287,8 @@ impl<F: Find + Drop, P: Predicate + Drop> Simple<F, P> {
         T::IntoIter: Drop,
         requires ends { IsFiniteIterable T.into_iter_gives T.IntoIter.can_next T.IntoIter.remaining tips }
         requires asks { P.can_accept predicate }
-        ensures made { IfOk result (λ walk. Draws T.into_iter_gives T.IntoIter.next_gives tips (λ ids. IsMade F.objects F.faulty P.answers find predicate ids walk)) }
+        ensures made { IfOk result (λ walk. Draws T.into_iter_gives T.IntoIter.next_gives tips
+            (λ ids. IsMade F.objects F.faulty P.answers find predicate ids walk)) }
         ensures asks { IfOk result (λ walk. P.can_accept walk.predicate) }
     {
         let keys = find.keys();
@@ -352,7 +354,8 @@ impl<F: Find + Drop, P: Predicate + Drop> Simple<F, P> {
     where
         T::IntoIter: Drop,
         requires { IsFiniteIterable T.into_iter_gives T.IntoIter.can_next T.IntoIter.remaining tips }
-        ensures ok { IfOk result (λ walk. Draws T.into_iter_gives T.IntoIter.next_gives tips (λ ids. walk ≡ record self { hidden_tips = ids })) }
+        ensures ok { IfOk result (λ walk. Draws T.into_iter_gives T.IntoIter.next_gives tips
+            (λ ids. walk ≡ record self { hidden_tips = ids })) }
         ensures err { IfErr result (λ e. e ≡ error.Memory) }
     {
         let mut hidden_tips = Vec::new(self.alloc);

@@ -336,7 +336,8 @@ impl<F: Find + Drop, P: Predicate + Drop> Simple<F, P> {
 
     /// The commit whose turn it is leaves those that are pending.
     fn choose(&mut self) -> Result<Option<Pending>, AllocError>
-        ensures ok { IfOk result (λ taken. TakesOut (time_order self.old.parents self.old.sorting) self.old.pending taken self.new.pending) }
+        ensures ok { IfOk result (λ taken. TakesOut (time_order self.old.parents self.old.sorting) self.old.pending taken
+            self.new.pending) }
         ensures rest { OnOk result (self.new ≡ record self.old { pending = self.new.pending }) }
         ensures some_left { OnErr result (self.old.pending ≢ []) }
         ensures err { OnErr result (self.new ≡ record self.old { text = []; pending = [] }) }

@@ -128,8 +128,10 @@ impl<F: Find + Drop> Counting<F> {
     ) -> Result<Counting<F>, Error>
     where
         requires { reader.in_use ≡ true }
-        ensures begun { (sorting : Sorting) → IfOk result (HasBegun F.objects F.faulty (plan_over reader parents sorting tips.now ends.now)) }
-        ensures fault { (sorting : Sorting) → IfErr result (IsBuildFault F.objects F.faulty (plan_over reader parents sorting tips.now ends.now)) }
+        ensures begun { (sorting : Sorting)
+            → IfOk result (HasBegun F.objects F.faulty (plan_over reader parents sorting tips.now ends.now)) }
+        ensures fault { (sorting : Sorting)
+            → IfErr result (IsBuildFault F.objects F.faulty (plan_over reader parents sorting tips.now ends.now)) }
     {
         let mut counting = Counting {
             frontier: Frontier::new(reader.alloc, reader.find.keys()),
@@ -165,7 +167,8 @@ impl<F: Find + Drop> Counting<F> {
     fn read(&mut self, id: &ObjectId, side: Side, near: u32) -> Result<ParentIds, Error>
         ensures same { self.new ≡ record self.old { reader = record self.old.reader { in_use = self.new.reader.in_use } } }
         ensures reads { IfOk result (λ ids. ReadsParents F.objects F.faulty self.old id.now side ids.items self.new.reader.in_use) }
-        ensures fault { IfErr result (ReadFails (F.objects self.old.reader.find) (F.faulty self.old.reader.find) (rows_of self.old.reader.graph) self.old.reader.in_use id.now) }
+        ensures fault { IfErr result (ReadFails (F.objects self.old.reader.find) (F.faulty self.old.reader.find)
+            (rows_of self.old.reader.graph) self.old.reader.in_use id.now) }
     {
         let info = self.reader.read(id, near)?;
         if info.parent_ids.len() <= 1 {
@@ -187,8 +190,10 @@ impl<F: Find + Drop> Counting<F> {
     /// Why it can't be read.
     pub(super) fn look_up_parent(&mut self, id: &ObjectId) -> Result<(), Error>
         ensures same { self.new ≡ self.old }
-        ensures known { OnOk result (LooksUpParent (F.objects self.old.reader.find) (rows_of self.old.reader.graph) self.old.reader.in_use self.old.frontier id.now) }
-        ensures fault { IfErr result (LookUpFails (F.objects self.old.reader.find) (F.faulty self.old.reader.find) (rows_of self.old.reader.graph) self.old.reader.in_use id.now) }
+        ensures known { OnOk result (LooksUpParent (F.objects self.old.reader.find) (rows_of self.old.reader.graph) self.old.reader.in_use
+            self.old.frontier id.now) }
+        ensures fault { IfErr result (LookUpFails (F.objects self.old.reader.find) (F.faulty self.old.reader.find)
+            (rows_of self.old.reader.graph) self.old.reader.in_use id.now) }
     {
         if self.reader.in_use && self.frontier.known(id).is_done() {
             return Ok(());
@@ -204,8 +209,10 @@ impl<F: Find + Drop> Counting<F> {
     pub(super) fn look_up_parents(&mut self, info: &Info) -> Result<(), Error>
         requires { HasRowedParents (F.objects self.old.reader.find) (rows_of self.old.reader.graph) self.old.reader.in_use info.now }
         ensures same { self.new ≡ self.old }
-        ensures known { OnOk result (LooksUpAll (F.objects self.old.reader.find) (rows_of self.old.reader.graph) self.old.reader.in_use self.old.frontier info.now.parent_ids.items) }
-        ensures fault { IfErr result (FailsAmong (F.objects self.old.reader.find) (F.faulty self.old.reader.find) (rows_of self.old.reader.graph) self.old.reader.in_use info.now.parent_ids.items) }
+        ensures known { OnOk result (LooksUpAll (F.objects self.old.reader.find) (rows_of self.old.reader.graph) self.old.reader.in_use
+            self.old.frontier info.now.parent_ids.items) }
+        ensures fault { IfErr result (FailsAmong (F.objects self.old.reader.find) (F.faulty self.old.reader.find)
+            (rows_of self.old.reader.graph) self.old.reader.in_use info.now.parent_ids.items) }
     {
         if info.generation.is_some() {
             return Ok(());
@@ -223,7 +230,8 @@ impl<F: Find + Drop> Counting<F> {
     /// A number that no memory could hold is out of memory.
     fn count(&mut self, id: &ObjectId) -> Result<(), AllocError>
         ensures same { self.new ≡ record self.old { expanded = self.new.expanded } }
-        ensures expanded { OnOk result (let known = known_of self.old.frontier.known id.now in self.new.expanded ≡ self.old.expanded + cond (is_done known.tips || is_done known.ends) 0 1) }
+        ensures expanded { OnOk result (let known = known_of self.old.frontier.known id.now in
+            self.new.expanded ≡ self.old.expanded + cond (is_done known.tips || is_done known.ends) 0 1) }
     {
         if self.frontier.known(id).is_done() {
             return Ok(());

@@ -102,7 +102,8 @@ impl<F: Find + Drop> Builder<F, Unfiltered> {
         E: Drop,
         requires tips { IsFiniteIterable T.into_iter_gives T.IntoIter.can_next T.IntoIter.remaining tips }
         requires ends { IfSome ends (IsFiniteIterable E.into_iter_gives E.IntoIter.can_next E.IntoIter.remaining) }
-        ensures { IfOk result (λ builder. Draws T.into_iter_gives T.IntoIter.next_gives tips (λ ids. IsFromEnds E.into_iter_gives E.IntoIter.next_gives find (record {}) ids ends builder)) }
+        ensures { IfOk result (λ builder. Draws T.into_iter_gives T.IntoIter.next_gives tips
+            (λ ids. IsFromEnds E.into_iter_gives E.IntoIter.next_gives find (record {}) ids ends builder)) }
     {
         let builder = Builder::new(alloc, find).with_tips(tips)?;
         match ends {
@@ -151,7 +152,8 @@ impl<F: Find + Drop, P: Predicate + Drop> Builder<F, P> {
     where
         T::IntoIter: Drop,
         requires { IsFiniteIterable T.into_iter_gives T.IntoIter.can_next T.IntoIter.remaining tips }
-        ensures { IfOk result (λ builder. Draws T.into_iter_gives T.IntoIter.next_gives tips (λ ids. builder ≡ record self { plan = record self.plan { tips = self.plan.tips ++ ids } })) }
+        ensures { IfOk result (λ builder. Draws T.into_iter_gives T.IntoIter.next_gives tips
+            (λ ids. builder ≡ record self { plan = record self.plan { tips = self.plan.tips ++ ids } })) }
     {
         for tip in tips {
             self.tips.push(tip)?;
@@ -171,7 +173,8 @@ impl<F: Find + Drop, P: Predicate + Drop> Builder<F, P> {
     where
         E::IntoIter: Drop,
         requires { IsFiniteIterable E.into_iter_gives E.IntoIter.can_next E.IntoIter.remaining ends }
-        ensures { IfOk result (λ builder. Draws E.into_iter_gives E.IntoIter.next_gives ends (λ ids. builder ≡ record self { plan = record self.plan { ends = self.plan.ends ++ ids } })) }
+        ensures { IfOk result (λ builder. Draws E.into_iter_gives E.IntoIter.next_gives ends
+            (λ ids. builder ≡ record self { plan = record self.plan { ends = self.plan.ends ++ ids } })) }
     {
         for end in ends {
             self.ends.push(end)?;

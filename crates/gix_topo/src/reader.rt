@@ -103,7 +103,8 @@ impl<F: Find + Drop> Reader<F> {
     /// Why it can't be read.
     pub(super) fn read(&mut self, id: &ObjectId, near: u32) -> Result<Info, Error>
         ensures same { self.new ≡ record self.old { in_use = self.new.in_use } }
-        ensures reads { Reads (F.objects self.old.find) (F.faulty self.old.find) (rows_of self.old.graph) self.old.in_use id.now result self.new.in_use }
+        ensures reads { Reads (F.objects self.old.find) (F.faulty self.old.find) (rows_of self.old.graph) self.old.in_use id.now result
+            self.new.in_use }
     {
         self.near = Near::nowhere();
         let row = read_row(self.alloc, self.graph.as_ref(), &mut self.in_use, id, near)?;
@@ -131,7 +132,8 @@ impl<F: Find + Drop> Reader<F> {
     pub(super) fn look_up(&mut self, id: &ObjectId) -> Result<(), Error>
         ensures same { self.new ≡ self.old }
         ensures known { OnOk result (IsKnown (F.objects self.old.find) (rows_of self.old.graph) self.old.in_use id.now) }
-        ensures fault { IfErr result (LookUpFails (F.objects self.old.find) (F.faulty self.old.find) (rows_of self.old.graph) self.old.in_use id.now) }
+        ensures fault { IfErr result (LookUpFails (F.objects self.old.find) (F.faulty self.old.find) (rows_of self.old.graph)
+            self.old.in_use id.now) }
     {
         if self.in_use && self.generation(id, NOWHERE) < GENERATION_NUMBER_INFINITY {
             return Ok(());

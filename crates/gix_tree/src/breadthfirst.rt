@@ -140,7 +140,8 @@ impl Queue {
 
     /// The tree that has waited longest is next.
     fn pop(&mut self) -> Option<ObjectId>
-        ensures { MatchOption result ((self.old.waiting ≡ []) × (self.new ≡ self.old)) (λ oid. self.old.waiting ≡ (oid, self.new.known) ∷ self.new.waiting) }
+        ensures { MatchOption result ((self.old.waiting ≡ []) × (self.new ≡ self.old))
+            (λ oid. self.old.waiting ≡ (oid, self.new.known) ∷ self.new.waiting) }
     {
         let tree = self.trees.get(self.turn)?;
         self.turn += 1;

@@ -126,7 +126,8 @@ fn descend<V: Visit>(
     delegate: &mut V,
     entry: &EntryRef<'_>,
 ) -> Result<(), Error>
-    ensures descends { Descends V.steps (tree.now ∷ ids_down (reverse above.old.items)) (entry_of entry.now) delegate.old delegate.new result }
+    ensures descends { Descends V.steps (tree.now ∷ ids_down (reverse above.old.items)) (entry_of entry.now) delegate.old delegate.new
+        result }
     ensures same { above.new.items ≡ above.old.items }
 {
     if knows(tree, above, &entry.oid) {
@@ -147,7 +148,8 @@ fn show<V: Visit>(
     delegate: &mut V,
     entry: &EntryRef<'_>,
 ) -> Result<Option<Stop>, Error>
-    ensures shows { ShowsBelow V.steps (tree.now ∷ ids_down (reverse above.old.items)) (entry_of entry.now) delegate.old delegate.new result }
+    ensures shows { ShowsBelow V.steps (tree.now ∷ ids_down (reverse above.old.items)) (entry_of entry.now) delegate.old delegate.new
+        result }
     ensures same { above.new.items ≡ above.old.items }
 {
     delegate.push_path_component(&entry.filename)?;
@@ -174,7 +176,8 @@ fn show_on<V: Visit>(
     delegate: &mut V,
 ) -> Result<Stop, Error>
     requires { IsWithin tree.old }
-    ensures shows { ShowsUpTo V.steps (tree.old.oid ∷ ids_down (reverse above.old.items)) (items_at tree.old) delegate.old delegate.new result (items_at tree.new) }
+    ensures shows { ShowsUpTo V.steps (tree.old.oid ∷ ids_down (reverse above.old.items)) (items_at tree.old) delegate.old delegate.new
+        result (items_at tree.new) }
     ensures same { above.new.items ≡ above.old.items }
     ensures oid { tree.new.oid ≡ tree.old.oid }
     ensures within { IsWithin tree.new }

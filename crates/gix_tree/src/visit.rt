@@ -79,24 +79,29 @@ pub trait Visit {
 
     /// Puts a name at the end of the path, and queues the path.
     fn push_back_tracked_path_component(&mut self, component: &BStr<'_>) -> Result<(), AllocError>
-        ensures { MatchResult result (λ _. steps self.old (PushBack (bstr_bytes component.now)) self.new) (λ _. steps self.old Refused self.new) };
+        ensures { MatchResult result (λ _. steps self.old (PushBack (bstr_bytes component.now)) self.new)
+            (λ _. steps self.old Refused self.new) };
 
     /// Puts a name at the end of the path.
     fn push_path_component(&mut self, component: &BStr<'_>) -> Result<(), AllocError>
-        ensures { MatchResult result (λ _. steps self.old (PushPath (bstr_bytes component.now)) self.new) (λ _. steps self.old Refused self.new) };
+        ensures { MatchResult result (λ _. steps self.old (PushPath (bstr_bytes component.now)) self.new)
+            (λ _. steps self.old Refused self.new) };
 
     /// Sees the entry of a tree. The current path is the entry's.
     fn visit_tree(&mut self, entry: &EntryRef<'_>) -> Result<Action, AllocError>
-        ensures { MatchResult result (λ a. steps self.old (VisitTree (entry_of entry.now) a) self.new) (λ _. steps self.old Refused self.new) };
+        ensures { MatchResult result (λ a. steps self.old (VisitTree (entry_of entry.now) a) self.new)
+            (λ _. steps self.old Refused self.new) };
 
     /// Sees any other entry. The current path is the entry's.
     fn visit_nontree(&mut self, entry: &EntryRef<'_>) -> Result<Action, AllocError>
-        ensures { MatchResult result (λ a. steps self.old (VisitNontree (entry_of entry.now) a) self.new) (λ _. steps self.old Refused self.new) };
+        ensures { MatchResult result (λ a. steps self.old (VisitNontree (entry_of entry.now) a) self.new)
+            (λ _. steps self.old Refused self.new) };
 }
 
 /// Shows the entry by the call for what it is.
 pub(crate) fn see<V: Visit>(delegate: &mut V, entry: &EntryRef<'_>) -> Result<Action, AllocError>
-    ensures { MatchResult result (λ a. V.steps delegate.old (visit_call_of (is_tree entry.now.mode.value) (entry_of entry.now) a) delegate.new) (λ _. V.steps delegate.old Refused delegate.new) }
+    ensures { MatchResult result (λ a. V.steps delegate.old (visit_call_of (is_tree entry.now.mode.value) (entry_of entry.now) a) delegate.new)
+        (λ _. V.steps delegate.old Refused delegate.new) }
 {
     if entry.mode.is_tree() {
         delegate.visit_tree(entry)

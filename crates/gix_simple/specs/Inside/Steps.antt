@@ -1,5 +1,5 @@
 -- What the parts of one step of a simple walk do.
-use Rattle.std.specs.Prelude.{◌≡◌, ◌≢◌, ◌⊎◌, ℤ, List, [], Bool, true, false, Result, Ok, Err}
+use Rattle.std.specs.Prelude.{◌≡◌, ◌≢◌, ◌⊎◌, ℤ, if◌then◌else◌, List, [], Bool, true, false, Result, Ok, Err}
 use Rattle.std.specs.FinSet as set
 use Rattle.gix_hash.specs.declared.ObjectId.{ObjectId}
 use Rattle.gix_object.specs.Object.{Objects}
@@ -12,10 +12,12 @@ use Rattle.gix_simple.specs.declared.step.Times.TheVariants as times
 use Rattle.gix_simple.specs.declared.Error.{Error}
 use Rattle.gix_simple.specs.declared.Error.TheVariants as error
 use Rattle.gix_paint.specs.declared.Hidden.{Hidden}
+use Rattle.gix_paint.specs.declared.Painting.{Painting}
 use Rattle.gix_hash.specs.Id.{id_cmp}
 use Rattle.gix_paint.specs.Painting.{Paints, IsHiddenFault}
 use Rattle.gix_simple.specs.Walk.{SimpleWalk, StoreFails, IsNew, ReadsTime, painted}
 use Rattle.gix_revwalk.specs.Ids.{ids_of}
+use Rattle.gix_revwalk.specs.Pending.{Pending}
 
 abbrev pub in_rows : Times → Bool
 in_rows times.InRows = true
@@ -33,6 +35,11 @@ module _ {F P : Type 0} (objects : F → Objects) (faulty : F → ObjectId → T
   TimeIs old by_row i (Ok time) = ReadsTime objects faulty answers old by_row i (Ok time)
   TimeIs old by_row i (Err stop.Store) = ReadsTime objects faulty answers old by_row i (Err StoreFails)
   TimeIs old by_row i (Err stop.Memory) = Unit {0}
+
+-- what is left where painting marked what is hidden
+abbrev pub concealed : {F P : Type 0} → SimpleWalk F P → (shown : List Pending) → Painting → SimpleWalk F P
+concealed walk shown painting =
+    record walk { pending = shown; hidden = painting.hidden; hidden_tips = []; rows = if painting.rows_in_use then walk.rows else [] }
 
 -- what is left where painting failed
 abbrev pub unpainted : {F P : Type 0} → SimpleWalk F P → SimpleWalk F P
