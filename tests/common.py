@@ -1,6 +1,8 @@
 """What scripts in Python over repositories have in common: runs of the program, which finds no other program by its PATH and has only the
 variables that are named here; and repositories that git makes, without the user's settings."""
 
+import contextlib
+import copy
 import fnmatch
 import hashlib
 import itertools
@@ -10,6 +12,7 @@ import re
 import shlex
 import shutil
 import string
+import struct
 import subprocess
 import sys
 import tempfile
@@ -22,11 +25,19 @@ WALKS = COMMANDS[:5]
 ROOT = pathlib.Path(tempfile.mkdtemp())
 ALONE = {"PATH": "", "HOME": str(ROOT / "home")}
 GRAFTS = "gix_walk: info/grafts is ignored: a commit's parents are those that it names"
+PARTIAL = "the clone is partial, and nothing is fetched here. git fetch --refetch --no-filter fetches what is missing"
+GRAPH_WRONG = "gix_walk: the commit-graph isn't right; git commit-graph write --reachable writes it anew"
+CASES = []  # the label of each comparison that came out as it should
 SETTINGS = ["init.defaultBranch=main", "core.fsync=none", "gc.auto=0", "safe.directory=*", "protocol.file.allow=always"]
 
 
 def fail(text):
     sys.exit(f"FAILED: {text}")
+
+
+def passed(label, what):
+    CASES.append(label)
+    print(f"ok: {ascii(label)[1:-1]}{what}", flush=True)
 
 
 def prepare():
@@ -63,29 +74,59 @@ def run(words, input="", **how):
     return ran.returncode, *(said.decode("utf-8", "surrogateescape") for said in (ran.stdout, ran.stderr))
 
 
-def ended(label, words, output="", error="", status=0, like=None, input="", env=None, cwd=None):
-    """Expects of a run this status, these lines, and on standard error this text, or one that is like a pattern."""
-    found, wrote, said = run([PROGRAM, *words], input, env=ALONE if env is None else env, cwd=cwd)
+def program(words, input="", env=ALONE, cwd=None, through=()):
+    """A run of the program, or of a command through which it is run. It waits at no pipe for ever."""
+    return run([*through, PROGRAM, *words], input, env=env, cwd=cwd, timeout=60)
+
+
+def ended(label, words, output="", error="", status=0, like=None, asks=program, **how):
+    """Expects of a run this status, these lines, or any if output is None, and on standard error this text, or one that is like a pattern,
+    and of one line, if the pattern is."""
+    found, wrote, said = asks(words, **how)
     said = said.removesuffix("\n")
-    if found != status or wrote.removesuffix("\n") != output.removesuffix("\n"):
+    if found != status or output is not None and wrote.removesuffix("\n") != output.removesuffix("\n"):
         fail(f"{label}: status {found}, it said {said!r} and wrote {wrote[:2000]!r}")
-    if not fnmatch.fnmatchcase(said, like) if like is not None else said != error:
+    if not (said == error if like is None else fnmatch.fnmatchcase(said, like) and ("\n" in like or "\n" not in said)):
         fail(f"{label}: it said {said!r}")
-    print(f"ok: {ascii(label)[1:-1]}: {ascii((said.splitlines() or ['nothing said'])[0])}", flush=True)
+    passed(label, f": {ascii((said.splitlines() or ['nothing said'])[0])}")
     return said
 
 
 def fault(label, pattern, *words, **how):
-    """Expects status 1, no output and one line, which is like this pattern."""
-    if "\n" in (said := ended(label, words, status=1, like=f"gix_walk: {pattern}", **how)):
-        fail(f"{label}: it said several lines")
-    return said
+    """Expects status 1, no output and a line that is like this pattern."""
+    return ended(label, words, status=1, like=f"gix_walk: {pattern}", **how)
+
+
+def describe(folder):
+    """All files of a folder, with all that the system says of them but when they were read"""
+    states = {path: path.lstat() for path in [folder, *folder.rglob("*")]}
+    return {path: (it.st_mode, it.st_size, it.st_mtime_ns, it.st_ctime_ns, it.st_ino) for path, it in states.items()}
+
+
+@contextlib.contextmanager
+def rows_of(file, hashed=True):
+    """The rows of a file of git's commit-graph by rising time, to be changed: of each the words behind its tree, which are two parents,
+    generation and time. Then the hash behind the rows is right, or as it was. The file's inode and times stay."""
+    data, before = bytearray(file.read_bytes()), file.stat()
+    hash_of, width = (hashlib.sha1, 20) if data[5] == 1 else (hashlib.sha256, 32)
+    begins = {bytes(data[at : at + 4]): int.from_bytes(data[at + 4 : at + 12], "big") for at in range(8, 8 + 12 * data[6], 12)}
+    first, count = begins[b"CDAT"] + width, (begins[b"CDAT"] - begins[b"OIDL"]) // width
+    rows = {at: list(struct.unpack_from(">4I", data, at)) for at in range(first, first + count * (width + 16), width + 16)}
+    yield sorted(rows.values(), key=lambda row: row[3])
+    for at, row in rows.items():
+        struct.pack_into(">4I", data, at, *row)
+    if hashed:
+        data[-width:] = hash_of(data[:-width]).digest()
+    file.chmod(0o644)
+    with file.open("r+b") as written:
+        written.write(data)
+    os.utime(file, ns=(before.st_atime_ns, before.st_mtime_ns))
 
 
 class Repository:
-    """A repository in a folder below ROOT, and the time of its newest commit."""
+    """A repository in a folder below ROOT, the variables that the program has there, and the time of the newest commit."""
 
-    now = 1_700_000_000
+    env, now = ALONE, 1_700_000_000
 
     def __init__(self, name, form=None):
         self.folder, self.name = ROOT / name, str(name)
@@ -102,6 +143,11 @@ class Repository:
             fail(f"git {words}: {said}")
         return wrote.removesuffix("\n") if ends else wrote
 
+    def gits(self, table, **values):
+        """Has git do what each line of a table says."""
+        for line in lines_of(table, **values):
+            self.git(*shlex.split(line))
+
     def commit(self, message, *parents, seconds=1):
         """The id of a new commit, later than the newest by so many seconds"""
         Repository.now += seconds
@@ -117,13 +163,30 @@ class Repository:
         for lane, head in enumerate(heads):
             self.git("branch", f"lane{lane}", head)
 
+    def at(self, name):
+        """What is in another folder, of which the same is known"""
+        other = copy.copy(self)
+        other.folder, other.name = ROOT / name, str(name)
+        return other
+
     def clone(self, name, *words):
-        run(["git", "clone", "-q", *words, self.folder if "--depth" not in words else f"file://{self.folder}", ROOT / name])
-        return Repository(name)
+        url = f"file://{self.folder}" if any(word.startswith(("--depth", "--filter")) for word in words) else self.folder
+        run(["git", "clone", "-q", *words, url, ROOT / name])
+        return self.at(name)
 
     def copy(self, name):
         shutil.copytree(self.folder, ROOT / name, symlinks=True)
-        return Repository(name)
+        return self.at(name)
+
+    def loose(self, name):
+        """The file of an object that is in no pack"""
+        return self.folder / ".git/objects" / name[:2] / name[2:]
+
+    def lose(self, revision):
+        """The id of an object that is stored no more"""
+        name = self.git("rev-parse", revision)
+        self.loose(name).unlink()
+        return name
 
     def object(self, kind, text):
         """The id of a new object of these bytes, which git doesn't check"""
@@ -167,7 +230,23 @@ class Repository:
         lines = re.sub(r"(?s)(\d+) \w+ ([0-9a-f]+)\t(.*?\0)", r"\1 \2 \3", listed)
         return lines if "-z" in rest else lines.replace("\0", "\n"), 0
 
-    def case(self, line, *options, where=None, input="", label="", wanted=None, env=None, cwd=None):
+    def asks(self, words, **how):
+        """A run of the program in these variables"""
+        return program(words, **({"env": self.env} | how))
+
+    def named(self, label, words):
+        return ": ".join(filter(None, [self.name, label, " ".join(map(str, words))]))
+
+    def expects(self, line, *expected, where=None, label="", **how):
+        """Expects of a run here what `ended` expects."""
+        words, where = shlex.split(line), ["-C", self.folder] if where is None else where
+        return ended(self.named(label, words), [*where, *words], *expected, asks=self.asks, **how)
+
+    def fault(self, line, pattern, **how):
+        """Expects of a run here what `fault` expects."""
+        return self.expects(line, status=1, like=f"gix_walk: {pattern}", **how)
+
+    def case(self, line, *options, where=None, input="", label="", wanted=None, **how):
         """Compares what the program writes for a case with what git writes, or with what is wanted. Nothing may be said."""
         kind, *words = shlex.split(line)
         if kind in COMMANDS:
@@ -175,24 +254,37 @@ class Repository:
         output, status = self.expected(words, input) if wanted is None else wanted
         output = "" if kind == "none" else output
         where = ["-C", self.folder] if where is None else where
-        found, wrote, said = run([PROGRAM, *where, *options, *words], input, env=ALONE if env is None else env, cwd=cwd)
+        found, wrote, said = self.asks([*where, *options, *words], input=input, **how)
         lines = [text.removesuffix("\n").split("\n") for text in (wrote, output)]
         listed, expected = map(sorted, lines) if kind == "set" else lines
-        label = ": ".join(filter(None, [self.name, label, " ".join(map(str, [*options, *words]))]))
+        label = self.named(label, [*options, *words])
         if (found, listed, said) != (status, expected, ""):
             fail(f"{label}: status {found} and not {status}; it said {said!r}, and wrote\n{wrote[:2000]}\nand not\n{output[:2000]}")
         if (wrote == "") != (kind == "none" or words[0] == "is-ancestor"):
             fail(f"{label}: it wrote {wrote!r}")
-        print(f"ok: {ascii(label)[1:-1]}{kind and ', ' + kind}: {wrote.count(chr(10))} lines", flush=True)
+        passed(label, f"{kind and ', ' + kind}: {wrote.count(chr(10))} lines")
 
-    def cases(self, table, *options, label=""):
+    def check_graph(self, rows, label=""):
+        """Git's commit-graph is right, and has so many rows."""
+        self.case("check-graph", wanted=(f"the commit-graph agrees with the repository: {rows} commits have a row", 0), label=label)
+
+    def cases(self, table, *options, label="", **values):
+        """The lines of a table, each a case, or a run and behind | what is said of a fault"""
         date = time.strftime("%Y-%m-%dT%H:%M:%SZ", time.gmtime(self.now - 20))
-        for line in lines_of(table, now=self.now, before=self.now - 1, ago=self.now - 20, date=date):
-            self.case(line, *options, label=label)
+        for line in lines_of(table, now=self.now, before=self.now - 1, ago=self.now - 20, date=date, **values):
+            words, *said = line.split(" | ")
+            self.fault(words, *said, label=label) if said else self.case(words, *options, label=label)
 
     def entries(self, revision):
         for line in lines_of(f"files {{-z ,}}{revision}"):
             self.case(line)
+
+    def graph_files(self):
+        """The files of git's commit-graph, the lowest layer first"""
+        layers = self.folder / ".git/objects/info/commit-graphs"
+        chain = layers / "commit-graph-chain"
+        names = chain.read_text().split() if chain.exists() else []
+        return [layers / f"graph-{name}.graph" for name in names] or [layers.with_name("commit-graph")]
 
     def write_graph(self, kind):
         """Has git write a commit-graph of this kind. How many rows it has"""
@@ -207,26 +299,13 @@ class Repository:
             for part in ("linear", "lane0~5"):
                 self.git("commit-graph", "write", "--split=no-merge", "--stdin-commits", input=self.git("rev-parse", part))
             self.git("commit-graph", "write", "--split=no-merge", "--reachable")
-            if len((info / "commit-graphs/commit-graph-chain").read_text().split()) != 3:
+            if len(self.graph_files()) != 3:
                 fail(f"{kind}: there aren't three layers")
         else:
             self.git("commit-graph", "write", "--reachable", *(["--changed-paths"] if "paths" in kind else []))
         if not (info / "commit-graph").exists() and "layers" not in kind:
             fail(f"{kind} wasn't written")
         return self.git("rev-list", "--count", *tips)
-
-    def change_time(self, name):
-        """In git's commit-graph the row of this commit says the next second, and the hash behind the rows is right."""
-        file, width = self.folder / ".git/objects/info/commit-graph", len(name) // 2
-        data = bytearray(file.read_bytes())
-        table = [data[at : at + 12] for at in range(8, 8 + 12 * data[6], 12)]
-        begins = {bytes(entry[:4]): int.from_bytes(entry[4:], "big") for entry in table}
-        ids = [data[at : at + width] for at in range(begins[b"OIDL"], begins[b"CDAT"], width)]
-        end = begins[b"CDAT"] + (ids.index(bytes.fromhex(name)) + 1) * (width + 16)
-        data[end - 4 : end] = (int.from_bytes(data[end - 4 : end], "big") + 1).to_bytes(4, "big")
-        data[-width:] = (hashlib.sha1 if width == 20 else hashlib.sha256)(data[:-width]).digest()
-        file.unlink()
-        file.write_bytes(data)
 
 
 def lanes(form):
