@@ -40,8 +40,9 @@ module _ {X : Type 0} (Next : List X → X → Type 0) where
     pub kept_along : (ids : List X) → IsBeginningBy Next ids → Keep ids
     kept_along ids h = kept_from ids [] ids h refl first
 
-    pub kept_before : (ids taken rest : List X) → IsBeginningBy Next ids → ids ≡ taken ++ rest → Keep taken
-    kept_before ids taken rest h e = kept_along taken (begins_less taken rest (subst (IsBeginningBy Next) e h))
+    -- so each comes as is known of it behind what was left
+    pub begins_as : (R : List X → X → Type 0) → ((taken : List X) (i : X) → Keep taken → Next taken i → R taken i) → (ids : List X) → IsBeginningBy Next ids → IsBeginningBy R ids
+    begins_as R so ids h taken rest i e = so taken i (kept_along taken (begins_less taken (i ∷ rest) (subst (IsBeginningBy Next) e h))) (h taken rest i e)
 
 -- where what comes next wasn't taken, no id comes twice
 pub once : (Next : List ObjectId → ObjectId → Type 0) → ((taken : List ObjectId) (i : ObjectId) → Next taken i → Contains taken i → ⊥) → (ids : List ObjectId) → IsBeginningBy Next ids → AreDistinct ids

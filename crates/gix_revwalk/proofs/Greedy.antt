@@ -9,13 +9,13 @@ use Rattle.gix_revwalk.proofs.NewIds.{fresh, fresh_agree, new_less}
 abbrev pub Picks : (P Next : List ObjectId → ObjectId → Type 0) → List ObjectId → Type 0
 Picks P Next taken = (o : Option ObjectId) × MatchOption o ((i : ObjectId) → P taken i → ⊥) (Next taken)
 
--- where what comes next has P, and is None only where nothing has, a list is one by P
-pub list_of : (P Next : List ObjectId → ObjectId → Type 0) → ((taken : List ObjectId) (i : ObjectId) → Next taken i → P taken i) → (ids : List ObjectId) → Picks P Next ids → IsListBy Next ids → IsListBy P ids
-list_of P Next within ids picks h = record { begins = λ taken rest i e. within taken i (h.begins taken rest i e); ends = go picks.0 picks.1 }
+-- where nothing comes next nothing has P
+pub none_has : (P Next : List ObjectId → ObjectId → Type 0) (taken : List ObjectId) → Picks P Next taken → ((i : ObjectId) → Next taken i → ⊥) → (i : ObjectId) → P taken i → ⊥
+none_has P Next taken picks ends = go picks.0 picks.1
   where
-    go : (o : Option ObjectId) → MatchOption o ((i : ObjectId) → P ids i → ⊥) (Next ids) → (i : ObjectId) → P ids i → ⊥
+    go : (o : Option ObjectId) → MatchOption o ((i : ObjectId) → P taken i → ⊥) (Next taken) → (i : ObjectId) → P taken i → ⊥
     go None none = none
-    go (Some j) next = λ i p. h.ends j next
+    go (Some j) next = λ i p. ends j next
 
 -- What is known of the ids taken is known of them with the next one, which is among all ids, and not among those taken.
 pub record GoesOn (all : List ObjectId) (Fits : List ObjectId → Type 0) (taken : List ObjectId) (i : ObjectId) : Type 0 where
@@ -23,7 +23,7 @@ pub record GoesOn (all : List ObjectId) (Fits : List ObjectId → Type 0) (taken
   pub is_new : is_among i taken ≡ false
   pub fits : Fits (taken ++ i ∷ [])
 
-module _ (all : List ObjectId) (P Next : List ObjectId → ObjectId → Type 0) (within : (taken : List ObjectId) (i : ObjectId) → Next taken i → P taken i) (Fits : List ObjectId → Type 0) (picks : (taken : List ObjectId) → Fits taken → Picks P Next taken)
+module _ (all : List ObjectId) (P Next : List ObjectId → ObjectId → Type 0) (Fits : List ObjectId → Type 0) (within : (taken : List ObjectId) (i : ObjectId) → Fits taken → Next taken i → P taken i) (picks : (taken : List ObjectId) → Fits taken → Picks P Next taken)
     (goes : (taken : List ObjectId) (i : ObjectId) → Fits taken → Next taken i → GoesOn all Fits taken i) where
   -- the ids that are left
   abbrev left : List ObjectId → ℕ
@@ -41,7 +41,7 @@ module _ (all : List ObjectId) (P Next : List ObjectId → ObjectId → Type 0) 
     where
       go : ((i : ObjectId) → left (taken ++ i ∷ []) < n → Fits (taken ++ i ∷ []) → IsBeginningBy Next (taken ++ i ∷ []) → (ids : List ObjectId) × IsListBy Next ids)
           → (o : Option ObjectId) → MatchOption o ((i : ObjectId) → P taken i → ⊥) (Next taken) → (ids : List ObjectId) × IsListBy Next ids
-      go more None none = (taken, record { begins = begins; ends = λ i n. none i (within taken i n) })
+      go more None none = (taken, record { begins = begins; ends = λ i n. none i (within taken i fits n) })
       go more (Some i) next =
           let g : GoesOn all Fits taken i = goes taken i fits next in
           let f : suc (left (taken ++ i ∷ [])) ≡ left taken = falls taken i g in

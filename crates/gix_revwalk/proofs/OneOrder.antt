@@ -4,7 +4,7 @@ use Rattle.std.proofs.lemmas.Int.{ints}
 use Rattle.gix_revwalk.proofs.Common.{ObjectId, is_among, CommitTimeOrder, IsNextOne, IsFirstBest, IsNoWorse, is_no_worse}
 use Rattle.gix_revwalk.specs.declared.CommitTimeOrder.TheVariants.{NewestFirst, OldestFirst}
 
-same_some : (i j : ObjectId) → Some i ≡ Some j → i ≡ j
+pub same_some : (i j : ObjectId) → Some i ≡ Some j → i ≡ j
 same_some i j e = cc
 
 as_good : (order : CommitTimeOrder) (a b : ℤ) → IsNoWorse order a b → IsNoWorse order b a → a ≡ b

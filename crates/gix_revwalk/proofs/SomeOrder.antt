@@ -9,7 +9,7 @@ use Rattle.std.proofs.lemmas.List.Elements.{Contains-append_left, Contains-appen
 use Rattle.gix_revwalk.proofs.Common.{ObjectId, is_among, Reaches, start, step, among_from, among_is, Contains-here, Contains-there, Contains-cons_cases, no_member, Object, Objects, CommitTimeOrder, IsBeginningBy, IsListBy}
 use Rattle.gix_revwalk.proofs.Common.{named_by, first_new, IsFirstNew, IsNextOne, IsPending, IsBest, IsFirstBest, IsNoWorse, is_no_worse, parents_of, parents_in, commit_of_object}
 use Rattle.gix_revwalk.specs.declared.CommitTimeOrder.TheVariants.{NewestFirst, OldestFirst}
-use Rattle.gix_revwalk.proofs.Greedy.{GoesOn, Picks, list_of, some_list}
+use Rattle.gix_revwalk.proofs.Greedy.{GoesOn, Picks, none_has, some_list}
 use Rattle.gix_revwalk.proofs.NewIds.{among_flat, among-filter, find-filter}
 use Rattle.gix_revwalk.proofs.Orders.{AreReached, found_passes, none_passes, reached_by_named, reached_is_given, reached_more, given_is_reached}
 use Rattle.gix_revwalk.proofs.Rows.{found_entry}
@@ -125,11 +125,11 @@ module _ (next : ObjectId → List ObjectId) (starts : List ObjectId) where
       go None e = λ i p. p.1 (among_is i taken (not-false _ (none_passes _ (named_by next starts taken) i e p.0)))
       go (Some i) e = e
 
-  pub pending_list : (o : Option CommitTimeOrder) (time : ObjectId → ℤ) (ids : List ObjectId) → IsListBy (IsNextOne o time next starts) ids → IsListBy (IsPending next starts) ids
-  pending_list o time ids = list_of (IsPending next starts) (IsNextOne o time next starts) (next_is_pending o time) ids (picks o time ids)
-
   pub pending_begins : (o : Option CommitTimeOrder) (time : ObjectId → ℤ) (ids : List ObjectId) → IsBeginningBy (IsNextOne o time next starts) ids → IsBeginningBy (IsPending next starts) ids
   pending_begins o time ids h taken rest i e = next_is_pending o time taken i (h taken rest i e)
+
+  pub pending_list : (o : Option CommitTimeOrder) (time : ObjectId → ℤ) (ids : List ObjectId) → IsListBy (IsNextOne o time next starts) ids → IsListBy (IsPending next starts) ids
+  pending_list o time ids h = record { begins = pending_begins o time ids h.begins; ends = none_has (IsPending next starts) (IsNextOne o time next starts) ids (picks o time ids) h.ends }
 
   -- where what starts reach is among finitely many ids
   module _ (all : List ObjectId) (finite : (i : ObjectId) → Reaches next starts i → Contains all i) where
@@ -142,7 +142,7 @@ module _ (next : ObjectId → List ObjectId) (starts : List ObjectId) where
 
     pub order_exists : (o : Option CommitTimeOrder) (time : ObjectId → ℤ) → (ids : List ObjectId) × IsListBy (IsNextOne o time next starts) ids
     order_exists o time =
-        some_list all (IsPending next starts) (IsNextOne o time next starts) (next_is_pending o time) (AreReached next starts) (λ taken fits. picks o time taken) (λ taken i fits n. goes_on taken i fits (next_is_pending o time taken i n)) (λ c m. absurd (no_member c m))
+        some_list all (IsPending next starts) (IsNextOne o time next starts) (AreReached next starts) (λ taken i fits. next_is_pending o time taken i) (λ taken fits. picks o time taken) (λ taken i fits n. goes_on taken i fits (next_is_pending o time taken i n)) (λ c m. absurd (no_member c m))
 
     -- what is reached, in a list
     pub reached_list : (list : List ObjectId) × ((i : ObjectId) → Contains list i ↔ Reaches next starts i)

@@ -37,7 +37,8 @@ pub use Rattle.gix_revwalk.proofs.ReadsWhole.{corrupt_row, no_fault, parent_has_
 pub use Rattle.gix_simple.specs.Building.{FailsAtTip, IsBuilt, IsSortedByTime, IsSortedIn, IsTipFault, IsUncut, outdated, recent, SortsAll, SortsIn, timed}
 pub use Rattle.gix_simple.specs.Inside.PendingQueue.{AreKeyed, IsChosen, TakesOut, time_key}
 pub use Rattle.gix_simple.specs.Inside.Steps.{Hides, in_rows, Meets, nothing, TimeIs, unpainted}
-pub use Rattle.gix_simple.specs.Laws.{accepted_parents, answers_left, BeginsTextOrder, given_ids, GivesBeginning, GivesBreadthFirst, GivesDifference, GivesInOrder, GivesTextOrder, is_kept, IsBegunRun, IsFaultlessRun, IsFresh}
+pub use Rattle.gix_revwalk.specs.Infos.{given_ids}
+pub use Rattle.gix_simple.specs.Laws.{accepted_parents, answers_left, BeginsTextOrder, GivesBeginning, GivesBreadthFirst, GivesDifference, GivesInOrder, GivesTextOrder, is_kept, IsBegunRun, IsFaultlessRun, IsFresh}
 pub use Rattle.gix_simple.specs.Laws.{IsGiven, IsGivenBy, IsNewWalk, IsNextByText, IsNextKept, IsNoRefusal, IsPlain, IsPlainRun, IsWholeRun, kept_of, kept_parents, MeetsWhole, named_in, next_by_text, next_of, ReadsParents, recent_parents, starts_of}
 pub use Rattle.gix_simple.specs.Walk.{accepted, asked, Asks, bare, best, broken, by_row, by_store, Chooses, Concludes, cutoff, dropped, ended, enqueued, Enqueues, failed, first, FirstStep, from_row, from_store, given, given_time, GoesOn}
 pub use Rattle.gix_simple.specs.Walk.{hidden, how_ended, initial, is_older, IsMade, IsNew, later, Next, no_memory_after, NoMemory, not_found, painted, ReadsTime, refused, remembers, row_time, SimpleWalk, Steps, stops, store_fails, TakesBest}

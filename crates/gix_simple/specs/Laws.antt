@@ -27,7 +27,7 @@ use Rattle.gix_hash.specs.Reach.{Reaches, Tells}
 use Rattle.gix_revwalk.specs.Commits.{ReadsWhole, by_mode, walked_parents, parents_of, time_of}
 use Rattle.gix_revwalk.specs.Pending.{Pending}
 use Rattle.gix_simple.specs.Walk.{SimpleWalk, time_order, cutoff, is_older, time_if, Next}
-use Rattle.gix_revwalk.specs.Infos.{IsInfo, IsRowGeneration}
+use Rattle.gix_revwalk.specs.Infos.{given_ids, IsInfo, IsRowGeneration}
 use Rattle.gix_revwalk.specs.Ids.{ids_of, AreDistinct, new_ids}
 use Rattle.gix_revwalk.specs.Texts.{scanned, text_next, text_parents}
 use Rattle.gix_revwalk.specs.Asking.{AnswersBy}
@@ -194,12 +194,6 @@ pub record GivesBreadthFirst (objects : Objects) (next : ObjectId → List Objec
   pub in_order : IsListBy (IsFirstNew next starts) ids
   pub once : AreDistinct ids
   pub reached : (i : ObjectId) → Contains ids i ↔ Reaches next starts i
-
--- the ids of the commits among the answers
-abbrev pub given_ids : List (Result Info Error) → List ObjectId
-given_ids [] = []
-given_ids (Ok info ∷ list) = info.id ∷ given_ids list
-given_ids (Err e ∷ list) = given_ids list
 
 -- the answers are commits and no faults: exactly the commits that the tips reach and the hidden tips don't, each once
 pub record GivesDifference (objects : Objects) (tips hidden_tips : List ObjectId) (answers : List (Result Info Error)) : Type 0 where
