@@ -14,11 +14,13 @@ use Rattle.gix_commitgraph.specs.Rows.{GraphRow, row_of}
 use Rattle.gix_contained.specs.declared.search.Search.{Search}
 use Rattle.gix_contained.specs.declared.source.Waiting.{Waiting}
 use Rattle.gix_contained.specs.Contained.{DropsBy, IsContainedFault}
-use Rattle.gix_contained.specs.Inside.Search.{AreAsked, brings, by_row, by_store, Decides, drops, FollowFails, Follows, GivesParents, brought, looked_up, IsLowest, IsPassed, IsUnrowed, Knows, MeetFails, Meets, AskedId, Reads, SearchFails, Queued, room}
+use Rattle.gix_paint.specs.Inside.Painter.{Reads}
+use Rattle.gix_contained.specs.Inside.Search.{AreAsked, brings, by_row, by_store, Decides, drops, FollowFails, Follows, GivesParents, brought, looked_up, IsLowest, IsPassed, IsUnrowed, Knows, MeetFails, Meets, AskedId, SearchFails, Queued, room}
 use Rattle.gix_contained.proofs.Holding.{Holds, blank, dropped_for, given_there, met, passed_by, popped, unreached, all_read}
 use Rattle.gix_paint.specs.declared.Hidden.{Hidden}
 use Rattle.gix_paint.specs.declared.Hidden.TheVariants as hidden_by
-use Rattle.gix_paint.specs.Painting.{IsFaultAt, IsHistory, generation_in}
+use Rattle.gix_revwalk.specs.Infos.{generation_in}
+use Rattle.gix_paint.specs.Painting.{IsFaultAt, IsHistory}
 use Rattle.gix_revwalk.specs.Agreeing.{rows_in}
 use Rattle.gix_revwalk.specs.Commits.{commit_at, commit_of_object, parents_in, parents_of}
 use Rattle.gix_revwalk.specs.Ids.{new_ids}

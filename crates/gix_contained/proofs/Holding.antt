@@ -13,8 +13,10 @@ use Rattle.gix_commitgraph.specs.Rows.{GraphRow, row_of}
 use Rattle.gix_contained.specs.declared.search.Search.{Search}
 use Rattle.gix_contained.specs.Contained.{DropsBy}
 use Rattle.gix_contained.specs.declared.source.Waiting.{Waiting}
-use Rattle.gix_contained.specs.Inside.Search.{brings, by_row, by_store, drops, GivesParents, brought, looked_up, Knows, Meets, Queued, Reads, generation_if}
-use Rattle.gix_paint.specs.Painting.{IsHistory, generation_in}
+use Rattle.gix_paint.specs.Inside.Painter.{Reads}
+use Rattle.gix_contained.specs.Inside.Search.{brings, by_row, by_store, drops, GivesParents, brought, looked_up, Knows, Meets, Queued, generation_if}
+use Rattle.gix_revwalk.specs.Infos.{generation_in}
+use Rattle.gix_paint.specs.Painting.{IsHistory}
 use Rattle.gix_revwalk.specs.Agreeing.{IsAgreeing, RowAgrees, rows_in}
 use Rattle.gix_revwalk.specs.Commits.{commit_at, parents_in, parents_of}
 use Rattle.gix_revwalk.specs.Reading.{DropsRows}

@@ -3,7 +3,8 @@ use Rattle.std.proofs.Common.{List, Bool, Some, None}
 use Rattle.gix_hash.specs.declared.ObjectId.{ObjectId}
 use Rattle.gix_object.specs.Object.{Objects}
 use Rattle.gix_commitgraph.specs.Rows.{GraphRow}
-use Rattle.gix_contained.specs.Inside.Search.{Reads, ReadsParents, by_row, by_store, drops}
+use Rattle.gix_paint.specs.Inside.Painter.{Reads}
+use Rattle.gix_contained.specs.Inside.Search.{ReadsParents, by_row, by_store, drops}
 use Rattle.gix_revwalk.specs.declared.row.RowRead.{RowRead}
 use Rattle.gix_revwalk.specs.Reading.{ReadsRow, is_read, absent, corrupt, dropped}
 

@@ -9,7 +9,8 @@ use Rattle.gix_contained.specs.declared.Error.{Error}
 use Rattle.gix_contained.specs.declared.Error.TheVariants as error
 use Rattle.gix_paint.specs.declared.Hidden.{Hidden}
 use Rattle.gix_paint.specs.declared.Hidden.TheVariants as hidden_by
-use Rattle.gix_paint.specs.Painting.{IsFaultAt, IsHistory, generation_in}
+use Rattle.gix_revwalk.specs.Infos.{generation_in}
+use Rattle.gix_paint.specs.Painting.{IsFaultAt, IsHistory}
 use Rattle.gix_revwalk.specs.Agreeing.{IsCorrupt}
 use Rattle.gix_revwalk.specs.Commits.{commit_at, parents_of}
 

@@ -3,7 +3,8 @@ ghost use Rattle.std.specs.Prelude.{◌≡◌, ◌≢◌, IfOk, IfErr};
 ghost use Rattle.gix_object.specs.declared.find.existing_iter.Error.TheVariants as existing;
 ghost use Rattle.gix_paint.specs.Painting.{IsFaultAt};
 ghost use Rattle.gix_revwalk.specs.Agreeing.{rows_in};
-ghost use Rattle.gix_contained.specs.Inside.Search.{Reads, ReadsParents, GivesParents, IsPassed, IsUnrowed, Knows};
+ghost use Rattle.gix_paint.specs.Inside.Painter.{Reads};
+ghost use Rattle.gix_contained.specs.Inside.Search.{ReadsParents, GivesParents, IsPassed, IsUnrowed, Knows};
 
 use gix_commitgraph::Graph;
 use gix_hash::ObjectId;

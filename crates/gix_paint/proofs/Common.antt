@@ -15,7 +15,8 @@ pub use Rattle.gix_hash.proofs.Ids.Membership.{among-append, among_from, Contain
 pub use Rattle.gix_paint.specs.Inside.Painter.{AllMarks, Becomes, brought, by_row, by_store, covers, drops, FailsAmong, frontier_without, GivesParents, graph_in_use, hidden_of, Hides, hides, is_hidden, is_told, is_turn, is_turn_on, IsQueued}
 pub use Rattle.gix_paint.specs.Inside.Painter.{IsReadFor, IsSettled, IsTidy, IsWaiting, Knows, looked_up, Meets, Open, opens, Pops, Queues, Read, ReadFails, Reads, reads, ReadsParents, room, skips, State, state_by, state_of, stays, Takes}
 pub use Rattle.gix_paint.specs.Inside.Painter.{TreatFails, TreatsEntry, Unmet}
-pub use Rattle.gix_paint.specs.Painting.{DropsBy, generation_in, hidden_commit, IsFaultAt, IsHiddenFault, IsHistory, IsOpenBelow, IsRead, Paints, shown_commit}
+pub use Rattle.gix_revwalk.specs.Infos.{generation_in}
+pub use Rattle.gix_paint.specs.Painting.{DropsBy, hidden_commit, IsFaultAt, IsHiddenFault, IsHistory, IsOpenBelow, IsRead, Paints, shown_commit}
 pub use Rattle.gix_paint.specs.contracts.source.KeyOrd.TheImpl.{cmp-value}
 pub use Rattle.gix_paint.specs.declared.Entry.{Entry}
 pub use Rattle.gix_paint.specs.declared.Hidden.{Hidden}

@@ -14,6 +14,7 @@ use Rattle.gix_commitgraph.specs.Rows.{GraphRow, row_of}
 use Rattle.gix_paint.specs.declared.Hidden.{Hidden}
 use Rattle.gix_paint.specs.declared.Hidden.TheVariants as hidden_by
 use Rattle.gix_revwalk.specs.Agreeing.{IsAgreeing, IsCorrupt}
+use Rattle.gix_revwalk.specs.Infos.{generation_in}
 use Rattle.gix_revwalk.specs.Commits.{parents_of, commit_at}
 use Rattle.gix_hash.specs.Reach.{Reaches, IsAtBoundary}
 
@@ -29,11 +30,6 @@ IsFaultAt objects faulty i (hidden_by.ObjectDecode e) =
 pub record IsHistory (objects : Objects) (rows : List GraphRow) (history : Objects) : Type 0 where
   pub agreeing : IsAgreeing history rows
   pub read : (i : ObjectId) (commit : Commit) → commit_at objects i ≡ Some commit → commit_at history i ≡ Some commit
-
--- the generation of a row, and infinity where there is none
-abbrev pub generation_in : Option GraphRow → ℕ
-generation_in None = 2 ^ 32 - 1
-generation_in (Some row) = row.generation
 
 module _ (parents : ObjectId → List ObjectId) (rows : List GraphRow) (tips hidden_tips : List ObjectId) where
   -- An id at the boundary is open below a generation: whether it is hidden depends on commits of lesser generations alone. It is no hidden tip,

@@ -11,9 +11,10 @@ pub use Rattle.gix_object.specs.CommitRefIter.{commit_items_left, first_committe
 pub use Rattle.gix_object.specs.CommitText.{Commit, commit_of, commit_of_items, read_commit, seconds_of}
 pub use Rattle.gix_object.specs.Object.{Object, Objects}
 pub use Rattle.gix_hash.proofs.Ids.Membership.{among-append, among-one, among_from, among_is, Contains-cons_cases, Contains-here, Contains-there, no_member, same_back, same_from, same_is, same_itself}
-pub use Rattle.gix_revwalk.specs.BreadthOrder.{first_new, IsBreadthBeginning, IsBreadthOrder, named_by}
+pub use Rattle.gix_revwalk.specs.BreadthOrder.{first_new, IsFirstNew, named_by}
 pub use Rattle.gix_revwalk.specs.Commits.{by_mode, commit_at, commit_of_kind, commit_of_object, HasTime, parents_in, parents_of, ReadsWhole, time_in, time_of}
+pub use Rattle.gix_revwalk.specs.ListsByTurn.{IsBeginningBy, IsListBy}
 pub use Rattle.gix_revwalk.specs.RowParents.{ids_at, IsUnrowed, kept_rows, rows_if, with_id}
 pub use Rattle.gix_revwalk.specs.Texts.{next_in, scanned, text_next, with_parent}
-pub use Rattle.gix_revwalk.specs.TimeOrder.{is_no_worse, IsBest, IsFirstBest, IsNextByTime, IsNoWorse, IsPending, IsTimeBeginning, IsTimeOrder}
+pub use Rattle.gix_revwalk.specs.TimeOrder.{is_no_worse, IsBest, IsFirstBest, IsNextOne, IsNoWorse, IsPending}
 pub use Rattle.gix_revwalk.specs.declared.CommitTimeOrder.{CommitTimeOrder}

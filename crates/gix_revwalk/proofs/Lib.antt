@@ -10,13 +10,15 @@ pub mod NewIds
 pub mod Rows
 -- The row of an id, where it is looked for first.
 pub mod NearRow
--- What a list in order has: no id twice, and exactly what is reached; and what a beginning of one has.
-pub mod Orders
--- There is at most one list in breadth order, and one in each order by time.
-pub mod OneOrder
+-- Lists in which each comes in its turn: what holds along them; where one at most comes next, there is one.
+pub mod Beginnings
 -- Lists that go on by a step that names one new id of finitely many.
 pub mod Greedy
--- Over finitely many ids there is a list in breadth order, and one in an order by time.
+-- What a list has in which each is pending when it comes: exactly what is reached.
+pub mod Orders
+-- One id at most comes next in breadth order, and in each order by time.
+pub mod OneOrder
+-- Over finitely many ids there is a list in breadth order, and one in each order by time.
 pub mod SomeOrder
 -- A commit that reads whole gives the same parents by its items and by its row.
 pub mod ReadsWhole

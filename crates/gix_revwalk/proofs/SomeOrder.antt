@@ -1,16 +1,17 @@
--- Where finitely many ids are reached, there is a list in breadth order, one in each order by time, and a list of what is reached.
-use Rattle.std.proofs.Common.{◌≡◌, ◌↔◌, ◌≤◌, ℕ, ℤ, List, [], ◌∷◌, ◌++◌, length, take, slice_get, find, Bool, true, false, not, ◌&&◌, cond, filter, Option, Some, None, MatchOption, Contains, refl, sym, ap, subst, ⊎_elim, ◌∙◌, arith}
+-- What comes next in breadth order or by time is pending. Where finitely many ids are reached, there is a list in each order, and a list of
+-- what is reached.
+use Rattle.std.proofs.Common.{◌≡◌, ◌↔◌, ℤ, pos, List, [], ◌∷◌, ◌++◌, find, Bool, true, false, not, ◌&&◌, cond, filter, Option, Some, None, MatchOption, Contains, refl, sym, ap, subst, ⊎_elim, ◌∙◌, arith}
 use Rattle.std.proofs.Common.{flat_map, true≢false}
 use Rattle.std.specs.FinMap as map_of
-use Rattle.std.proofs.lemmas.Bool.{not-true, not_from_false, false_from_ne_true, and_parts, and_from}
+use Rattle.std.proofs.lemmas.Bool.{not-true, not-false, not_from_false, false_from_ne_true, and_parts, and_from}
 use Rattle.std.proofs.lemmas.Int.{ints}
 use Rattle.std.proofs.lemmas.List.Elements.{Contains-append_left, Contains-append_right}
-use Rattle.gix_revwalk.proofs.Common.{ObjectId, is_among, Reaches, start, step, among_from, among_is, Contains-here, Contains-there, Contains-cons_cases, no_member, Object, Objects, CommitTimeOrder, named_by, first_new, IsBreadthOrder}
-use Rattle.gix_revwalk.proofs.Common.{IsTimeOrder, IsPending, IsBest, IsFirstBest, IsNoWorse, is_no_worse, parents_of, parents_in, commit_of_object}
+use Rattle.gix_revwalk.proofs.Common.{ObjectId, is_among, Reaches, start, step, among_from, among_is, Contains-here, Contains-there, Contains-cons_cases, no_member, Object, Objects, CommitTimeOrder, IsBeginningBy, IsListBy}
+use Rattle.gix_revwalk.proofs.Common.{named_by, first_new, IsFirstNew, IsNextOne, IsPending, IsBest, IsFirstBest, IsNoWorse, is_no_worse, parents_of, parents_in, commit_of_object}
 use Rattle.gix_revwalk.specs.declared.CommitTimeOrder.TheVariants.{NewestFirst, OldestFirst}
-use Rattle.gix_revwalk.proofs.Greedy.{GoesOn, steps_exist}
+use Rattle.gix_revwalk.proofs.Greedy.{GoesOn, Picks, none_has, some_list}
 use Rattle.gix_revwalk.proofs.NewIds.{among_flat, among-filter, find-filter}
-use Rattle.gix_revwalk.proofs.Orders.{found_passes, reached_by_named, reached_is_given, given_is_reached, Contains-push, work_from_breadth, work_begins}
+use Rattle.gix_revwalk.proofs.Orders.{AreReached, found_passes, none_passes, reached_by_named, reached_is_given, reached_more, given_is_reached}
 use Rattle.gix_revwalk.proofs.Rows.{found_entry}
 
 pub no_worse_is : (order : CommitTimeOrder) (a b : ℤ) → is_no_worse order a b ≡ true → IsNoWorse order a b
@@ -97,53 +98,58 @@ module _ (order : CommitTimeOrder) (time : ObjectId → ℤ) where
         first = sym (find-filter (λ j. is_no_worse order (time j) (time i)) (λ j. not (is_among j taken)) names) ∙ first_best (untaken taken names) i (sym e);
       }
 
--- what starts reach is among finitely many ids
-module _ (next : ObjectId → List ObjectId) (starts all : List ObjectId) (finite : (i : ObjectId) → Reaches next starts i → Contains all i) where
-  abbrev pub AreReached : List ObjectId → Type 0
-  AreReached taken = (c : ObjectId) → Contains taken c → Reaches next starts c
+module _ (next : ObjectId → List ObjectId) (starts : List ObjectId) where
+  abbrev pending : List ObjectId → List ObjectId
+  pending taken = untaken taken (named_by next starts taken)
 
-  goes_on : (taken : List ObjectId) (i : ObjectId) → AreReached taken → IsPending next starts taken i → GoesOn all AreReached taken i
-  goes_on taken i reached p =
-      let here : Reaches next starts i = reached_by_named next starts taken reached i p.0 in
-      record {
-        known = among_from i all (finite i here);
-        is_new = false_from_ne_true _ (λ e. p.1 (among_is i taken e));
-        fits = λ c m. ⊎_elim (λ n. reached c n) (λ e. subst (Reaches next starts) e here) (Contains-push next starts taken i c m);
-      }
+  pending_is : (taken : List ObjectId) (i : ObjectId) → Contains (pending taken) i ↔ IsPending next starts taken i
+  pending_is taken i = (
+    λ c.
+        let e : (not (is_among i taken) && is_among i (named_by next starts taken)) ≡ true = sym (among-filter i (λ j. not (is_among j taken)) (named_by next starts taken)) ∙ among_from i (pending taken) c in
+        (among_is i (named_by next starts taken) (and_parts _ _ e).1, λ t. true≢false (sym (among_from i taken t) ∙ not-true _ (and_parts _ _ e).0)),
+    λ p. among_is i (pending taken) (among-filter i (λ j. not (is_among j taken)) (named_by next starts taken) ∙ and_from _ _ (not_from_false _ (false_from_ne_true _ (λ e. p.1 (among_is i taken e)))) (among_from i _ p.0)),
+  )
 
-  pub breadth_exists : (ids : List ObjectId) × IsBreadthOrder next starts ids
-  breadth_exists =
-      let steps : (ids : List ObjectId) × ((k : ℕ) → k ≤ length ids → (slice_get ids k ≡ first_new (named_by next starts (take k ids)) (take k ids)) × AreReached (take k ids)) =
-      steps_exist all (λ taken. first_new (named_by next starts taken) taken) AreReached
-      (λ taken i reached e.
-      let h : Contains (named_by next starts taken) i × (not (is_among i taken) ≡ true) = found_passes (λ j. not (is_among j taken)) (named_by next starts taken) i (sym e) in
-      goes_on taken i reached (h.0, λ c. true≢false (sym (among_from i taken c) ∙ not-true _ h.1))) (λ c m. absurd (no_member c m)) in
-      (steps.0, λ k b. (steps.1 k b).0)
+  -- what comes next is pending, and something does where anything is
+  pub next_is_pending : (o : Option CommitTimeOrder) (time : ObjectId → ℤ) (taken : List ObjectId) (i : ObjectId) → IsNextOne o time next starts taken i → IsPending next starts taken i
+  next_is_pending None time taken i e =
+      let h : Contains (named_by next starts taken) i × (not (is_among i taken) ≡ true) = found_passes (λ j. not (is_among j taken)) (named_by next starts taken) i e in
+      (h.0, λ c. true≢false (sym (among_from i taken c) ∙ not-true _ h.1))
+  next_is_pending (Some order) time taken i h = h.best.among
 
-  -- what is reached, in a list
-  pub reached_list : (list : List ObjectId) × ((i : ObjectId) → Contains list i ↔ Reaches next starts i)
-  reached_list =
-      let order : (ids : List ObjectId) × IsBreadthOrder next starts ids = breadth_exists in
-      (order.0, λ i. (given_is_reached next starts order.0 (work_begins next starts order.0 (work_from_breadth next starts order.0 order.1)) i, reached_is_given next starts order.0 (work_from_breadth next starts order.0 order.1) i))
+  pub picks : (o : Option CommitTimeOrder) (time : ObjectId → ℤ) (taken : List ObjectId) → Picks (IsPending next starts) (IsNextOne o time next starts) taken
+  picks (Some order) time taken = (best order time (pending taken), best_of order time (IsPending next starts taken) (named_by next starts taken) taken (pending_is taken) (best order time (pending taken)) refl)
+  picks None time taken = (first_new (named_by next starts taken) taken, go (first_new (named_by next starts taken) taken) refl)
+    where
+      go : (o : Option ObjectId) → first_new (named_by next starts taken) taken ≡ o → MatchOption o ((i : ObjectId) → IsPending next starts taken i → ⊥) (IsFirstNew next starts taken)
+      go None e = λ i p. p.1 (among_is i taken (not-false _ (none_passes _ (named_by next starts taken) i e p.0)))
+      go (Some i) e = e
 
-  module _ (order : CommitTimeOrder) (time : ObjectId → ℤ) where
-    abbrev pending : List ObjectId → List ObjectId
-    pending taken = untaken taken (named_by next starts taken)
+  pub pending_begins : (o : Option CommitTimeOrder) (time : ObjectId → ℤ) (ids : List ObjectId) → IsBeginningBy (IsNextOne o time next starts) ids → IsBeginningBy (IsPending next starts) ids
+  pending_begins o time ids h taken rest i e = next_is_pending o time taken i (h taken rest i e)
 
-    pending_is : (taken : List ObjectId) (i : ObjectId) → Contains (pending taken) i ↔ IsPending next starts taken i
-    pending_is taken i = (
-      λ c.
-          let e : (not (is_among i taken) && is_among i (named_by next starts taken)) ≡ true = sym (among-filter i (λ j. not (is_among j taken)) (named_by next starts taken)) ∙ among_from i (pending taken) c in
-          (among_is i (named_by next starts taken) (and_parts _ _ e).1, λ t. true≢false (sym (among_from i taken t) ∙ not-true _ (and_parts _ _ e).0)),
-      λ p. among_is i (pending taken) (among-filter i (λ j. not (is_among j taken)) (named_by next starts taken) ∙ and_from _ _ (not_from_false _ (false_from_ne_true _ (λ e. p.1 (among_is i taken e)))) (among_from i _ p.0)),
-    )
+  pub pending_list : (o : Option CommitTimeOrder) (time : ObjectId → ℤ) (ids : List ObjectId) → IsListBy (IsNextOne o time next starts) ids → IsListBy (IsPending next starts) ids
+  pending_list o time ids h = record { begins = pending_begins o time ids h.begins; ends = none_has (IsPending next starts) (IsNextOne o time next starts) ids (picks o time ids) h.ends }
 
-    pub time_exists : (ids : List ObjectId) × IsTimeOrder order time next starts ids
-    time_exists =
-        let steps : (ids : List ObjectId) × ((k : ℕ) → k ≤ length ids → (slice_get ids k ≡ best order time (pending (take k ids))) × AreReached (take k ids)) =
-        steps_exist all (λ taken. best order time (pending taken)) AreReached
-        (λ taken i reached e. goes_on taken i reached (best_of order time (IsPending next starts taken) (named_by next starts taken) taken (pending_is taken) (Some i) e).best.among) (λ c m. absurd (no_member c m)) in
-        (steps.0, λ k b. best_of order time (IsPending next starts (take k steps.0)) (named_by next starts (take k steps.0)) (take k steps.0) (pending_is (take k steps.0)) (slice_get steps.0 k) (steps.1 k b).0)
+  -- where what starts reach is among finitely many ids
+  module _ (all : List ObjectId) (finite : (i : ObjectId) → Reaches next starts i → Contains all i) where
+    goes_on : (taken : List ObjectId) (i : ObjectId) → AreReached next starts taken → IsPending next starts taken i → GoesOn all (AreReached next starts) taken i
+    goes_on taken i reached p = record {
+      known = among_from i all (finite i (reached_by_named next starts taken reached i p.0));
+      is_new = false_from_ne_true _ (λ e. p.1 (among_is i taken e));
+      fits = reached_more next starts taken i reached p;
+    }
+
+    pub order_exists : (o : Option CommitTimeOrder) (time : ObjectId → ℤ) → (ids : List ObjectId) × IsListBy (IsNextOne o time next starts) ids
+    order_exists o time =
+        some_list all (IsPending next starts) (IsNextOne o time next starts) (AreReached next starts) (λ taken i fits. next_is_pending o time taken i) (λ taken fits. picks o time taken) (λ taken i fits n. goes_on taken i fits (next_is_pending o time taken i n)) (λ c m. absurd (no_member c m))
+
+    -- what is reached, in a list
+    pub reached_list : (list : List ObjectId) × ((i : ObjectId) → Contains list i ↔ Reaches next starts i)
+    reached_list =
+        let order : (ids : List ObjectId) × IsListBy (IsNextOne None (λ i. pos 0) next starts) ids = order_exists None (λ i. pos 0) in
+        let list : IsListBy (IsPending next starts) order.0 = pending_list None (λ i. pos 0) order.0 order.1 in
+        (order.0, λ i. (given_is_reached next starts order.0 list.begins i, reached_is_given next starts order.0 list i))
 
 -- all parents that the store names
 abbrev all_parents : Objects → List ObjectId

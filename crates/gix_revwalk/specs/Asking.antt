@@ -1,6 +1,7 @@
 -- What a predicate is asked, and what it becomes by it.
-use Rattle.std.specs.Prelude.{◌≡◌, Bool, List, [], ◌∷◌}
+use Rattle.std.specs.Prelude.{◌≡◌, Bool, true, List, [], ◌∷◌}
 use Rattle.gix_hash.specs.declared.ObjectId.{ObjectId}
+use Rattle.gix_revwalk.specs.declared.Unfiltered.{Unfiltered}
 
 -- what a predicate becomes by being asked
 pub data Becomes {P : Type 0} (answers : P → ObjectId → Bool → P → Type 0) (old : P) : P → Type 0 where
@@ -16,3 +17,7 @@ AnswersBy {P} answers predicate accepts = (mid new : P) (i : ObjectId) (answer :
 pub data AsksAll {P : Type 0} (answers : P → ObjectId → Bool → P → Type 0) : P → List ObjectId → P → Type 0 where
   none : {p : P} → AsksAll answers p [] p
   more : {p q r : P} {i : ObjectId} {ids : List ObjectId} {answer : Bool} → answers p i answer q → AsksAll answers q ids r → AsksAll answers p (i ∷ ids) r
+
+-- the predicate that accepts all
+abbrev pub accepts_all : Unfiltered → ObjectId → Bool → Unfiltered → Type 0
+accepts_all old i answer new = (answer ≡ true) × (new ≡ old)

@@ -1,5 +1,5 @@
 -- The order of a walk that takes what came first. Each commit of the list is defined by the commits before it.
-use Rattle.std.specs.Prelude.{◌≡◌, ◌≤◌, ◌<◌, ℕ, List, ◌++◌, not, Option, length, take, find, slice_get}
+use Rattle.std.specs.Prelude.{◌≡◌, List, ◌++◌, not, Option, Some, find}
 use Rattle.std.specs.List.{flat_map}
 use Rattle.gix_hash.specs.declared.ObjectId.{ObjectId}
 use Rattle.gix_hash.specs.Id.{is_among}
@@ -12,14 +12,6 @@ first_new ids those = find (λ i. not (is_among i those)) ids
 abbrev pub named_by : (ObjectId → List ObjectId) → List ObjectId → List ObjectId → List ObjectId
 named_by next starts taken = starts ++ flat_map next taken
 
--- Each commit is the first, of the starts and then of what the commits before it name, that isn't among these.
--- The list ends where there is none.
-abbrev pub IsBreadthOrder : (ObjectId → List ObjectId) → List ObjectId → List ObjectId → Type 0
-IsBreadthOrder next starts ids =
-    (k : ℕ) → k ≤ length ids → slice_get ids k ≡ first_new (named_by next starts (take k ids)) (take k ids)
-
--- The beginning of such a list, up to any place: each commit is the first, of the starts and then of what the commits before it name,
--- that isn't among these.
-abbrev pub IsBreadthBeginning : (ObjectId → List ObjectId) → List ObjectId → List ObjectId → Type 0
-IsBreadthBeginning next starts ids =
-    (k : ℕ) → k < length ids → slice_get ids k ≡ first_new (named_by next starts (take k ids)) (take k ids)
+-- what comes next: the first, of the starts and then of what the commits taken name, that isn't among these
+abbrev pub IsFirstNew : (ObjectId → List ObjectId) → List ObjectId → List ObjectId → ObjectId → Type 0
+IsFirstNew next starts taken i = first_new (named_by next starts taken) taken ≡ Some i

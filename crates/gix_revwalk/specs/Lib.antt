@@ -23,6 +23,8 @@ pub mod Asking
 pub mod Tips
 -- A commit from the store or from a commit-graph.
 pub mod Either
+-- Lists in which each comes in its turn.
+pub mod ListsByTurn
 -- What was named first comes first.
 pub mod BreadthOrder
 -- Of what is met always one of best time comes next.

@@ -1,10 +1,10 @@
 -- The order of a walk that takes the best time, and of one time what was named first.
-use Rattle.std.specs.Prelude.{◌≡◌, ◌≤◌, ◌≤ℤ◌, ℕ, ℤ, int_le, Bool, not, ◌&&◌, List, Some, MatchOption, length, take, slice_get, find, Contains}
+use Rattle.std.specs.Prelude.{◌≡◌, ◌≤ℤ◌, ℤ, int_le, Bool, not, ◌&&◌, List, Option, None, Some, find, Contains}
 use Rattle.gix_hash.specs.declared.ObjectId.{ObjectId}
 use Rattle.gix_hash.specs.Id.{is_among}
 use Rattle.gix_revwalk.specs.declared.CommitTimeOrder.{CommitTimeOrder}
 use Rattle.gix_revwalk.specs.declared.CommitTimeOrder.TheVariants.{NewestFirst, OldestFirst}
-use Rattle.gix_revwalk.specs.BreadthOrder.{named_by}
+use Rattle.gix_revwalk.specs.BreadthOrder.{named_by, IsFirstNew}
 
 -- the first of two times is as good as the second
 abbrev pub IsNoWorse : CommitTimeOrder → ℤ → ℤ → Type 0
@@ -30,16 +30,11 @@ pub record IsFirstBest (order : CommitTimeOrder) (time : ObjectId → ℤ) (P : 
   pub best : IsBest order time P i
   pub first : find (λ j. not (is_among j taken) && is_no_worse order (time j) (time i)) names ≡ Some i
 
--- a pending one of best time, and of these the one that was named first
+-- what comes next: a pending one of best time, and of these the one that was named first
 abbrev pub IsNextByTime : CommitTimeOrder → (ObjectId → ℤ) → (ObjectId → List ObjectId) → List ObjectId → List ObjectId → ObjectId → Type 0
 IsNextByTime order time next starts taken = IsFirstBest order time (IsPending next starts taken) (named_by next starts taken) taken
 
--- Each commit is a pending one of best time, and of these the one that was named first. The list ends where none is pending.
-abbrev pub IsTimeOrder : CommitTimeOrder → (ObjectId → ℤ) → (ObjectId → List ObjectId) → List ObjectId → List ObjectId → Type 0
-IsTimeOrder order time next starts ids =
-    (k : ℕ) → k ≤ length ids →
-    MatchOption (slice_get ids k) ((i : ObjectId) → IsPending next starts (take k ids) i → ⊥) (IsNextByTime order time next starts (take k ids))
-
--- The beginning of such a list, up to any place: each commit is the next one by time.
-abbrev pub IsTimeBeginning : CommitTimeOrder → (ObjectId → ℤ) → (ObjectId → List ObjectId) → List ObjectId → List ObjectId → Type 0
-IsTimeBeginning order time next starts ids = (k : ℕ) (i : ObjectId) → slice_get ids k ≡ Some i → IsNextByTime order time next starts (take k ids) i
+-- what comes next in an order by time, or else in breadth order
+abbrev pub IsNextOne : Option CommitTimeOrder → (ObjectId → ℤ) → (ObjectId → List ObjectId) → List ObjectId → List ObjectId → ObjectId → Type 0
+IsNextOne None time = IsFirstNew
+IsNextOne (Some order) time = IsNextByTime order time

@@ -1,18 +1,14 @@
 -- Two walks that were built by the same calls walk the same commits in the same order.
 use Rattle.std.proofs.Common.{◌≡◌, ◌↔◌, ℤ, List, [], filter, Bool, false, not, Option, Some, None, Result, Contains, refl, sym, ap, subst, ◌∙◌, true≢false}
-use Rattle.gix_simple.proofs.Common.{transport, AllZip, CommitTimeOrder, IsGiven, false_from_ne_true, ObjectId, Objects, Info, Error, parents_of, time_of, Reaches, Tells, SimpleWalk, time_order, cutoff, is_older, ids_of, AnswersBy, IsWholeRun, IsInOrder, GivesInOrder}
+use Rattle.gix_simple.proofs.Common.{transport, AllZip, CommitTimeOrder, IsGiven, false_from_ne_true, ObjectId, Objects, Info, Error, parents_of, time_of, Reaches, Tells, SimpleWalk, time_order, cutoff, is_older, ids_of, AnswersBy, IsWholeRun, IsListBy, IsNextKept, IsNextOne, GivesInOrder}
 use Rattle.gix_simple.proofs.Common.{kept_parents, next_of, starts_of}
 use Rattle.gix_revwalk.specs.declared.Parents.TheVariants as mode
 use Rattle.gix_simple.specs.Runs.{AreAlike, GiveTheSame, GivesUnhidden, AreBuiltAlike, made, breadth_first, by_time, walks, hides, reads}
-use Rattle.gix_revwalk.proofs.OneOrder.{one_breadth, one_time}
+use Rattle.gix_revwalk.proofs.Beginnings.{one_list}
+use Rattle.gix_revwalk.proofs.OneOrder.{one_next}
 use Rattle.gix_simple.proofs.Builders.{recent_ids}
 use Rattle.gix_simple.proofs.Corollaries.{gives, gives_once, no_tips, all_kept, shown_reached, reached_shown}
 use Rattle.gix_simple.proofs.MadeOfTips.{is_new_walk}
-
--- there is one list in an order
-one_in_order : (o : Option CommitTimeOrder) (time : ObjectId → ℤ) (next : ObjectId → List ObjectId) (starts ids those : List ObjectId) → IsInOrder o time next starts ids → IsInOrder o time next starts those → ids ≡ those
-one_in_order None time next starts ids those h k = one_breadth next starts ids those h k
-one_in_order (Some order) time next starts ids those h k = one_time order time next starts ids those h k
 
 module _ {F P : Type 0} (objects : F → Objects) (faulty : F → ObjectId → Type 0) (answers : P → ObjectId → Bool → P → Type 0) where
   module _ (store : F) (predicate : P) (accepts : ObjectId → Bool) (tips : List ObjectId) (by_test : AnswersBy answers predicate accepts) where
@@ -46,11 +42,11 @@ module _ {F P : Type 0} (objects : F → Objects) (faulty : F → ObjectId → T
     give_the_same hidden list there run run_there =
         let g : GivesInOrder objects walk accepts hidden list = gives objects faulty answers walk accepts hidden list run in
         let h : GivesInOrder objects other accepts hidden there = gives objects faulty answers other accepts hidden there run_there in
-        let other_order : IsInOrder (time_order walk.parents walk.sorting) (time_of (objects walk.store)) (next_of objects walk accepts hidden) (starts_of walk hidden) h.ids =
+        let other_order : IsListBy (IsNextKept objects walk accepts hidden) h.ids =
         transport (λ k.
-        IsInOrder (time_order (alike.same_parents k) (alike.same_sorting k)) (time_of (objects (alike.same_store k))) (kept_parents (objects (alike.same_store k)) (alike.same_parents k) accepts hidden (cutoff (alike.same_parents k) (alike.same_sorting k)))
-        (filter (λ j. not (hidden j)) (alike.same_pending k)) h.ids) h.in_order in
-        let same : g.ids ≡ h.ids = one_in_order (time_order walk.parents walk.sorting) (time_of (objects walk.store)) (next_of objects walk accepts hidden) (starts_of walk hidden) g.ids h.ids g.in_order other_order in
+        IsListBy (IsNextOne (time_order (alike.same_parents k) (alike.same_sorting k)) (time_of (objects (alike.same_store k))) (kept_parents (objects (alike.same_store k)) (alike.same_parents k) accepts hidden (cutoff (alike.same_parents k) (alike.same_sorting k)))
+        (filter (λ j. not (hidden j)) (alike.same_pending k))) h.ids) h.in_order in
+        let same : g.ids ≡ h.ids = one_list (IsNextKept objects walk accepts hidden) (one_next (time_order walk.parents walk.sorting) (time_of (objects walk.store)) (next_of objects walk accepts hidden) (starts_of walk hidden)) g.ids h.ids g.in_order other_order in
         record { ids = g.ids; given = g.given; given_there = subst (AllZip (IsGiven (objects other.store) other.rows other.parents (time_order other.parents other.sorting)) there) (sym same) h.given }
 
     pub gives_unhidden : other.hidden_tips ≡ [] → (hidden shown : ObjectId → Bool) (list longer : List (Result Info Error)) → IsWholeRun objects faulty answers walk accepts hidden list → IsWholeRun objects faulty answers other accepts shown longer → GivesUnhidden objects walk other list longer

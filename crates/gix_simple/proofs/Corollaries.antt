@@ -1,48 +1,30 @@
 -- The laws that follow from the theorem over whole walks.
-use Rattle.std.proofs.Common.{◌≡◌, ◌↔◌, ◌≤◌, ◌≤ℤ◌, ℕ, suc, ℤ, List, [], ◌∷◌, ◌++◌, filter, length, take, slice_get, Bool, true, false, not, ◌&&◌, Option, Some, None, Result, Ok, Err, Contains, MatchOption, refl, sym, ap, subst, ⊎_elim}
+use Rattle.std.proofs.Common.{◌≡◌, ◌↔◌, ◌≤ℤ◌, ℕ, ℤ, List, [], ◌∷◌, ◌++◌, filter, Bool, true, false, not, ◌&&◌, Option, Some, None, Result, Ok, Err, Contains, refl, sym, ap, subst, ⊎_elim}
 use Rattle.std.proofs.Common.{◌∙◌, arith, true≢false}
 use Rattle.gix_simple.proofs.Common.{AllZip, Contains-append_left, Contains-append_right, Contains-append_cases, false≢true, and_parts, and_from, not_from_false, not-true, false_from_ne_true, ObjectId, Objects, GraphRow, row_of, Parents}
-use Rattle.gix_simple.proofs.Common.{Info, CommitTimeOrder, Error, named_by, IsBreadthOrder, Reaches, start, step, Tells, IsAgreeing, time_of, parents_of, walked_parents, SimpleWalk, time_order, cutoff, is_older, ids_of, AreDistinct}
-use Rattle.gix_simple.proofs.Common.{IsGiven, IsInOrder, IsBeginning, GivesInOrder, GivesBeginning, IsWholeRun, IsBegunRun, starts_of, next_of, is_kept, kept_parents, accepted_parents, recent_parents, IsPlain, IsPlainRun, filter_all}
+use Rattle.gix_simple.proofs.Common.{Info, CommitTimeOrder, Error, named_by, Reaches, start, step, Tells, IsAgreeing, time_of, parents_of, walked_parents, SimpleWalk, time_order, cutoff, is_older, ids_of, AreDistinct}
+use Rattle.gix_simple.proofs.Common.{IsGiven, IsBeginningBy, IsListBy, IsFirstNew, IsNextOne, GivesInOrder, GivesBeginning, IsWholeRun, IsBegunRun, starts_of, next_of, is_kept, kept_parents, accepted_parents, recent_parents, IsPlain, IsPlainRun, filter_all}
 use Rattle.gix_simple.proofs.Common.{among_from, among_is, Contains-here, Contains-cons_cases, no_member, among-filter, named-push, transport, and-true, walked_within}
-use Rattle.std.proofs.lemmas.Option.{slice_get_within, get_or_from_slice_get}
-use Rattle.std.proofs.Math.Seq.{take-suc}
 use Rattle.gix_revwalk.specs.declared.CommitTimeOrder.TheVariants.{NewestFirst}
-use Rattle.gix_revwalk.specs.TimeOrder.{IsTimeOrder, IsPending, IsNextByTime}
+use Rattle.gix_revwalk.specs.TimeOrder.{IsPending, IsNextByTime}
+use Rattle.gix_revwalk.proofs.Beginnings.{on, once}
 use Rattle.gix_revwalk.specs.Infos.{IsInfo, IsRowGeneration}
-use Rattle.gix_revwalk.proofs.Orders.{IsWorkOrder, IsWorkBeginning, IsDistinctFrom, work_from_breadth, work_from_time, work_begins, work_from_breadth_beginning, work_from_time_beginning, reached_is_given, given_is_reached, given_once}
+use Rattle.gix_revwalk.proofs.Orders.{given_is_reached, reached_is_given}
+use Rattle.gix_revwalk.proofs.SomeOrder.{next_is_pending, pending_list}
 use Rattle.gix_simple.proofs.Treated.{no_cutoff}
 use Rattle.gix_simple.proofs.Theorem.{no_start, Contains-filter, gives_in_order, gives_beginning}
 
--- one and all
-distinct_is : (taken ids : List ObjectId) → IsDistinctFrom taken ids → AreDistinct ids × ((i : ObjectId) → Contains taken i → Contains ids i → ⊥)
-distinct_is taken [] h = (tt, λ i t c. no_member i c)
-distinct_is taken (x ∷ ids) h =
-    let r : AreDistinct ids × ((i : ObjectId) → Contains (taken ++ x ∷ []) i → Contains ids i → ⊥) = distinct_is (taken ++ x ∷ []) ids h.1 in (
-      (λ c. r.1 x (Contains-append_right taken (x ∷ []) x (Contains-here x [])) c, r.0),
-      λ i t c. ⊎_elim (λ e. h.0 (subst (λ y. Contains taken y) (sym e) t)) (λ n. r.1 i (Contains-append_left taken (x ∷ []) i t) n) (Contains-cons_cases i x ids c),
-    )
-
-work_of : (o : Option CommitTimeOrder) (time : ObjectId → ℤ) (next : ObjectId → List ObjectId) (starts ids : List ObjectId) → IsInOrder o time next starts ids → IsWorkOrder next starts ids
-work_of None time next starts ids h = work_from_breadth next starts ids h
-work_of (Some order) time next starts ids h = work_from_time order time next starts ids h
+-- a beginning has no id twice, and only what is reached
+pub begun_once : (o : Option CommitTimeOrder) (time : ObjectId → ℤ) (next : ObjectId → List ObjectId) (starts ids : List ObjectId) → IsBeginningBy (IsNextOne o time next starts) ids → AreDistinct ids × ((i : ObjectId) → Contains ids i → Reaches next starts i)
+begun_once o time next starts ids h =
+    let b : IsBeginningBy (IsPending next starts) ids = λ taken rest i e. next_is_pending next starts o time taken i (h taken rest i e) in
+    (once (IsPending next starts) (λ taken i p. p.1) ids b, given_is_reached next starts ids b)
 
 -- a list in order has each id that is reached, once
-pub each_once : (o : Option CommitTimeOrder) (time : ObjectId → ℤ) (next : ObjectId → List ObjectId) (starts ids : List ObjectId) → IsInOrder o time next starts ids → AreDistinct ids × ((i : ObjectId) → Contains ids i ↔ Reaches next starts i)
+pub each_once : (o : Option CommitTimeOrder) (time : ObjectId → ℤ) (next : ObjectId → List ObjectId) (starts ids : List ObjectId) → IsListBy (IsNextOne o time next starts) ids → AreDistinct ids × ((i : ObjectId) → Contains ids i ↔ Reaches next starts i)
 each_once o time next starts ids h =
-    let w : IsWorkOrder next starts ids = work_of o time next starts ids h in
-    let b : IsWorkBeginning next starts ids = work_begins next starts ids w in
-    ((distinct_is [] ids (given_once next starts ids b)).0, λ i. (given_is_reached next starts ids b i, reached_is_given next starts ids w i))
-
-work_beginning : (o : Option CommitTimeOrder) (time : ObjectId → ℤ) (next : ObjectId → List ObjectId) (starts ids : List ObjectId) → IsBeginning o time next starts ids → IsWorkBeginning next starts ids
-work_beginning None time next starts ids h = work_from_breadth_beginning next starts ids h
-work_beginning (Some order) time next starts ids h = work_from_time_beginning order time next starts ids h
-
--- a beginning has no id twice, and only what is reached
-pub begun_once : (o : Option CommitTimeOrder) (time : ObjectId → ℤ) (next : ObjectId → List ObjectId) (starts ids : List ObjectId) → IsBeginning o time next starts ids → AreDistinct ids × ((i : ObjectId) → Contains ids i → Reaches next starts i)
-begun_once o time next starts ids h =
-    let b : IsWorkBeginning next starts ids = work_beginning o time next starts ids h in
-    ((distinct_is [] ids (given_once next starts ids b)).0, given_is_reached next starts ids b)
+    let b = begun_once o time next starts ids h.begins in
+    (b.0, λ i. (b.1 i, reached_is_given next starts ids (pending_list next starts o time ids h) i))
 
 -- what hidden tips cut away
 module _ (objects : Objects) (m : Parents) (accepts hides : ObjectId → Bool) (limit : Option ℤ) (tips hidden_tips : List ObjectId) (tells : Tells hides (Reaches (parents_of objects) hidden_tips)) where
@@ -79,16 +61,12 @@ module _ (objects : Objects) (m : Parents) (accepts hides : ObjectId → Bool) (
       (step (reached_shown c r).0 (in_filter _ (walked_parents objects m c) i a.0 k.0), k.1)
 
 -- the times never rise
-pub times_fall : (time : ObjectId → ℤ) (next : ObjectId → List ObjectId) (starts ids : List ObjectId) → IsTimeOrder NewestFirst time next starts ids → ((c i : ObjectId) → Contains (next c) i → time i ≤ℤ time c) → (k : ℕ) (a b : ObjectId) → slice_get ids k ≡ Some a → slice_get ids (suc k) ≡ Some b → time b ≤ℤ time a
-times_fall time next starts ids h older k a b ea eb =
-    let best_a : IsNextByTime NewestFirst time next starts (take k ids) a =
-    subst (λ o. MatchOption o ((i : ObjectId) → IsPending next starts (take k ids) i → ⊥) (IsNextByTime NewestFirst time next starts (take k ids))) ea (h k (let w : suc k ≤ length ids = slice_get_within ids k a ea in omega arith)) in
-    let best_b : IsNextByTime NewestFirst time next starts (take (suc k) ids) b =
-    subst (λ o. MatchOption o ((i : ObjectId) → IsPending next starts (take (suc k) ids) i → ⊥) (IsNextByTime NewestFirst time next starts (take (suc k) ids))) eb (h (suc k) (let w : suc (suc k) ≤ length ids = slice_get_within ids (suc k) b eb in omega arith)) in
-    let taken : take (suc k) ids ≡ take k ids ++ a ∷ [] = take-suc ids k a (slice_get_within ids k a ea) ∙ ap (λ x. take k ids ++ x ∷ []) (get_or_from_slice_get ids k a a ea) in
-    let named : named_by next starts (take (suc k) ids) ≡ named_by next starts (take k ids) ++ next a = ap (named_by next starts) taken ∙ named-push next starts (take k ids) a in
-    ⊎_elim (λ n. best_a.best.best b (n, λ c. best_b.best.among.1 (subst (λ xs. Contains xs b) (sym taken) (Contains-append_left (take k ids) (a ∷ []) b c)))) (λ n. older a b n)
-    (Contains-append_cases (named_by next starts (take k ids)) (next a) b (subst (λ xs. Contains xs b) named best_b.best.among.0))
+pub times_fall : (time : ObjectId → ℤ) (next : ObjectId → List ObjectId) (starts ids : List ObjectId) → IsListBy (IsNextByTime NewestFirst time next starts) ids → ((c i : ObjectId) → Contains (next c) i → time i ≤ℤ time c)
+    → (taken rest : List ObjectId) (a b : ObjectId) → ids ≡ taken ++ a ∷ b ∷ rest → time b ≤ℤ time a
+times_fall time next starts ids h older taken rest a b e =
+    let behind : IsNextByTime NewestFirst time next starts (taken ++ a ∷ []) b = h.begins (taken ++ a ∷ []) rest b (on taken (b ∷ rest) a e) in
+    ⊎_elim (λ n. (h.begins taken (b ∷ rest) a e).best.best b (n, λ c. behind.best.among.1 (Contains-append_left taken (a ∷ []) b c))) (λ n. older a b n)
+    (Contains-append_cases (named_by next starts taken) (next a) b (subst (λ xs. Contains xs b) (named-push next starts taken a) behind.best.among.0))
 
 -- walks without hidden tips and rows
 pub all_kept : (xs : List ObjectId) → filter (λ i. not false) xs ≡ xs
@@ -124,20 +102,20 @@ module _ {F P : Type 0} (objects : F → Objects) (faulty : F → ObjectId → T
       list run.unrefused run.drawn
 
   plain_order : (order : Option CommitTimeOrder) (next : ObjectId → List ObjectId) (list : List (Result Info Error)) → time_order walk.parents walk.sorting ≡ order → next_of objects walk accepts (λ i. false) ≡ next → IsPlainRun objects faulty answers walk accepts next list →
-      (ids : List ObjectId) × AllZip (IsPlain (objects walk.store) walk.parents order) list ids × IsInOrder order (time_of (objects walk.store)) next (ids_of walk.pending) ids
+      (ids : List ObjectId) × AllZip (IsPlain (objects walk.store) walk.parents order) list ids × IsListBy (IsNextOne order (time_of (objects walk.store)) next (ids_of walk.pending)) ids
   plain_order order next list e same run =
       let g : GivesInOrder objects walk accepts (λ i. false) list = plain_gives next list same run in (
         g.ids,
         subst (λ o. AllZip (IsPlain (objects walk.store) walk.parents o) list g.ids) e (zip_weaker _ (IsPlain (objects walk.store) walk.parents (time_order walk.parents walk.sorting)) (plain_info (objects walk.store) walk.rows walk.parents (time_order walk.parents walk.sorting) run.rowless) list g.ids g.given),
-        transport (λ k. IsInOrder (e k) (time_of (objects walk.store)) (same k) (all_kept (ids_of walk.pending) k) g.ids) g.in_order,
+        transport (λ k. IsListBy (IsNextOne (e k) (time_of (objects walk.store)) (same k) (all_kept (ids_of walk.pending) k)) g.ids) g.in_order,
       )
 
   pub breadth : (list : List (Result Info Error)) → time_order walk.parents walk.sorting ≡ None → IsPlainRun objects faulty answers walk accepts (accepted_parents (objects walk.store) walk.parents accepts) list →
-      (ids : List ObjectId) × AllZip (IsPlain (objects walk.store) walk.parents None) list ids × IsBreadthOrder (accepted_parents (objects walk.store) walk.parents accepts) (ids_of walk.pending) ids
+      (ids : List ObjectId) × AllZip (IsPlain (objects walk.store) walk.parents None) list ids × IsListBy (IsFirstNew (accepted_parents (objects walk.store) walk.parents accepts) (ids_of walk.pending)) ids
   breadth list e run = plain_order None _ list e (accepted_is (no_cutoff walk.parents walk.sorting e)) run
 
   pub by_time : (order : CommitTimeOrder) (list : List (Result Info Error)) → time_order walk.parents walk.sorting ≡ Some order → IsPlainRun objects faulty answers walk accepts (recent_parents (objects walk.store) walk.parents accepts (cutoff walk.parents walk.sorting)) list →
-      (ids : List ObjectId) × AllZip (IsPlain (objects walk.store) walk.parents (Some order)) list ids × IsTimeOrder order (time_of (objects walk.store)) (recent_parents (objects walk.store) walk.parents accepts (cutoff walk.parents walk.sorting)) (ids_of walk.pending) ids
+      (ids : List ObjectId) × AllZip (IsPlain (objects walk.store) walk.parents (Some order)) list ids × IsListBy (IsNextByTime order (time_of (objects walk.store)) (recent_parents (objects walk.store) walk.parents accepts (cutoff walk.parents walk.sorting)) (ids_of walk.pending)) ids
   by_time order list e run = plain_order (Some order) _ list e recent_is run
 
 module _ {F P : Type 0} (objects : F → Objects) (faulty : F → ObjectId → Type 0) (answers : P → ObjectId → Bool → P → Type 0) (walk : SimpleWalk F P) (accepts : ObjectId → Bool) where
@@ -153,9 +131,9 @@ module _ {F P : Type 0} (objects : F → Objects) (faulty : F → ObjectId → T
   pub begins_once : (hides : ObjectId → Bool) (list : List (Result Info Error)) (g : GivesBeginning objects walk accepts hides list) → AreDistinct g.ids × ((i : ObjectId) → Contains g.ids i → Reaches (next_of objects walk accepts hides) (starts_of walk hides) i)
   begins_once hides list g = begun_once (time_order walk.parents walk.sorting) (time_of (objects walk.store)) (next_of objects walk accepts hides) (starts_of walk hides) g.ids g.begins
 
-  pub rising : (hides : ObjectId → Bool) (list : List (Result Info Error)) → time_order walk.parents walk.sorting ≡ Some NewestFirst → ((c i : ObjectId) → Contains (parents_of (objects walk.store) c) i → time_of (objects walk.store) i ≤ℤ time_of (objects walk.store) c) → (g : GivesInOrder objects walk accepts hides list) (k : ℕ) (a b : ObjectId) → slice_get g.ids k ≡ Some a → slice_get g.ids (suc k) ≡ Some b → time_of (objects walk.store) b ≤ℤ time_of (objects walk.store) a
+  pub rising : (hides : ObjectId → Bool) (list : List (Result Info Error)) → time_order walk.parents walk.sorting ≡ Some NewestFirst → ((c i : ObjectId) → Contains (parents_of (objects walk.store) c) i → time_of (objects walk.store) i ≤ℤ time_of (objects walk.store) c) → (g : GivesInOrder objects walk accepts hides list) (taken rest : List ObjectId) (a b : ObjectId) → g.ids ≡ taken ++ a ∷ b ∷ rest → time_of (objects walk.store) b ≤ℤ time_of (objects walk.store) a
   rising hides list e older g = times_fall (time_of (objects walk.store)) (next_of objects walk accepts hides) (starts_of walk hides) g.ids
-      (transport (λ k. IsInOrder (e k) (time_of (objects walk.store)) (next_of objects walk accepts hides) (starts_of walk hides) g.ids) g.in_order)
+      (transport (λ k. IsListBy (IsNextOne (e k) (time_of (objects walk.store)) (next_of objects walk accepts hides) (starts_of walk hides)) g.ids) g.in_order)
       (λ c i n. older c i (walked_within walk.parents _ i (among_is i _ (and_parts _ _ (sym (among-filter i _ (walked_parents (objects walk.store) walk.parents c)) ∙ among_from i _ n)).1)))
 
 -- the test of no hidden tips

@@ -1,7 +1,7 @@
 -- A walk without hidden tips, none of whose answers is a fault, gives the commits in order by the parents that texts name.
 use Rattle.std.proofs.Common.{◌≡◌, ◌&&◌, not, List, [], ◌∷◌, filter, Bool, true, false, Option, Result, Err, Contains, All, Some, refl, sym, subst, inl, ◌∙◌, true≢false}
-use Rattle.gix_simple.proofs.Common.{Drains, Yields, and-true, transport, All-nil, All-cons, ObjectId, Contains-here, Contains-there, Objects, Info, IsAgreeing, AnswersBy, by_mode, time_of, ids_of, text_next, Error, IsFresh, IsInOrder}
-use Rattle.gix_simple.proofs.Common.{IsFaultlessRun, IsBeginning, BeginsTextOrder, GivesTextOrder, kept_of, next_by_text, SimpleWalk, time_order, cutoff, is_older, Steps, unhidden, Next, initial, later}
+use Rattle.gix_simple.proofs.Common.{Drains, Yields, and-true, transport, All-nil, All-cons, ObjectId, Contains-here, Contains-there, Objects, Info, IsAgreeing, AnswersBy, by_mode, time_of, ids_of, text_next, Error, IsFresh, IsBeginningBy, IsListBy, IsNextByText, IsNextOne}
+use Rattle.gix_simple.proofs.Common.{IsFaultlessRun, BeginsTextOrder, GivesTextOrder, kept_of, next_by_text, SimpleWalk, time_order, cutoff, is_older, Steps, unhidden, Next, initial, later}
 use Rattle.gix_simple.specs.declared.Error.TheVariants as error
 use Rattle.gix_simple.specs.Walk.{paints, faulty_history, no_memory}
 use Rattle.gix_simple.proofs.Treated.{Setting}
@@ -51,8 +51,8 @@ module _ {F P : Type 0} (objects : F → Objects) (faulty : F → ObjectId → T
   pub text_order : (list : List (Result Info Error)) → ((e : Error) → Contains list (Err e) → ⊥) → Drains (Next objects faulty answers) w list → GivesTextOrder objects w accepts list
   text_order list commits drawn =
       let r = all_given objects faulty answers w accepts (λ i. false) texts by_test is_fresh agreeing begins list (only_commits list commits) drawn in
-      let ordered : IsInOrder (time_order w.parents w.sorting) (time_of (objects w.store)) (next_by_text objects w accepts) (ids_of w.pending) r.0 =
-      transport (λ k. IsInOrder (time_order w.parents w.sorting) (time_of (objects w.store)) (recent_is k) (all_kept (ids_of w.pending) k) r.0) r.2 in
+      let ordered : IsListBy (IsNextByText objects w accepts) r.0 =
+      transport (λ k. IsListBy (IsNextOne (time_order w.parents w.sorting) (time_of (objects w.store)) (recent_is k) (all_kept (ids_of w.pending) k)) r.0) r.2 in
       let each = each_once (time_order w.parents w.sorting) (time_of (objects w.store)) (next_by_text objects w accepts) (ids_of w.pending) r.0 ordered in
       record { ids = r.0; given = r.1; in_order = ordered; once = each.0; reached = each.1 }
 
@@ -60,8 +60,8 @@ module _ {F P : Type 0} (objects : F → Objects) (faulty : F → ObjectId → T
   pub text_beginning : (list : List (Result Info Error)) (last : SimpleWalk F P) → ((e : Error) → Contains list (Err e) → ⊥) → Yields (Next objects faulty answers) w list last → BeginsTextOrder objects w accepts list
   text_beginning list last commits drawn =
       let r = some_given objects faulty answers w accepts (λ i. false) texts by_test is_fresh agreeing begins list last (only_commits list commits) drawn in
-      let begun : IsBeginning (time_order w.parents w.sorting) (time_of (objects w.store)) (next_by_text objects w accepts) (ids_of w.pending) r.0 =
-      transport (λ k. IsBeginning (time_order w.parents w.sorting) (time_of (objects w.store)) (recent_is k) (all_kept (ids_of w.pending) k) r.0) r.2 in
+      let begun : IsBeginningBy (IsNextByText objects w accepts) r.0 =
+      transport (λ k. IsBeginningBy (IsNextOne (time_order w.parents w.sorting) (time_of (objects w.store)) (recent_is k) (all_kept (ids_of w.pending) k)) r.0) r.2 in
       let each = begun_once (time_order w.parents w.sorting) (time_of (objects w.store)) (next_by_text objects w accepts) (ids_of w.pending) r.0 begun in
       record { ids = r.0; given = r.1; begins = begun; once = each.0; reached = each.1 }
 

@@ -1,6 +1,6 @@
 -- A walk that was just made, breadth first, and drawn to its end.
 use Rattle.std.proofs.Common.{◌≡◌, List, filter, Bool, false, None, Result, All, sym}
-use Rattle.gix_simple.proofs.Common.{Drains, AllZip, transport, ObjectId, Objects, Info, Parents, Error, IsBreadthOrder, ReadsWhole, time_of, Reaches, SimpleWalk, IsMade, Next, time_order, ids_of, new_ids, AnswersBy, IsNoRefusal}
+use Rattle.gix_simple.proofs.Common.{Drains, AllZip, transport, ObjectId, Objects, Info, Parents, Error, IsFirstNew, IsListBy, ReadsWhole, time_of, Reaches, SimpleWalk, IsMade, Next, time_order, ids_of, new_ids, AnswersBy, IsNoRefusal}
 use Rattle.gix_simple.proofs.Common.{IsPlain, GivesBreadthFirst, accepted_parents}
 use Rattle.gix_revwalk.specs.declared.Parents.TheVariants as mode
 use Rattle.gix_simple.proofs.Corollaries.{breadth, each_once}
@@ -8,7 +8,7 @@ use Rattle.gix_simple.proofs.MadeOfTips.{is_new_walk}
 
 module _ {F P : Type 0} (objects : F → Objects) (faulty : F → ObjectId → Type 0) (answers : P → ObjectId → Bool → P → Type 0) (accepts : ObjectId → Bool) (list : List (Result Info Error)) where
   Drawn : F → Parents → List ObjectId → Type 0
-  Drawn store parents starts = (ids : List ObjectId) × AllZip (IsPlain (objects store) parents None) list ids × IsBreadthOrder (accepted_parents (objects store) parents accepts) starts ids
+  Drawn store parents starts = (ids : List ObjectId) × AllZip (IsPlain (objects store) parents None) list ids × IsListBy (IsFirstNew (accepted_parents (objects store) parents accepts) starts) ids
 
   Whole : F → Parents → List ObjectId → Type 0
   Whole store parents starts = (i : ObjectId) → Reaches (accepted_parents (objects store) parents accepts) starts i → ReadsWhole (objects store) i

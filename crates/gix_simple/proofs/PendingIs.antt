@@ -1,10 +1,11 @@
 -- What is pending, seen over the definitions: the first new one, or the first of best time.
-use Rattle.std.proofs.Common.{◌≡◌, ◌+◌, ℕ, suc, ℤ, List, [], ◌∷◌, ◌++◌, find, Bool, true, false, not, ◌&&◌, ◌||◌, cond, Option, Some, None, Contains, MatchOption, sym, ap, subst, ⊎_elim, ◌∙◌, arith, true≢false}
-use Rattle.gix_simple.proofs.Common.{and_right, map-append, or_comm, false≢true, or_cases, false_from_ne_true, Contains-append_left, Contains-append_right, ObjectId, is_same, is_among, CommitTimeOrder, named_by, first_new, Pending, ids_of, same_is, same_itself, TakesBest}
-use Rattle.gix_simple.proofs.Common.{among-append, among-one, among_from, among_is, Contains-here, Contains-there, fresh, fresh_agree, fresh-append, fresh_head, fresh_none, IsHead, times-append, times-fresh, times_among}
-use Rattle.gix_revwalk.specs.TimeOrder.{is_no_worse, IsNoWorse, IsPending, IsNextByTime}
+use Rattle.std.proofs.Common.{◌≡◌, ◌+◌, ℕ, suc, ℤ, List, [], ◌∷◌, ◌++◌, find, Bool, true, false, not, ◌&&◌, ◌||◌, cond, Option, Contains, sym, ap, subst, ⊎_elim, ◌∙◌, arith, true≢false}
+use Rattle.gix_simple.proofs.Common.{and_right, map-append, or_comm, false≢true, or_cases, false_from_ne_true, Contains-append_left, Contains-append_right, ObjectId, is_same, is_among, CommitTimeOrder, named_by, Pending, ids_of, same_is, same_itself, TakesBest}
+use Rattle.gix_simple.proofs.Common.{among-append, among-one, among_from, among_is, Contains-here, Contains-there, fresh, fresh_agree, fresh-append, fresh_head, IsHead, times-append, times-fresh, times_among}
+use Rattle.gix_revwalk.specs.BreadthOrder.{IsFirstNew}
+use Rattle.gix_revwalk.specs.TimeOrder.{is_no_worse, IsNextByTime, IsNextOne, IsNoWorse, IsPending}
 use Rattle.gix_revwalk.proofs.NewIds.{times, find-new, find-behind, fresh_split}
-use Rattle.gix_revwalk.proofs.SomeOrder.{no_worse_is, itself_is}
+use Rattle.gix_revwalk.proofs.SomeOrder.{next_is_pending, no_worse_is, itself_is}
 
 -- the pending ids, of all those named and those taken
 abbrev pub IsQueue : List ObjectId → List ObjectId → List ObjectId → Type 0
@@ -13,11 +14,6 @@ IsQueue named taken ids = ids ≡ fresh (λ j. is_among j taken) named
 -- the pending ids where i is about to be taken
 abbrev pub IsRest : List ObjectId → List ObjectId → ObjectId → List ObjectId → Type 0
 IsRest named taken i ids = ids ≡ fresh (λ j. is_same j i || is_among j taken) named
-
--- what the definitions ask of the next one
-abbrev pub IsNextOne : Option CommitTimeOrder → (ObjectId → ℤ) → (ObjectId → List ObjectId) → List ObjectId → List ObjectId → Option ObjectId → Type 0
-IsNextOne None time next starts taken o = o ≡ first_new (named_by next starts taken) taken
-IsNextOne (Some order) time next starts taken o = MatchOption o ((i : ObjectId) → IsPending next starts taken i → ⊥) (IsNextByTime order time next starts taken)
 
 -- the next ids come in
 pub grows : (named taken : List ObjectId) (i : ObjectId) (left ids new : List ObjectId) (seen : ObjectId → Bool) →
@@ -48,16 +44,15 @@ in_queue next starts taken ids q i p =
     times_among i ids 0 (counted (named_by next starts taken) taken ids q i ∙ is_pending _ _ (among_from i _ p.0) (false_from_ne_true _ (λ t. p.1 (among_is i taken t))))
 
 -- nothing is pending: the list ends
-pub ends : (o : Option CommitTimeOrder) (time : ObjectId → ℤ) (next : ObjectId → List ObjectId) (starts taken : List ObjectId) → IsQueue (named_by next starts taken) taken [] → IsNextOne o time next starts taken None
-ends None time next starts taken q = sym (fresh_none (λ j. is_among j taken) (named_by next starts taken) (sym q))
-ends (Some order) time next starts taken q = λ i p. false≢true (in_queue next starts taken [] q i p)
+pub ends : (o : Option CommitTimeOrder) (time : ObjectId → ℤ) (next : ObjectId → List ObjectId) (starts taken : List ObjectId) → IsQueue (named_by next starts taken) taken [] → (i : ObjectId) → IsNextOne o time next starts taken i → ⊥
+ends o time next starts taken q i n = false≢true (in_queue next starts taken [] q i (next_is_pending next starts o time taken i n))
 
 -- what is chosen first
 pub heads : (time : ObjectId → ℤ) (next : ObjectId → List ObjectId) (starts taken : List ObjectId) (i : ObjectId) (left : List ObjectId) → IsQueue (named_by next starts taken) taken (i ∷ left) →
-    IsNextOne None time next starts taken (Some i) × IsRest (named_by next starts taken) taken i left × (is_among i (named_by next starts taken) ≡ true)
+    IsFirstNew next starts taken i × IsRest (named_by next starts taken) taken i left × (is_among i (named_by next starts taken) ≡ true)
 heads time next starts taken i left q =
     let h : IsHead (λ j. is_among j taken) (named_by next starts taken) i left = fresh_head _ _ i left (sym q) in
-    (sym h.found, sym h.others, h.among)
+    (h.found, sym h.others, h.among)
 
 in_pending : (i : ObjectId) (ps : List Pending) → is_among i (ids_of ps) ≡ true → (p : Pending) × Contains ps p × (p.id ≡ i)
 in_pending i [] e = absurd (false≢true e)
@@ -98,7 +93,7 @@ module _ (order : CommitTimeOrder) (time : ObjectId → ℤ) (next : ObjectId �
       let there : r.0.time ≡ time j = timed r.0 (in_place r.0 (Contains-append_left takes.before (p ∷ takes.behind) r.0 r.1)) ∙ ap time r.2 in
       and_right (not (is_among j taken)) _ (no_worse_test order (time j) (time p.id) (λ w. takes.first r.0 r.1 (subst (λ t. IsNoWorse order t p.time) (sym there) (subst (λ t. IsNoWorse order (time j) t) (sym here) w))))
 
-  pub bests : IsNextOne (Some order) time next starts taken (Some p.id) × IsRest named taken p.id (ids_of others) × (is_among p.id named ≡ true)
+  pub bests : IsNextByTime order time next starts taken p.id × IsRest named taken p.id (ids_of others) × (is_among p.id named ≡ true)
   bests = (
     record {
       best = record {

@@ -1,14 +1,10 @@
 -- Over the parents that a store names there are lists in order, and a test of what is reached.
-use Rattle.std.proofs.Common.{◌↔◌, ℤ, List, Bool, Contains}
-use Rattle.gix_simple.proofs.Common.{ObjectId, is_among, Reaches, Tells, among_from, among_is, Objects, CommitTimeOrder, IsBreadthOrder, parents_of}
-use Rattle.gix_revwalk.specs.TimeOrder.{IsTimeOrder}
-use Rattle.gix_revwalk.proofs.SomeOrder.{AreParents, known_ids, known, breadth_exists, time_exists, reached_list}
+use Rattle.std.proofs.Common.{◌↔◌, ℤ, List, Bool, Option, Contains}
+use Rattle.gix_simple.proofs.Common.{ObjectId, is_among, Reaches, Tells, among_from, among_is, Objects, CommitTimeOrder, IsListBy, IsNextOne, parents_of}
+use Rattle.gix_revwalk.proofs.SomeOrder.{AreParents, known_ids, known, order_exists, reached_list}
 
-pub some_breadth : (objects : Objects) (next : ObjectId → List ObjectId) (starts : List ObjectId) → AreParents objects next → (ids : List ObjectId) × IsBreadthOrder next starts ids
-some_breadth objects next starts parents = breadth_exists next starts (known_ids objects starts) (known objects next starts parents)
-
-pub some_time : (order : CommitTimeOrder) (time : ObjectId → ℤ) (objects : Objects) (next : ObjectId → List ObjectId) (starts : List ObjectId) → AreParents objects next → (ids : List ObjectId) × IsTimeOrder order time next starts ids
-some_time order time objects next starts parents = time_exists next starts (known_ids objects starts) (known objects next starts parents) order time
+pub some_order : (o : Option CommitTimeOrder) (time : ObjectId → ℤ) (objects : Objects) (next : ObjectId → List ObjectId) (starts : List ObjectId) → AreParents objects next → (ids : List ObjectId) × IsListBy (IsNextOne o time next starts) ids
+some_order o time objects next starts parents = order_exists next starts (known_ids objects starts) (known objects next starts parents) o time
 
 pub reach_test : (objects : Objects) (ids : List ObjectId) → (test : ObjectId → Bool) × Tells test (Reaches (parents_of objects) ids)
 reach_test objects ids =

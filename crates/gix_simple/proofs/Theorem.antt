@@ -1,9 +1,9 @@
 -- The first step, which paints; and the theorem over a whole walk, and over one drawn as far as one likes.
-use Rattle.std.proofs.Common.{◌≡◌, ◌≢◌, ◌⊎◌, ◌≤◌, ◌<◌, ℕ, zero, suc, ℤ, List, [], ◌∷◌, ◌++◌, filter, length, take, slice_get, Bool, true, false, not, ◌||◌, cond, Option, Some, None, Result, Err, Contains, All, refl, sym, ap, subst, inl}
+use Rattle.std.proofs.Common.{◌≡◌, ◌≢◌, ◌⊎◌, ℤ, List, [], ◌∷◌, ◌++◌, filter, Bool, true, false, not, ◌||◌, cond, Option, Some, None, Result, Err, Contains, All, refl, sym, ap, subst, inl}
 use Rattle.std.proofs.Common.{inr, ⊎_elim, ◌∙◌, append-nil, arith, true≢false}
 use Rattle.gix_simple.proofs.Common.{All-head, false≢true, false_from_ne_true, and_parts, not-true, AllZip, Drains, Yields, ObjectId, id_cmp, is_same, is_among, kind_of, Objects, GraphRow, Info, CommitTimeOrder, Error}
 use Rattle.gix_simple.proofs.Common.{IsHistory, IsHiddenFault, Paints, IsAtBoundary, Reaches, start, step, Tells, IsAgreeing, time_of, parents_of, commit_of_object, walked_parents, ReadsWhole, Pending, SimpleWalk, time_order, cutoff}
-use Rattle.gix_simple.proofs.Common.{Steps, painted, FirstStep, unhidden, Next, initial, later, ids_of, AreDistinct, itself, AnswersBy, IsFresh, IsNoRefusal, IsInOrder, IsBeginning, IsGivenBy, MeetsWhole, GivesInOrder, GivesBeginning}
+use Rattle.gix_simple.proofs.Common.{Steps, painted, FirstStep, unhidden, Next, initial, later, ids_of, AreDistinct, itself, AnswersBy, IsFresh, IsNoRefusal, IsBeginningBy, IsListBy, IsNextOne, IsGivenBy, MeetsWhole, GivesInOrder, GivesBeginning}
 use Rattle.gix_simple.proofs.Common.{starts_of, next_of, kept_of, is_kept, commit_items, own_history, same_is, among_from, among_is, Contains-here, Contains-there, no_member, fresh, among-filter, walked_within, no_fault}
 use Rattle.gix_simple.proofs.Common.{filter_within, filter_all}
 use Rattle.std.specs.FinSet as set
@@ -11,11 +11,12 @@ use Rattle.gix_simple.specs.declared.Error.TheVariants as error
 use Rattle.gix_paint.specs.declared.Hidden.{Hidden}
 use Rattle.gix_paint.specs.declared.Hidden.TheVariants as hidden_by
 use Rattle.gix_simple.specs.Walk.{paints, faulty_history, no_memory}
+use Rattle.gix_revwalk.proofs.Beginnings.{begins_empty}
 use Rattle.gix_revwalk.proofs.Drained.{at_end}
 use Rattle.gix_revwalk.proofs.Committer.{fault_unread}
 use Rattle.gix_simple.proofs.Treated.{Setting}
 use Rattle.gix_simple.proofs.OneStep.{reads_whole, whole_well}
-use Rattle.gix_simple.proofs.PendingIs.{IsQueue, IsNextOne}
+use Rattle.gix_simple.proofs.PendingIs.{IsQueue}
 use Rattle.gix_simple.proofs.WholeWalk.{Known, Runs, RunsTo, none_yet, begun_run, next_steps, ended_run}
 
 pub Contains-filter : (p : ObjectId → Bool) (xs : List ObjectId) (i : ObjectId) → Contains (filter p xs) i → Contains xs i × (p i ≡ true)
@@ -38,11 +39,6 @@ fresh_distinct old (x ∷ xs) d h =
 queue_starts : (starts : List ObjectId) → AreDistinct starts → IsQueue (starts ++ []) [] starts
 queue_starts starts d = fresh_distinct (λ j. false) starts d (λ i c. refl) ∙ ap (fresh (λ j. false)) (sym (append-nil starts))
 
-in_place : {X : Type 0} (xs : List X) (k : ℕ) → k < length xs → (x : X) × (slice_get xs k ≡ Some x)
-in_place [] k b = absurd (omega arith)
-in_place (x ∷ xs) zero b = (x, refl)
-in_place (x ∷ xs) (suc k) b = in_place xs k (omega arith)
-
 -- where an id is reached there is a start
 pub no_start : (next : ObjectId → List ObjectId) (starts : List ObjectId) (i : ObjectId) → Reaches next starts i → starts ≢ []
 no_start next starts i (start s) = λ e. no_member i (subst (λ xs. Contains xs i) e s)
@@ -51,21 +47,6 @@ no_start next starts i (step {c = c} r n) = no_start next starts c r
 ids-filter : (p q : ObjectId → Bool) (ps : List Pending) → ((i : ObjectId) → Contains (ids_of ps) i → p i ≡ q i) → ids_of (filter (λ x. not (p x.id)) ps) ≡ filter (λ i. not (q i)) (ids_of ps)
 ids-filter p q [] h = refl
 ids-filter p q (x ∷ ps) h = let here : p x.id ≡ q x.id = h x.id (Contains-here x.id (ids_of ps)) in grind (arith, ids-filter p q ps (λ i c. h i (Contains-there i x.id (ids_of ps) c)))
-
-each_place : (Q : List ObjectId → Option ObjectId → Type 0) (ids : List ObjectId) → ((k : ℕ) (i : ObjectId) → slice_get ids k ≡ Some i → Q (take k ids) (Some i)) → Q ids None → (k : ℕ) → k ≤ length ids → Q (take k ids) (slice_get ids k)
-each_place Q [] h e zero b = e
-each_place Q [] h e (suc k) b = absurd (omega arith)
-each_place Q (x ∷ ids) h e zero b = h zero x refl
-each_place Q (x ∷ ids) h e (suc k) b = each_place (λ xs o. Q (x ∷ xs) o) ids (λ j i f. h (suc j) i f) e k (omega arith)
-
-pub in_order_from : (o : Option CommitTimeOrder) (time : ObjectId → ℤ) (next : ObjectId → List ObjectId) (starts ids : List ObjectId)
-    → ((k : ℕ) (i : ObjectId) → slice_get ids k ≡ Some i → IsNextOne o time next starts (take k ids) (Some i)) → IsNextOne o time next starts ids None → IsInOrder o time next starts ids
-in_order_from None time next starts ids h e = each_place (IsNextOne None time next starts) ids h e
-in_order_from (Some order) time next starts ids h e = each_place (IsNextOne (Some order) time next starts) ids h e
-
-pub begins_from : (o : Option CommitTimeOrder) (time : ObjectId → ℤ) (next : ObjectId → List ObjectId) (starts ids : List ObjectId) → ((k : ℕ) (i : ObjectId) → slice_get ids k ≡ Some i → IsNextOne o time next starts (take k ids) (Some i)) → IsBeginning o time next starts ids
-begins_from None time next starts ids h = λ k b. let e : (i : ObjectId) × (slice_get ids k ≡ Some i) = in_place ids k b in e.1 ∙ h k e.0 e.1
-begins_from (Some order) time next starts ids h = h
 
 -- a walk before its first step, with hidden ids and the parents that commits name
 module _ {F P : Type 0} (objects : F → Objects) (faulty : F → ObjectId → Type 0) (answers : P → ObjectId → Bool → P → Type 0) (w : SimpleWalk F P) (accepts hides : ObjectId → Bool) (named : ObjectId → List ObjectId)
@@ -113,14 +94,14 @@ module _ {F P : Type 0} (objects : F → Objects) (faulty : F → ObjectId → T
     next_kept = kept_of (objects w.store) named w.parents accepts hides (cutoff w.parents w.sorting)
 
     ran : (marks : set.FinSet id_cmp) {list : List (Result Info Error)} {last new : SimpleWalk F P} → RunsTo objects faulty answers (set_up marks) [] list last → Steps objects faulty answers last None new
-        → (ids : List ObjectId) × AreGiven list ids × IsInOrder (time_order w.parents w.sorting) (time_of (objects w.store)) next_kept (starts_of w hides) ids
-    ran marks r steps = (r.ids, r.given_as, in_order_from (time_order w.parents w.sorting) (time_of (objects w.store)) next_kept (starts_of w hides) r.ids r.begins (ended_run objects faulty answers (set_up marks) [] r steps))
+        → (ids : List ObjectId) × AreGiven list ids × IsListBy (IsNextOne (time_order w.parents w.sorting) (time_of (objects w.store)) next_kept (starts_of w hides)) ids
+    ran marks r steps = (r.ids, r.given_as, record { begins = r.begins (begins_empty _); ends = ended_run objects faulty answers (set_up marks) [] r steps })
 
     first_of : {answer : Result Info Error} (left : List (Result Info Error)) {new : SimpleWalk F P} → All Allowed (answer ∷ left) → Next objects faulty answers w (Some answer) new → Begins Allowed (Some answer) new
     first_of {answer} left {new} ok n = begins (Some answer) new (λ a e. let same : answer ≡ a = cc in subst Allowed same (All-head Allowed answer left ok)) n
 
     -- the theorem
-    pub all_given : (list : List (Result Info Error)) → All Allowed list → Drains (Next objects faulty answers) w list → (ids : List ObjectId) × AreGiven list ids × IsInOrder (time_order w.parents w.sorting) (time_of (objects w.store)) next_kept (starts_of w hides) ids
+    pub all_given : (list : List (Result Info Error)) → All Allowed list → Drains (Next objects faulty answers) w list → (ids : List ObjectId) × AreGiven list ids × IsListBy (IsNextOne (time_order w.parents w.sorting) (time_of (objects w.store)) next_kept (starts_of w hides)) ids
     all_given [] ok drawn =
         let end = at_end (Next objects faulty answers) w drawn in
         let b : Begins Allowed None end.0 = begins None end.0 (λ a e. cc) end.1 in
@@ -132,12 +113,12 @@ module _ {F P : Type 0} (objects : F → Objects) (faulty : F → ObjectId → T
 
     -- and over a walk that is drawn as far as one likes
     pub some_given : (list : List (Result Info Error)) (last : SimpleWalk F P) → All Allowed list → Yields (Next objects faulty answers) w list last
-        → (ids : List ObjectId) × AreGiven list ids × IsBeginning (time_order w.parents w.sorting) (time_of (objects w.store)) next_kept (starts_of w hides) ids
-    some_given [] last ok drawn = ([], tt, begins_from (time_order w.parents w.sorting) (time_of (objects w.store)) next_kept (starts_of w hides) [] (λ k i e. cc))
+        → (ids : List ObjectId) × AreGiven list ids × IsBeginningBy (IsNextOne (time_order w.parents w.sorting) (time_of (objects w.store)) next_kept (starts_of w hides)) ids
+    some_given [] last ok drawn = ([], tt, begins_empty _)
     some_given (answer ∷ left) last ok drawn =
         let b : Begins Allowed (Some answer) drawn.0 = first_of left ok drawn.1 in
         let r = begun_run objects faulty answers (set_up b.marks) b.known answer left b.mid drawn.0 last [] b.runs ok b.steps drawn.2 in
-        (r.ids, r.given_as, begins_from (time_order w.parents w.sorting) (time_of (objects w.store)) next_kept (starts_of w hides) r.ids r.begins)
+        (r.ids, r.given_as, r.begins (begins_empty _))
 
 module _ {F P : Type 0} (objects : F → Objects) (faulty : F → ObjectId → Type 0) (answers : P → ObjectId → Bool → P → Type 0) (w : SimpleWalk F P) (accepts hides : ObjectId → Bool)
     (by_test : AnswersBy answers w.predicate accepts) (is_fresh : IsFresh objects w accepts) (tells : Tells hides (Reaches (parents_of (objects w.store)) w.hidden_tips))

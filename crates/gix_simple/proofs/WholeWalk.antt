@@ -1,21 +1,24 @@
 -- A walk gives what the definitions say, drawn to its end or as far as one likes.
-use Rattle.std.proofs.Common.{◌≡◌, ℕ, zero, suc, ℤ, List, [], ◌∷◌, ◌++◌, take, slice_get, Bool, true, ◌&&◌, ◌||◌, Option, Some, None, Result, Err, Contains, All, refl, sym, ap, subst, inl, ⊎_elim, ◌∙◌, append_assoc, append-nil, arith}
+use Rattle.std.proofs.Common.{◌≡◌, ℤ, List, [], ◌∷◌, ◌++◌, Bool, true, ◌&&◌, ◌||◌, Option, Some, None, Result, Err, Contains, All, refl, sym, ap, subst, inl, ⊎_elim, ◌∙◌, append_assoc, append-nil, arith}
 use Rattle.std.proofs.Common.{true≢false}
-use Rattle.gix_simple.proofs.Common.{Yields, AllZip, Contains-permutation, IsPermutation-sym, All-head, All-tail, or_cases, or_left, and_parts, ObjectId, is_among, Objects, Info, CommitTimeOrder, Error, named_by, Reaches, time_of}
+use Rattle.gix_simple.proofs.Common.{Yields, AllZip, Contains-permutation, Contains-push_cases, IsPermutation-sym, All-head, All-tail, or_cases, or_left, and_parts, ObjectId, is_among, Objects, Info, CommitTimeOrder, Error, named_by, Reaches, time_of}
 use Rattle.gix_simple.proofs.Common.{Pending, SimpleWalk, time_order, Chooses, first, best, TakesBest, Takes, Steps, ended, took, Next, initial, later, ids_of, IsGivenBy, same_is, among-append, among-one, among_is, Contains-here, Contains-there}
 use Rattle.gix_simple.proofs.Common.{among-filter, named-push}
 use Rattle.std.specs.FinSet as set
 use Rattle.gix_simple.specs.declared.Error.TheVariants as error
 use Rattle.gix_simple.specs.Walk.{no_memory}
-use Rattle.gix_revwalk.proofs.Orders.{reached_by_named, Contains-push}
+use Rattle.gix_revwalk.specs.ListsByTurn.{IsBeginningBy}
+use Rattle.gix_revwalk.specs.TimeOrder.{IsNextOne}
+use Rattle.gix_revwalk.proofs.Beginnings.{begins_more}
+use Rattle.gix_revwalk.proofs.Orders.{reached_by_named}
 use Rattle.gix_simple.proofs.Treated.{Setting, order_of, keep, Stands, best_moved}
 use Rattle.gix_simple.proofs.OneStep.{IsCommit, walked, next, Reads, Took, stands_left, took_well}
-use Rattle.gix_simple.proofs.PendingIs.{IsQueue, IsRest, IsNextOne, grows, ends, heads, bests}
+use Rattle.gix_simple.proofs.PendingIs.{IsQueue, IsRest, grows, ends, heads, bests}
 
 -- the choice of the next one
 chosen : {F P : Type 0} (objects : F → Objects) (faulty : F → ObjectId → Type 0) (answers : P → ObjectId → Bool → P → Type 0) (time : ObjectId → ℤ) (next : ObjectId → List ObjectId) (starts taken : List ObjectId) (w : SimpleWalk F P) (p : Pending) (others : List Pending) (o : Option CommitTimeOrder) →
     time_order w.parents w.sorting ≡ o → IsQueue (named_by next starts taken) taken (ids_of w.pending) → ((order : CommitTimeOrder) → o ≡ Some order → (q : Pending) → Contains w.pending q → q.time ≡ time q.id) → Chooses objects faulty answers w p others →
-    IsNextOne o time next starts taken (Some p.id) × IsRest (named_by next starts taken) taken p.id (ids_of others) × (is_among p.id (named_by next starts taken) ≡ true)
+    IsNextOne o time next starts taken p.id × IsRest (named_by next starts taken) taken p.id (ids_of others) × (is_among p.id (named_by next starts taken) ≡ true)
 chosen objects faulty answers time next starts taken w p others None e q timed (first t is) = heads time next starts taken p.id (ids_of others) (sym (ap ids_of is) ∙ q)
 chosen objects faulty answers time next starts taken w p others None e q timed (best t takes) = cc
 chosen objects faulty answers time next starts taken w p others (Some order) e q timed (first t is) = cc
@@ -50,13 +53,13 @@ module _ {F P : Type 0} (objects : F → Objects) (faulty : F → ObjectId → T
   abbrev pub given : Setting objects faulty answers → Result Info Error → ObjectId → Type 0
   given s = IsGivenBy (objects s.store) s.named s.rows s.parents (order_of objects faulty answers s)
 
-  abbrev pub is_next : Setting objects faulty answers → List ObjectId → Option ObjectId → Type 0
-  is_next s taken o = IsNextOne (order_of objects faulty answers s) (time_of (objects s.store)) (next objects faulty answers s) s.starts taken o
+  abbrev pub IsNext : Setting objects faulty answers → List ObjectId → ObjectId → Type 0
+  IsNext s = IsNextOne (order_of objects faulty answers s) (time_of (objects s.store)) (next objects faulty answers s) s.starts
 
   record Stepped (s : Setting objects faulty answers) (taken : List ObjectId) (answer : Result Info Error) (new : SimpleWalk F P) : Type 0 where
     i : ObjectId
     given_as : given s answer i
-    turn : is_next s taken (Some i)
+    turn : IsNext s taken i
     runs : Runs s new (taken ++ i ∷ [])
 
   stepped : (s : Setting objects faulty answers) {Allowed : Result Info Error → Type 0} → Known s Allowed → (w : SimpleWalk F P) (taken : List ObjectId) → Runs s w taken → {answer : Result Info Error} {new : SimpleWalk F P} → Steps objects faulty answers w (Some answer) new → Allowed answer → Stepped s taken answer new
@@ -64,7 +67,7 @@ module _ {F P : Type 0} (objects : F → Objects) (faulty : F → ObjectId → T
   stepped s known w done h (took {taken = p} {others = others} {answer = answer} {new = new} chooses takes) ok =
       let stands : Stands objects faulty answers s w = h.rest in
       let same : time_order w.parents w.sorting ≡ order_of objects faulty answers s = (λ k. time_order (stands.parents k) (stands.sorting k)) in
-      let c : is_next s done (Some p.id) × IsRest (named s done) done p.id (ids_of others) × (is_among p.id (named s done) ≡ true) =
+      let c : IsNext s done p.id × IsRest (named s done) done p.id (ids_of others) × (is_among p.id (named s done) ≡ true) =
       chosen objects faulty answers (time_of (objects s.store)) (next objects faulty answers s) s.starts done w p others (order_of objects faulty answers s) same h.queue stands.timed chooses in
       let r : Reaches (next objects faulty answers s) s.starts p.id = reached_by_named (next objects faulty answers s) s.starts done h.reached p.id (among_is p.id _ c.2) in
       let left : Stands objects faulty answers s (record w { pending = others }) =
@@ -84,7 +87,7 @@ module _ {F P : Type 0} (objects : F → Objects) (faulty : F → ObjectId → T
           queue = subst (λ xs. IsQueue xs (done ++ p.id ∷ []) (ids_of new.pending)) (sym push)
               (grows (named s done) done p.id (ids_of others) (ids_of new.pending) (next objects faulty answers s p.id) (set.contains w.seen) c.1 t.pending
               (λ j n. h.seen j (and_parts _ _ (sym (kept j) ∙ n)).0) h.within c.2);
-          reached = λ d m. ⊎_elim (λ n. h.reached d n) (λ e. subst (Reaches (next objects faulty answers s) s.starts) e r) (Contains-push (next objects faulty answers s) s.starts done p.id d m);
+          reached = λ d m. ⊎_elim (λ n. h.reached d n) (λ e. subst (Reaches (next objects faulty answers s) s.starts) e r) (Contains-push_cases done p.id d m);
           within = λ d m. among_push d ∙ or_left _ _ (⊎_elim (λ n. h.within d n) (λ e. subst (λ y. is_among y (named s done) ≡ true) (sym (same_is d p.id (sym (among-one d p.id) ∙ e))) c.2) (or_cases _ _ (sym (among-append d done (p.id ∷ [])) ∙ m)));
         };
       }
@@ -94,29 +97,21 @@ module _ {F P : Type 0} (objects : F → Objects) (faulty : F → ObjectId → T
   next_steps w begun (initial fresh s) = absurd (true≢false (sym begun ∙ fresh))
   next_steps w begun (later b s) = s
 
-  -- each of the ids is the next one where it comes, up to any place
-  abbrev pub BeginsFrom : Setting objects faulty answers → List ObjectId → List ObjectId → Type 0
-  BeginsFrom s done ids = (k : ℕ) (i : ObjectId) → slice_get ids k ≡ Some i → is_next s (done ++ take k ids) (Some i)
-
-  begins_more : (s : Setting objects faulty answers) (done ids : List ObjectId) (i : ObjectId) → is_next s done (Some i) → BeginsFrom s (done ++ i ∷ []) ids → BeginsFrom s done (i ∷ ids)
-  begins_more s done ids i h r zero j e = rw append-nil (let same : i ≡ j = cc in subst (λ x. is_next s done (Some x)) same h)
-  begins_more s done ids i h r (suc k) j e = rw append_assoc at (r k j e)
-
   -- these answers lead to a walk
   pub record RunsTo (s : Setting objects faulty answers) (done : List ObjectId) (list : List (Result Info Error)) (last : SimpleWalk F P) : Type 0 where
     pub ids : List ObjectId
     pub given_as : AllZip (given s) list ids
-    pub begins : BeginsFrom s done ids
+    pub begins : IsBeginningBy (IsNext s) done → IsBeginningBy (IsNext s) (done ++ ids)
     pub runs : Runs s last (done ++ ids)
 
   pub none_yet : (s : Setting objects faulty answers) (done : List ObjectId) (w : SimpleWalk F P) → Runs s w done → RunsTo s done [] w
-  none_yet s done w h = record { ids = []; given_as = tt; begins = λ k i e. cc; runs = subst (Runs s w) (sym (append-nil done)) h }
+  none_yet s done w h = record { ids = []; given_as = tt; begins = subst (IsBeginningBy (IsNext s)) (sym (append-nil done)); runs = subst (Runs s w) (sym (append-nil done)) h }
 
   one_more : (s : Setting objects faulty answers) (done : List ObjectId) {answer : Result Info Error} {left : List (Result Info Error)} {new last : SimpleWalk F P} (t : Stepped s done answer new) → RunsTo s (done ++ t.i ∷ []) left last → RunsTo s done (answer ∷ left) last
   one_more s done {last = last} t r = record {
     ids = t.i ∷ r.ids;
     given_as = (t.given_as, r.given_as);
-    begins = begins_more s done r.ids t.i t.turn r.begins;
+    begins = λ b. subst (IsBeginningBy (IsNext s)) (append_assoc done (t.i ∷ []) r.ids) (r.begins (begins_more (IsNext s) done t.i b t.turn));
     runs = subst (Runs s last) (append_assoc done (t.i ∷ []) r.ids) r.runs;
   }
 
@@ -135,6 +130,6 @@ module _ {F P : Type 0} (objects : F → Objects) (faulty : F → ObjectId → T
       one_more s done t (begun s known left new last (done ++ t.i ∷ []) t.runs (All-tail Allowed answer left ok) drawn)
 
   -- where the walk ends there is no next one
-  pub ended_run : (s : Setting objects faulty answers) (done : List ObjectId) {list : List (Result Info Error)} {last new : SimpleWalk F P} (r : RunsTo s done list last) → Steps objects faulty answers last None new → is_next s (done ++ r.ids) None
+  pub ended_run : (s : Setting objects faulty answers) (done : List ObjectId) {list : List (Result Info Error)} {last new : SimpleWalk F P} (r : RunsTo s done list last) → Steps objects faulty answers last None new → (i : ObjectId) → IsNext s (done ++ r.ids) i → ⊥
   ended_run s done r (ended e) = ends (order_of objects faulty answers s) (time_of (objects s.store)) (next objects faulty answers s) s.starts (done ++ r.ids)
       (subst (IsQueue (named s (done ++ r.ids)) (done ++ r.ids)) (ap ids_of e) r.runs.queue)

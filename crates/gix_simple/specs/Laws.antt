@@ -20,13 +20,14 @@ use Rattle.gix_simple.specs.declared.Error.{Error}
 use Rattle.gix_simple.specs.declared.Error.TheVariants as error
 use Rattle.gix_paint.specs.declared.Hidden.TheVariants as hidden_by
 use Rattle.gix_revwalk.specs.Agreeing.{IsAgreeing}
-use Rattle.gix_revwalk.specs.BreadthOrder.{IsBreadthOrder, IsBreadthBeginning}
-use Rattle.gix_revwalk.specs.TimeOrder.{IsTimeOrder, IsTimeBeginning}
+use Rattle.gix_revwalk.specs.ListsByTurn.{IsBeginningBy, IsListBy}
+use Rattle.gix_revwalk.specs.BreadthOrder.{IsFirstNew}
+use Rattle.gix_revwalk.specs.TimeOrder.{IsNextOne}
 use Rattle.gix_hash.specs.Reach.{Reaches, Tells}
 use Rattle.gix_revwalk.specs.Commits.{ReadsWhole, by_mode, walked_parents, parents_of, time_of}
 use Rattle.gix_revwalk.specs.Pending.{Pending}
 use Rattle.gix_simple.specs.Walk.{SimpleWalk, time_order, cutoff, is_older, time_if, Next}
-use Rattle.gix_revwalk.specs.Infos.{IsInfo, IsRowGeneration}
+use Rattle.gix_revwalk.specs.Infos.{given_ids, IsInfo, IsRowGeneration}
 use Rattle.gix_revwalk.specs.Ids.{ids_of, AreDistinct, new_ids}
 use Rattle.gix_revwalk.specs.Texts.{scanned, text_next, text_parents}
 use Rattle.gix_revwalk.specs.Asking.{AnswersBy}
@@ -74,6 +75,11 @@ pub record ReadsParents (objects : Objects) (parents : Parents) (i : ObjectId) :
   pub stored : map_of.get objects i ≡ Some (record { kind = object.Commit; bytes = bytes })
   pub unbroken : (scanned parents (commit_items (kind_of i) bytes)).1 ≡ None
 
+-- what comes next in a walk: in its order, of what is kept
+abbrev pub IsNextKept : {F P : Type 0} → (F → Objects) → SimpleWalk F P → (accepts hidden : ObjectId → Bool) → List ObjectId → ObjectId → Type 0
+IsNextKept objects walk accepts hidden =
+    IsNextOne (time_order walk.parents walk.sorting) (time_of (objects walk.store)) (next_of objects walk accepts hidden) (starts_of walk hidden)
+
 -- the answer is this commit, with the parents that it names
 pub record IsCommitInfo (objects : Objects) (named : ObjectId → List ObjectId) (rows : List GraphRow) (parents : Parents)
     (order : Option CommitTimeOrder) (info : Info) (i : ObjectId) : Type 0 where
@@ -89,16 +95,6 @@ IsGivenBy objects named rows parents order (Err e) i = ⊥
 abbrev pub IsGiven : Objects → List GraphRow → Parents → Option CommitTimeOrder → Result Info Error → ObjectId → Type 0
 IsGiven objects = IsGivenBy objects (parents_of objects)
 
--- what came first, or what is best by time
-abbrev pub IsInOrder : Option CommitTimeOrder → (ObjectId → ℤ) → (ObjectId → List ObjectId) → List ObjectId → List ObjectId → Type 0
-IsInOrder None time next starts ids = IsBreadthOrder next starts ids
-IsInOrder (Some order) time next starts ids = IsTimeOrder order time next starts ids
-
--- the beginning of such a list, up to any place
-abbrev pub IsBeginning : Option CommitTimeOrder → (ObjectId → ℤ) → (ObjectId → List ObjectId) → List ObjectId → List ObjectId → Type 0
-IsBeginning None time next starts ids = IsBreadthBeginning next starts ids
-IsBeginning (Some order) time next starts ids = IsTimeBeginning order time next starts ids
-
 -- what a walk meets reads whole: with hidden tips, all that tips and hidden tips reach
 pub record MeetsWhole {F P : Type 0} (objects : F → Objects) (faulty : F → ObjectId → Type 0) (walk : SimpleWalk F P)
     (accepts hidden : ObjectId → Bool) : Type 0 where
@@ -111,8 +107,7 @@ pub record GivesInOrder {F P : Type 0} (objects : F → Objects) (walk : SimpleW
     (answers : List (Result Info Error)) : Type 0 where
   pub ids : List ObjectId
   pub given : AllZip (IsGiven (objects walk.store) walk.rows walk.parents (time_order walk.parents walk.sorting)) answers ids
-  pub in_order : IsInOrder (time_order walk.parents walk.sorting) (time_of (objects walk.store)) (next_of objects walk accepts hidden)
-      (starts_of walk hidden) ids
+  pub in_order : IsListBy (IsNextKept objects walk accepts hidden) ids
 
 -- a walk drawn to its end, and what is known of its history
 pub record IsWholeRun {F P : Type 0} (objects : F → Objects) (faulty : F → ObjectId → Type 0) (answers : P → ObjectId → Bool → P → Type 0)
@@ -130,9 +125,7 @@ pub record GivesBeginning {F P : Type 0} (objects : F → Objects) (walk : Simpl
     (accepts hidden : ObjectId → Bool) (answers : List (Result Info Error)) : Type 0 where
   pub ids : List ObjectId
   pub given : AllZip (IsGiven (objects walk.store) walk.rows walk.parents (time_order walk.parents walk.sorting)) answers ids
-  pub begins :
-      IsBeginning (time_order walk.parents walk.sorting) (time_of (objects walk.store))
-      (next_of objects walk accepts hidden) (starts_of walk hidden) ids
+  pub begins : IsBeginningBy (IsNextKept objects walk accepts hidden) ids
 
 -- a walk drawn as far as one likes, what is left of it, and what is known of its history
 pub record IsBegunRun {F P : Type 0} (objects : F → Objects) (faulty : F → ObjectId → Type 0) (answers : P → ObjectId → Bool → P → Type 0)
@@ -198,15 +191,9 @@ pub record IsPlainRun {F P : Type 0} (objects : F → Objects) (faulty : F → O
 pub record GivesBreadthFirst (objects : Objects) (next : ObjectId → List ObjectId) (starts : List ObjectId) (answers : List (Result Info Error)) : Type 0 where
   pub ids : List ObjectId
   pub given : AllZip (IsPlain objects mode.All None) answers ids
-  pub in_order : IsBreadthOrder next starts ids
+  pub in_order : IsListBy (IsFirstNew next starts) ids
   pub once : AreDistinct ids
   pub reached : (i : ObjectId) → Contains ids i ↔ Reaches next starts i
-
--- the ids of the commits among the answers
-abbrev pub given_ids : List (Result Info Error) → List ObjectId
-given_ids [] = []
-given_ids (Ok info ∷ list) = info.id ∷ given_ids list
-given_ids (Err e ∷ list) = given_ids list
 
 -- the answers are commits and no faults: exactly the commits that the tips reach and the hidden tips don't, each once
 pub record GivesDifference (objects : Objects) (tips hidden_tips : List ObjectId) (answers : List (Result Info Error)) : Type 0 where
@@ -229,14 +216,18 @@ abbrev pub next_by_text : {F P : Type 0} → (F → Objects) → SimpleWalk F P 
 next_by_text objects walk accepts =
     recent_of (objects walk.store) (text_next (objects walk.store)) walk.parents accepts (cutoff walk.parents walk.sorting)
 
+-- what comes next in a walk without hidden tips, by the parents that texts name
+abbrev pub IsNextByText : {F P : Type 0} → (F → Objects) → SimpleWalk F P → (ObjectId → Bool) → List ObjectId → ObjectId → Type 0
+IsNextByText objects walk accepts =
+    IsNextOne (time_order walk.parents walk.sorting) (time_of (objects walk.store)) (next_by_text objects walk accepts) (ids_of walk.pending)
+
 -- the answers are commits with the parents that their texts name, in order by these, each once, and exactly the ids that are reached by these
 pub record GivesTextOrder {F P : Type 0} (objects : F → Objects) (walk : SimpleWalk F P) (accepts : ObjectId → Bool)
     (answers : List (Result Info Error)) : Type 0 where
   pub ids : List ObjectId
   pub given : AllZip (IsGivenBy (objects walk.store) (text_next (objects walk.store)) walk.rows walk.parents (time_order walk.parents walk.sorting))
       answers ids
-  pub in_order : IsInOrder (time_order walk.parents walk.sorting) (time_of (objects walk.store)) (next_by_text objects walk accepts)
-      (ids_of walk.pending) ids
+  pub in_order : IsListBy (IsNextByText objects walk accepts) ids
   pub once : AreDistinct ids
   pub reached : (i : ObjectId) → Contains ids i ↔ Reaches (next_by_text objects walk accepts) (ids_of walk.pending) i
 
@@ -247,7 +238,6 @@ pub record BeginsTextOrder {F P : Type 0} (objects : F → Objects) (walk : Simp
   pub ids : List ObjectId
   pub given : AllZip (IsGivenBy (objects walk.store) (text_next (objects walk.store)) walk.rows walk.parents (time_order walk.parents walk.sorting))
       answers ids
-  pub begins : IsBeginning (time_order walk.parents walk.sorting) (time_of (objects walk.store)) (next_by_text objects walk accepts)
-      (ids_of walk.pending) ids
+  pub begins : IsBeginningBy (IsNextByText objects walk accepts) ids
   pub once : AreDistinct ids
   pub reached : (i : ObjectId) → Contains ids i → Reaches (next_by_text objects walk accepts) (ids_of walk.pending) i

@@ -1,5 +1,5 @@
 -- The statements of the laws of simple walks, over any store and predicate.
-use Rattle.std.specs.Prelude.{◌≡◌, ◌≢◌, ◌≤◌, ◌≤ℤ◌, ◌↔◌, ℕ, ℤ, suc, List, [], ◌++◌, Bool, false, true, Option, Some, None, Result, Err, All, Contains, length, take, slice_get, filter}
+use Rattle.std.specs.Prelude.{◌≡◌, ◌≢◌, ◌≤◌, ◌≤ℤ◌, ◌↔◌, ℤ, List, [], ◌∷◌, ◌++◌, Bool, false, true, Option, Some, None, Result, Err, All, Contains, length, take, filter}
 use Rattle.std.specs.Cmp.Lexicographic.{slice_cmp}
 use Rattle.std.specs.Iterator.{Drains, Yields}
 use Rattle.std.specs.List.{AllZip}
@@ -14,15 +14,17 @@ use Rattle.gix_revwalk.specs.declared.Parents.TheVariants as mode
 use Rattle.gix_revwalk.specs.declared.CommitTimeOrder.{CommitTimeOrder}
 use Rattle.gix_revwalk.specs.declared.CommitTimeOrder.TheVariants.{NewestFirst}
 use Rattle.gix_simple.specs.declared.Error.{Error}
-use Rattle.gix_revwalk.specs.BreadthOrder.{IsBreadthOrder, IsBreadthBeginning}
-use Rattle.gix_revwalk.specs.TimeOrder.{IsTimeOrder, IsTimeBeginning}
+use Rattle.gix_revwalk.specs.ListsByTurn.{IsBeginningBy, IsListBy}
+use Rattle.gix_revwalk.specs.BreadthOrder.{IsFirstNew}
+use Rattle.gix_revwalk.specs.TimeOrder.{IsNextByTime}
 use Rattle.gix_hash.specs.Reach.{Reaches, Tells}
 use Rattle.gix_revwalk.specs.Agreeing.{IsAgreeing}
 use Rattle.gix_revwalk.specs.Commits.{ReadsWhole, parents_of, time_of}
 use Rattle.gix_simple.specs.Walk.{SimpleWalk, Next, IsMade, time_order, cutoff}
 use Rattle.gix_revwalk.specs.Ids.{ids_of, AreDistinct, new_ids}
 use Rattle.gix_simple.specs.Building.{IsBuilt, IsUncut}
-use Rattle.gix_simple.specs.Laws.{IsFresh, IsWholeRun, IsBegunRun, IsPlainRun, IsPlain, GivesInOrder, GivesBeginning, IsNewWalk, IsNoRefusal, GivesBreadthFirst, GivesDifference, IsFaultlessRun, BeginsTextOrder, GivesTextOrder, accepted_parents, recent_parents, next_of, starts_of, named_in, answers_left, given_ids}
+use Rattle.gix_revwalk.specs.Infos.{given_ids}
+use Rattle.gix_simple.specs.Laws.{IsFresh, IsWholeRun, IsBegunRun, IsPlainRun, IsPlain, GivesInOrder, GivesBeginning, IsNewWalk, IsNoRefusal, GivesBreadthFirst, GivesDifference, IsFaultlessRun, BeginsTextOrder, GivesTextOrder, accepted_parents, recent_parents, next_of, starts_of, named_in, answers_left}
 use Rattle.gix_revwalk.specs.Asking.{AnswersBy}
 use Rattle.gix_simple.specs.Runs.{AsksOnce, TellsGenerations, AreAlike, AreBuiltAlike, GiveTheSame, GivesUnhidden}
 
@@ -43,45 +45,45 @@ abbrev pub SomeBreadthOrder : Type 0
 SomeBreadthOrder =
     (objects : Objects) (next : ObjectId → List ObjectId) (starts : List ObjectId)
     → ((c i : ObjectId) → Contains (next c) i → Contains (parents_of objects c) i)
-    → (ids : List ObjectId) × IsBreadthOrder next starts ids
+    → (ids : List ObjectId) × IsListBy (IsFirstNew next starts) ids
 
 -- and one in each order by time
 abbrev pub SomeTimeOrder : Type 0
 SomeTimeOrder =
     (order : CommitTimeOrder) (time : ObjectId → ℤ) (objects : Objects) (next : ObjectId → List ObjectId) (starts : List ObjectId)
     → ((c i : ObjectId) → Contains (next c) i → Contains (parents_of objects c) i)
-    → (ids : List ObjectId) × IsTimeOrder order time next starts ids
+    → (ids : List ObjectId) × IsListBy (IsNextByTime order time next starts) ids
 
 -- there is at most one list in breadth order
 abbrev pub OneBreadthOrder : Type 0
 OneBreadthOrder =
     (next : ObjectId → List ObjectId) (starts ids those : List ObjectId)
-    → IsBreadthOrder next starts ids
-    → IsBreadthOrder next starts those
+    → IsListBy (IsFirstNew next starts) ids
+    → IsListBy (IsFirstNew next starts) those
     → ids ≡ those
 
 -- a beginning in breadth order is the first ids of the whole list
 abbrev pub OneBreadthBeginning : Type 0
 OneBreadthBeginning =
     (next : ObjectId → List ObjectId) (starts ids whole : List ObjectId)
-    → IsBreadthBeginning next starts ids
-    → IsBreadthOrder next starts whole
+    → IsBeginningBy (IsFirstNew next starts) ids
+    → IsListBy (IsFirstNew next starts) whole
     → ids ≡ take (length ids) whole
 
 -- there is at most one list in an order by time
 abbrev pub OneTimeOrder : Type 0
 OneTimeOrder =
     (order : CommitTimeOrder) (time : ObjectId → ℤ) (next : ObjectId → List ObjectId) (starts ids those : List ObjectId)
-    → IsTimeOrder order time next starts ids
-    → IsTimeOrder order time next starts those
+    → IsListBy (IsNextByTime order time next starts) ids
+    → IsListBy (IsNextByTime order time next starts) those
     → ids ≡ those
 
 -- a beginning in an order by time is the first ids of the whole list
 abbrev pub OneTimeBeginning : Type 0
 OneTimeBeginning =
     (order : CommitTimeOrder) (time : ObjectId → ℤ) (next : ObjectId → List ObjectId) (starts ids whole : List ObjectId)
-    → IsTimeBeginning order time next starts ids
-    → IsTimeOrder order time next starts whole
+    → IsBeginningBy (IsNextByTime order time next starts) ids
+    → IsListBy (IsNextByTime order time next starts) whole
     → ids ≡ take (length ids) whole
 
 module _ {F P : Type 0} (objects : F → Objects) (faulty : F → ObjectId → Type 0) (answers : P → ObjectId → Bool → P → Type 0) where
@@ -121,7 +123,7 @@ module _ {F P : Type 0} (objects : F → Objects) (faulty : F → ObjectId → T
       → let next = accepted_parents (objects walk.store) walk.parents accepts in
       time_order walk.parents walk.sorting ≡ None
       → IsPlainRun objects faulty answers walk accepts next list
-      → (ids : List ObjectId) × AllZip (IsPlain (objects walk.store) walk.parents None) list ids × IsBreadthOrder next (ids_of walk.pending) ids
+      → (ids : List ObjectId) × AllZip (IsPlain (objects walk.store) walk.parents None) list ids × IsListBy (IsFirstNew next (ids_of walk.pending)) ids
 
   -- such a walk in an order by time
   abbrev pub PlainRunsAreInTimeOrder : Type 0
@@ -131,7 +133,7 @@ module _ {F P : Type 0} (objects : F → Objects) (faulty : F → ObjectId → T
       time_order walk.parents walk.sorting ≡ Some order
       → IsPlainRun objects faulty answers walk accepts next list
       → (ids : List ObjectId) × AllZip (IsPlain (objects walk.store) walk.parents (Some order)) list ids
-      × IsTimeOrder order (time_of (objects walk.store)) next (ids_of walk.pending) ids
+      × IsListBy (IsNextByTime order (time_of (objects walk.store)) next (ids_of walk.pending)) ids
 
   -- any walk that is drawn to its end
   abbrev pub RunsAreInOrder : Type 0
@@ -254,9 +256,8 @@ module _ {F P : Type 0} (objects : F → Objects) (faulty : F → ObjectId → T
       (walk : SimpleWalk F P) (accepts hidden : ObjectId → Bool) (list : List (Result Info Error))
       → time_order walk.parents walk.sorting ≡ Some NewestFirst
       → ((c i : ObjectId) → Contains (parents_of (objects walk.store) c) i → time_of (objects walk.store) i ≤ℤ time_of (objects walk.store) c)
-      → (gives : GivesInOrder objects walk accepts hidden list) (k : ℕ) (a b : ObjectId)
-      → slice_get gives.ids k ≡ Some a
-      → slice_get gives.ids (suc k) ≡ Some b
+      → (gives : GivesInOrder objects walk accepts hidden list) (taken rest : List ObjectId) (a b : ObjectId)
+      → gives.ids ≡ taken ++ a ∷ b ∷ rest
       → time_of (objects walk.store) b ≤ℤ time_of (objects walk.store) a
 
   -- whatever faults come, no id is given twice

@@ -28,6 +28,7 @@ pub use Rattle.gix_revwalk.specs.Agreeing.{IsAgreeing}
 pub use Rattle.gix_revwalk.specs.BreadthOrder.{first_new, named_by}
 pub use Rattle.gix_revwalk.specs.Commits.{by_mode, commit_at, commit_of_object, parents_in, parents_of, ReadsWhole, time_in, time_of, walked_parents}
 pub use Rattle.gix_revwalk.specs.Ids.{AreDistinct}
+pub use Rattle.gix_revwalk.specs.ListsByTurn.{IsBeginningBy, IsListBy}
 pub use Rattle.gix_revwalk.specs.Reading.{DropsRows, is_read, ReadsRow, rows_of, RowSays}
 pub use Rattle.gix_revwalk.specs.declared.CommitTimeOrder.TheVariants.{NewestFirst, OldestFirst}
 pub use Rattle.gix_revwalk.specs.declared.Info.{Info}
@@ -38,8 +39,8 @@ pub use Rattle.gix_hash.proofs.Lists.{filter_all, filter_within, only_member, pa
 pub use Rattle.gix_revwalk.proofs.NewIds.{among-filter, among_flat, among_times, fresh, fresh_agree, new_less, times-append, times-fresh, times_is_among, times_moved, times_none, times_once}
 pub use Rattle.gix_revwalk.proofs.ReadsWhole.{corrupt_row, no_fault, parent_below, row_parents, row_says_time, row_stands, walked_within}
 pub use Rattle.gix_revwalk.proofs.TextParents.{text_whole}
-pub use Rattle.gix_topo.specs.DateOrder.{IsDateBeginning, IsDateOrder}
-pub use Rattle.gix_topo.specs.Depth.{generation_in, infinity, known_generation, least}
+pub use Rattle.gix_topo.specs.DateOrder.{IsBestMade}
+pub use Rattle.gix_topo.specs.Depth.{infinity, known_generation, least}
 pub use Rattle.gix_topo.specs.Inside.Exploring.{Explores, Follows, is_pending, IsExploringFault, IsRested, IsSamePlan, side_mode, Steps}
 pub use Rattle.gix_topo.specs.Inside.ReadySet.{as_ready, as_ready_by, IsTimed, ReadySet}
 pub use Rattle.gix_topo.specs.Inside.Releasing.{counted_by, exploring, IsFaultAmong, IsPushFault, IsReleaseFault, IsTakingFault, LooksUpParent, lowered, parent, plan_by, plan_of, plan_over, Pushes, Releases, ReleasesAll, releasing, taken_in}
@@ -47,10 +48,11 @@ pub use Rattle.gix_topo.specs.Inside.Releasing.{taken_of, TakesOne, uncounted, u
 pub use Rattle.gix_topo.specs.Inside.Searched.{IsBegun, IsCounted, IsExplored, IsSearched, IsTally, naming, next_by, starts_by}
 pub use Rattle.gix_topo.specs.Inside.Starting.{by_rising_time, HasBegun, IsBegunWalk, IsStartFault, meets, MeetsAll, met, Starts, StartsAll}
 pub use Rattle.gix_topo.specs.Inside.Steady.{AreDroppedFor, AreRead, HasCounted, IsDone, IsHeld, IsOpen, IsReadOnce, IsSteady, IsTallied, TakesNext, TakesReady, unasked, unasked_of}
-pub use Rattle.gix_topo.specs.Laws.{answers_left, AreApart, BeginsInOrder, BeginsTextOrder, given_ids, GivesDifference, GivesInOrder, GivesTextDifference, GivesTextOrder, IsCommitInfo, IsGiven, IsNoRefusal, IsSortedBeginning, IsTakenByText}
-pub use Rattle.gix_topo.specs.Laws.{IsTakenFirst, IsTakenFirstByText, IsTakenInOrder, IsTextGiven, IsTextInfo, IsWholeRun, left_beside}
+pub use Rattle.gix_revwalk.specs.Infos.{given_ids, generation_in}
+pub use Rattle.gix_topo.specs.Laws.{answers_left, AreApart, BeginsInOrder, BeginsTextOrder, GivesDifference, GivesInOrder, GivesTextDifference, GivesTextOrder, IsCommitInfo, IsGiven, IsNextBy, IsNextByText, IsNextTaken, IsNoRefusal}
+pub use Rattle.gix_topo.specs.Laws.{IsTextGiven, IsTextInfo, IsWholeRun, left_beside}
 pub use Rattle.gix_topo.specs.Reading.{by_row, by_text, HasNoRowInUse, IsReadFault, LookUpFails, ReadFails, Reads, ReadsText, time_of_committer, told_generation}
-pub use Rattle.gix_topo.specs.TopoOrder.{by_time, distinct_after, first_places, insert_by_time, IsMadeReady, IsTopoBeginning, IsTopoOrder, Keeps, last_places, passed}
+pub use Rattle.gix_topo.specs.TopoOrder.{by_time, distinct_after, first_places, insert_by_time, IsLastMade, IsMadeReady, Keeps, last_places, passed}
 pub use Rattle.gix_topo.specs.Walk.{Adds, after, Chooses, Counted, DropsBy, IsBrokenRow, IsBuildFault, IsCommitRead, IsCounting, IsFault, IsFirstReady, IsFound, IsInDepth, IsKnown, IsLate, IsLeft, IsLookedUp, IsMember}
 pub use Rattle.gix_topo.specs.Walk.{IsMetFault, IsNextReady, IsNumberOf, IsOtherParent, IsReached, IsSound, IsStarted, IsStored, IsTaken, IsTextMember, named_ids, Next, Ready, ready_ids, refused, row_generation, StartsWith, Takes}
 pub use Rattle.gix_topo.specs.Walk.{text_walked, TakesLatest, TopoPlan, TopoWalk, walked_of}

@@ -2,5 +2,3 @@
 pub mod TopologicalOrders
 -- The order by time, newest first and oldest first.
 pub mod TimeOrder
--- A list in order that is cut anywhere is a beginning.
-pub mod Beginnings

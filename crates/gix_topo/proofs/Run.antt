@@ -1,7 +1,5 @@
 -- A list in which each commit is ready at its place: no id twice, children first, all of the set.
 pub mod ReadyInTurn
--- Each order is one list.
-pub mod OneList
 -- Parents and members that are said in two ways which agree give the same orders.
 pub mod SameOrder
 -- What a list in either order has, whatever says the parents.

@@ -1,15 +1,12 @@
 -- How far a topological walk counts, where rows have generations.
-use Rattle.std.specs.Prelude.{◌-◌, ◌^◌, ℕ, min, List, [], ◌∷◌, Option, Some, None}
+use Rattle.std.specs.Prelude.{◌-◌, ◌^◌, ℕ, min, List, [], ◌∷◌}
 use Rattle.gix_hash.specs.declared.ObjectId.{ObjectId}
 use Rattle.gix_commitgraph.specs.Rows.{GraphRow, row_of}
+use Rattle.gix_revwalk.specs.Infos.{generation_in}
 
 -- above every generation: that of a commit without a row
 abbrev pub infinity : ℕ
 infinity = 2 ^ 32 - 1
-
-abbrev pub generation_in : Option GraphRow → ℕ
-generation_in None = infinity
-generation_in (Some row) = row.generation
 
 -- the generation of an id as far as the rows know it
 abbrev pub known_generation : List GraphRow → ObjectId → ℕ

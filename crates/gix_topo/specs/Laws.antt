@@ -13,33 +13,24 @@ use Rattle.gix_topo.specs.declared.Error.{Error}
 use Rattle.gix_topo.specs.declared.Error.TheVariants as error
 use Rattle.gix_hash.specs.Reach.{Reaches}
 use Rattle.gix_topo.specs.WalkSet.{IsInWalk, IsAcyclicIn}
-use Rattle.gix_topo.specs.DateOrder.{IsDateOrder, IsDateBeginning}
-use Rattle.gix_topo.specs.TopoOrder.{IsTopoOrder, IsTopoBeginning}
+use Rattle.gix_topo.specs.DateOrder.{IsBestMade}
+use Rattle.gix_topo.specs.TopoOrder.{IsLastMade}
+use Rattle.gix_revwalk.specs.ListsByTurn.{IsBeginningBy, IsListBy}
 use Rattle.gix_revwalk.specs.Commits.{parents_of, time_of}
-use Rattle.gix_revwalk.specs.Infos.{IsInfo, IsRowGeneration}
+use Rattle.gix_revwalk.specs.Infos.{given_ids, IsInfo, IsRowGeneration}
 use Rattle.gix_revwalk.specs.Asking.{AnswersBy}
 use Rattle.gix_revwalk.specs.Texts.{text_next}
 use Rattle.gix_revwalk.specs.Ids.{AreDistinct, new_ids}
 use Rattle.gix_topo.specs.Walk.{TopoPlan, TopoWalk, Ready, walked_of, text_walked, IsMember, IsTextMember, IsSound, IsStarted, Next, ready_ids, was_ready, named_ids}
 
--- the order that was asked for
-abbrev pub IsSorted : Sorting → (ObjectId → ℤ) → (ObjectId → List ObjectId) → (ObjectId → Type 0) → List ObjectId → List ObjectId → Type 0
-IsSorted order.DateOrder time walked In tips ids = IsDateOrder time walked In tips ids
-IsSorted order.TopoOrder time walked In tips ids = IsTopoOrder time walked In tips ids
+-- what comes next in the order that was asked for
+abbrev pub IsNextBy : Sorting → (ObjectId → ℤ) → (ObjectId → List ObjectId) → (ObjectId → Type 0) → List ObjectId → List ObjectId → ObjectId → Type 0
+IsNextBy order.DateOrder = IsBestMade
+IsNextBy order.TopoOrder = IsLastMade
 
--- a beginning in that order
-abbrev pub IsSortedBeginning :
-    Sorting → (ObjectId → ℤ) → (ObjectId → List ObjectId) → (ObjectId → Type 0) → List ObjectId → List ObjectId → Type 0
-IsSortedBeginning order.DateOrder time walked In tips ids = IsDateBeginning time walked In tips ids
-IsSortedBeginning order.TopoOrder time walked In tips ids = IsTopoBeginning time walked In tips ids
-
--- these commits are taken, in order
-abbrev pub IsTakenInOrder : {F : Type 0} → (F → Objects) → TopoPlan F → List ObjectId → Type 0
-IsTakenInOrder objects plan ids = IsSorted plan.sorting (time_of (objects plan.store)) (walked_of objects plan) (IsMember objects plan) plan.tips ids
-
--- these commits are the first that are taken, in order
-abbrev pub IsTakenFirst : {F : Type 0} → (F → Objects) → TopoPlan F → List ObjectId → Type 0
-IsTakenFirst objects plan ids = IsSortedBeginning plan.sorting (time_of (objects plan.store)) (walked_of objects plan) (IsMember objects plan) plan.tips ids
+-- which commit a walk takes next
+abbrev pub IsNextTaken : {F : Type 0} → (F → Objects) → TopoPlan F → List ObjectId → ObjectId → Type 0
+IsNextTaken objects plan = IsNextBy plan.sorting (time_of (objects plan.store)) (walked_of objects plan) (IsMember objects plan) plan.tips
 
 -- the answer is this commit, with all its parents
 pub record IsCommitInfo {F : Type 0} (objects : F → Objects) (plan : TopoPlan F) (info : Info) (i : ObjectId) : Type 0 where
@@ -54,25 +45,19 @@ IsGiven objects plan (Err e) i = ⊥
 -- the answers are the commits in order, without the commits that the predicate refuses
 pub record GivesInOrder {F : Type 0} (objects : F → Objects) (plan : TopoPlan F) (accepts : ObjectId → Bool) (list : List (Result Info Error)) : Type 0 where
   pub ids : List ObjectId
-  pub in_order : IsTakenInOrder objects plan ids
+  pub in_order : IsListBy (IsNextTaken objects plan) ids
   pub given : AllZip (IsGiven objects plan) list (filter accepts ids)
 
 -- the answers are the first commits in order, without the commits that the predicate refuses
 pub record BeginsInOrder {F : Type 0} (objects : F → Objects) (plan : TopoPlan F) (accepts : ObjectId → Bool)
     (list : List (Result Info Error)) : Type 0 where
   pub ids : List ObjectId
-  pub in_order : IsTakenFirst objects plan ids
+  pub begins : IsBeginningBy (IsNextTaken objects plan) ids
   pub given : AllZip (IsGiven objects plan) list (filter accepts ids)
 
--- these commits are taken, in order, by the parents that their texts name
-abbrev pub IsTakenByText : {F : Type 0} → (F → Objects) → TopoPlan F → List ObjectId → Type 0
-IsTakenByText objects plan ids =
-    IsSorted plan.sorting (time_of (objects plan.store)) (text_walked objects plan) (IsTextMember objects plan) plan.tips ids
-
--- these commits are the first that are taken, in order, by the parents that their texts name
-abbrev pub IsTakenFirstByText : {F : Type 0} → (F → Objects) → TopoPlan F → List ObjectId → Type 0
-IsTakenFirstByText objects plan ids =
-    IsSortedBeginning plan.sorting (time_of (objects plan.store)) (text_walked objects plan) (IsTextMember objects plan) plan.tips ids
+-- the same by the parents that texts name
+abbrev pub IsNextByText : {F : Type 0} → (F → Objects) → TopoPlan F → List ObjectId → ObjectId → Type 0
+IsNextByText objects plan = IsNextBy plan.sorting (time_of (objects plan.store)) (text_walked objects plan) (IsTextMember objects plan) plan.tips
 
 -- the answer is this commit, with all the parents that its text names, and with its committer's time, or 0 where it has no committer
 pub record IsTextInfo {F : Type 0} (objects : F → Objects) (plan : TopoPlan F) (info : Info) (i : ObjectId) : Type 0 where
@@ -88,14 +73,14 @@ IsTextGiven objects plan (Err e) i = ⊥
 pub record GivesTextOrder {F : Type 0} (objects : F → Objects) (plan : TopoPlan F) (accepts : ObjectId → Bool)
     (list : List (Result Info Error)) : Type 0 where
   pub ids : List ObjectId
-  pub in_order : IsTakenByText objects plan ids
+  pub in_order : IsListBy (IsNextByText objects plan) ids
   pub given : AllZip (IsTextGiven objects plan) list (filter accepts ids)
 
 -- the answers are the first commits in order by the texts, without the commits that the predicate refuses
 pub record BeginsTextOrder {F : Type 0} (objects : F → Objects) (plan : TopoPlan F) (accepts : ObjectId → Bool)
     (list : List (Result Info Error)) : Type 0 where
   pub ids : List ObjectId
-  pub in_order : IsTakenFirstByText objects plan ids
+  pub begins : IsBeginningBy (IsNextByText objects plan) ids
   pub given : AllZip (IsTextGiven objects plan) list (filter accepts ids)
 
 -- neither memory nor the store failed
@@ -124,12 +109,6 @@ answers_left objects walk = left_beside (length (new_ids (was_ready walk) (named
 pub record AreApart {F P : Type 0} (walk : TopoWalk F P) : Type 0 where
   pub distinct : AreDistinct (ready_ids walk.ready)
   pub untaken : (i : ObjectId) → Contains (ready_ids walk.ready) i → set.contains walk.taken i ≡ false
-
--- the ids of the commits that these answers give, in order
-abbrev pub given_ids : List (Result Info Error) → List ObjectId
-given_ids [] = []
-given_ids (Ok info ∷ list) = info.id ∷ given_ids list
-given_ids (Err e ∷ list) = given_ids list
 
 -- the answers are commits and no faults, each once, and only commits that the tips reach and the ends don't; and all of these, where none
 -- of them is its own ancestor

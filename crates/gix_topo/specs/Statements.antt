@@ -1,5 +1,5 @@
 -- The statements of the laws of topological walks, over any store and predicate.
-use Rattle.std.specs.Prelude.{◌≡◌, ◌↔◌, ◌≤◌, ℕ, ℤ, List, [], ◌++◌, Bool, true, Option, Some, None, Result, Ok, Err, All, Contains, filter, length, slice_get, take}
+use Rattle.std.specs.Prelude.{◌≡◌, ◌↔◌, ◌≤◌, ℤ, List, [], ◌∷◌, ◌++◌, Bool, true, Option, Some, None, Result, Ok, Err, All, Contains, filter, length, take}
 use Rattle.std.specs.List.{AllZip}
 use Rattle.std.specs.Iterator.{Drains, Yields}
 use Rattle.gix_hash.specs.declared.ObjectId.{ObjectId}
@@ -12,13 +12,15 @@ use Rattle.gix_topo.specs.declared.Error.{Error}
 use Rattle.gix_hash.specs.Reach.{Reaches}
 use Rattle.gix_revwalk.specs.Agreeing.{IsAgreeing}
 use Rattle.gix_revwalk.specs.Commits.{ReadsWhole, parents_of}
+use Rattle.gix_revwalk.specs.ListsByTurn.{IsBeginningBy, IsListBy}
 use Rattle.gix_revwalk.specs.Ids.{AreDistinct}
 use Rattle.gix_revwalk.specs.Texts.{text_next}
 use Rattle.gix_topo.specs.WalkSet.{IsInWalk, IsAcyclicIn, IsChild}
-use Rattle.gix_topo.specs.DateOrder.{IsDateOrder, IsDateBeginning}
-use Rattle.gix_topo.specs.TopoOrder.{IsTopoOrder, IsTopoBeginning}
+use Rattle.gix_topo.specs.DateOrder.{IsBestMade}
+use Rattle.gix_topo.specs.TopoOrder.{IsLastMade}
 use Rattle.gix_topo.specs.Walk.{TopoPlan, TopoWalk, walked_of, row_generation, IsMember, IsStarted, IsSound, IsLeft, IsFault, IsLate, IsCounting, IsKnown, Next, text_walked, IsTextMember}
-use Rattle.gix_topo.specs.Laws.{IsTakenInOrder, IsTakenFirst, IsWholeRun, IsGiven, GivesInOrder, BeginsInOrder, GivesDifference, IsNoRefusal, answers_left, given_ids, IsTakenByText, GivesTextOrder, BeginsTextOrder, GivesTextDifference}
+use Rattle.gix_revwalk.specs.Infos.{given_ids}
+use Rattle.gix_topo.specs.Laws.{IsNextTaken, IsNextByText, IsWholeRun, IsGiven, GivesInOrder, BeginsInOrder, GivesDifference, IsNoRefusal, answers_left, GivesTextOrder, BeginsTextOrder, GivesTextDifference}
 use Rattle.gix_revwalk.specs.Asking.{AnswersBy, AsksAll}
 
 -- There is a list of members of a walk in topological order, where each id names next some of the parents that its commit's text names in
@@ -28,7 +30,7 @@ SomeTopoOrder =
     (time : ObjectId → ℤ) (objects : Objects) (walked all : ObjectId → List ObjectId) (tips ends : List ObjectId)
     → ((c i : ObjectId) → Contains (walked c) i → Contains (text_next objects c) i)
     → ((c i : ObjectId) → Contains (all c) i → Contains (text_next objects c) i)
-    → (ids : List ObjectId) × IsTopoOrder time walked (IsInWalk walked all tips ends) tips ids
+    → (ids : List ObjectId) × IsListBy (IsLastMade time walked (IsInWalk walked all tips ends) tips) ids
 
 -- and one in date order, where the ends go on to each id that the walk goes on to
 abbrev pub SomeDateOrder : Type 0
@@ -36,38 +38,38 @@ SomeDateOrder =
     (time : ObjectId → ℤ) (objects : Objects) (walked all : ObjectId → List ObjectId) (tips ends : List ObjectId)
     → ((c i : ObjectId) → Contains (walked c) i → Contains (all c) i)
     → ((c i : ObjectId) → Contains (all c) i → Contains (text_next objects c) i)
-    → (ids : List ObjectId) × IsDateOrder time walked (IsInWalk walked all tips ends) tips ids
+    → (ids : List ObjectId) × IsListBy (IsBestMade time walked (IsInWalk walked all tips ends) tips) ids
 
 -- there is at most one list of the members of a walk in topological order
 abbrev pub TopoOrderIsOne : Type 0
 TopoOrderIsOne =
     (time : ObjectId → ℤ) (walked all : ObjectId → List ObjectId) (tips ends ids others : List ObjectId)
-    → IsTopoOrder time walked (IsInWalk walked all tips ends) tips ids
-    → IsTopoOrder time walked (IsInWalk walked all tips ends) tips others
+    → IsListBy (IsLastMade time walked (IsInWalk walked all tips ends) tips) ids
+    → IsListBy (IsLastMade time walked (IsInWalk walked all tips ends) tips) others
     → ids ≡ others
 
 -- and at most one in date order
 abbrev pub DateOrderIsOne : Type 0
 DateOrderIsOne =
     (time : ObjectId → ℤ) (walked all : ObjectId → List ObjectId) (tips ends ids others : List ObjectId)
-    → IsDateOrder time walked (IsInWalk walked all tips ends) tips ids
-    → IsDateOrder time walked (IsInWalk walked all tips ends) tips others
+    → IsListBy (IsBestMade time walked (IsInWalk walked all tips ends) tips) ids
+    → IsListBy (IsBestMade time walked (IsInWalk walked all tips ends) tips) others
     → ids ≡ others
 
 -- a beginning in topological order is the first ids of the whole list
 abbrev pub TopoBeginningIsOne : Type 0
 TopoBeginningIsOne =
     (time : ObjectId → ℤ) (walked all : ObjectId → List ObjectId) (tips ends ids whole : List ObjectId)
-    → IsTopoBeginning time walked (IsInWalk walked all tips ends) tips ids
-    → IsTopoOrder time walked (IsInWalk walked all tips ends) tips whole
+    → IsBeginningBy (IsLastMade time walked (IsInWalk walked all tips ends) tips) ids
+    → IsListBy (IsLastMade time walked (IsInWalk walked all tips ends) tips) whole
     → ids ≡ take (length ids) whole
 
 -- and so is one in date order
 abbrev pub DateBeginningIsOne : Type 0
 DateBeginningIsOne =
     (time : ObjectId → ℤ) (walked all : ObjectId → List ObjectId) (tips ends ids whole : List ObjectId)
-    → IsDateBeginning time walked (IsInWalk walked all tips ends) tips ids
-    → IsDateOrder time walked (IsInWalk walked all tips ends) tips whole
+    → IsBeginningBy (IsBestMade time walked (IsInWalk walked all tips ends) tips) ids
+    → IsListBy (IsBestMade time walked (IsInWalk walked all tips ends) tips) whole
     → ids ≡ take (length ids) whole
 
 module _ {F : Type 0} (objects : F → Objects) where
@@ -75,7 +77,7 @@ module _ {F : Type 0} (objects : F → Objects) where
   abbrev pub TakesEachOnce : Type 0
   TakesEachOnce =
       (plan : TopoPlan F) (ids : List ObjectId)
-      → IsTakenInOrder objects plan ids
+      → IsListBy (IsNextTaken objects plan) ids
       → AreDistinct ids
       × ((i : ObjectId) → Contains ids i → IsMember objects plan i)
       × (IsAcyclicIn (walked_of objects plan) (IsMember objects plan) → (i : ObjectId) → IsMember objects plan i → Contains ids i)
@@ -84,35 +86,35 @@ module _ {F : Type 0} (objects : F → Objects) where
   abbrev pub BeginsEachOnce : Type 0
   BeginsEachOnce =
       (plan : TopoPlan F) (ids : List ObjectId)
-      → IsTakenFirst objects plan ids
+      → IsBeginningBy (IsNextTaken objects plan) ids
       → AreDistinct ids
       × ((i : ObjectId) → Contains ids i → IsMember objects plan i)
-      × ((k : ℕ) (d p : ObjectId) → slice_get ids k ≡ Some p → IsChild (walked_of objects plan) (IsMember objects plan) d p → Contains (take k ids) d)
+      × ((taken rest : List ObjectId) (d p : ObjectId) → ids ≡ taken ++ p ∷ rest → IsChild (walked_of objects plan) (IsMember objects plan) d p → Contains taken d)
 
   -- every child comes before its parents
   abbrev pub TakesChildrenFirst : Type 0
   TakesChildrenFirst =
       (plan : TopoPlan F) (ids : List ObjectId)
-      → IsTakenInOrder objects plan ids
-      → (k : ℕ) (child parent : ObjectId)
-      → slice_get ids k ≡ Some parent
+      → IsListBy (IsNextTaken objects plan) ids
+      → (taken rest : List ObjectId) (child parent : ObjectId)
+      → ids ≡ taken ++ parent ∷ rest
       → Contains ids child
       → Contains (walked_of objects plan child) parent
-      → Contains (take k ids) child
+      → Contains taken child
 
   -- commits that were taken in order by the texts: each once, members alone, all of these, and every child before its parents
   abbrev pub TakesEachByText : Type 0
   TakesEachByText =
       (plan : TopoPlan F) (ids : List ObjectId)
-      → IsTakenByText objects plan ids
+      → IsListBy (IsNextByText objects plan) ids
       → AreDistinct ids
       × ((i : ObjectId) → Contains ids i → IsTextMember objects plan i)
       × (IsAcyclicIn (text_walked objects plan) (IsTextMember objects plan) → (i : ObjectId) → IsTextMember objects plan i → Contains ids i)
-      × ((k : ℕ) (child parent : ObjectId)
-      → slice_get ids k ≡ Some parent
+      × ((taken rest : List ObjectId) (child parent : ObjectId)
+      → ids ≡ taken ++ parent ∷ rest
       → Contains ids child
       → Contains (text_walked objects plan child) parent
-      → Contains (take k ids) child)
+      → Contains taken child)
 
 module _ {F P : Type 0} (objects : F → Objects) (faulty : F → ObjectId → Type 0) (answers : P → ObjectId → Bool → P → Type 0) where
   -- a built walk that is drawn to its end

@@ -1,5 +1,5 @@
 -- `git rev-list --topo-order`: no parent before all of its children, and no lines of history intermixed.
-use Rattle.std.specs.Prelude.{◌≡◌, ◌≤◌, ℕ, ℤ, int_le, List, [], ◌∷◌, ◌++◌, length, take, reverse, slice_get, Some, Contains, if◌then◌else◌}
+use Rattle.std.specs.Prelude.{◌≡◌, ℤ, int_le, List, [], ◌∷◌, ◌++◌, reverse, Some, Contains, if◌then◌else◌}
 use Rattle.gix_hash.specs.declared.ObjectId.{ObjectId}
 use Rattle.gix_hash.specs.Id.{is_among}
 use Rattle.gix_revwalk.specs.BreadthOrder.{first_new}
@@ -43,13 +43,6 @@ module _ (time : ObjectId → ℤ) (walked : ObjectId → List ObjectId) (In : O
       × IsMadeReady taken before
       × Keeps (IsReady walked In (Contains (c ∷ taken))) (last_places (walked c)) added × (ready ≡ before ++ added)
 
-  -- Each commit is the last of the commits made ready that isn't taken. The list ends where there is none.
-  abbrev pub IsTopoOrder : List ObjectId → Type 0
-  IsTopoOrder ids =
-      (k : ℕ) → k ≤ length ids → (ready : List ObjectId) × IsMadeReady (reverse (take k ids)) ready × (slice_get ids k ≡ first_new (reverse ready) (take k ids))
-
-  -- A beginning of such a list: each commit is the last of the commits made ready that isn't taken. Nothing is said of the end.
-  abbrev pub IsTopoBeginning : List ObjectId → Type 0
-  IsTopoBeginning ids =
-      (k : ℕ) (i : ObjectId) → slice_get ids k ≡ Some i →
-      (ready : List ObjectId) × IsMadeReady (reverse (take k ids)) ready × (first_new (reverse ready) (take k ids) ≡ Some i)
+  -- what comes next: the last of the commits made ready that isn't taken
+  abbrev pub IsLastMade : List ObjectId → ObjectId → Type 0
+  IsLastMade taken i = (ready : List ObjectId) × IsMadeReady (reverse taken) ready × (first_new (reverse ready) taken ≡ Some i)

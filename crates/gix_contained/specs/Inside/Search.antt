@@ -7,7 +7,6 @@ use Rattle.gix_hash.specs.declared.ObjectId.{ObjectId}
 use Rattle.gix_hash.specs.Id.{id_cmp, is_among}
 use Rattle.gix_hash.specs.Reach.{Reaches}
 use Rattle.gix_object.specs.declared.find.existing_iter.Error.TheVariants as existing
-use Rattle.gix_object.specs.CommitText.{Commit}
 use Rattle.gix_object.specs.Object.{Objects}
 use Rattle.gix_commitgraph.specs.Rows.{GraphRow, row_of}
 use Rattle.gix_contained.specs.Contained.{DropsBy, IsContainedFault}
@@ -16,16 +15,14 @@ use Rattle.gix_contained.specs.declared.source.Key.{Key}
 use Rattle.gix_contained.specs.declared.source.Waiting.{Waiting}
 use Rattle.gix_paint.specs.declared.Hidden.{Hidden}
 use Rattle.gix_paint.specs.declared.Hidden.TheVariants as hidden_by
-use Rattle.gix_paint.specs.Painting.{IsFaultAt, IsHistory, generation_in}
+use Rattle.gix_revwalk.specs.Infos.{generation_in}
+use Rattle.gix_paint.specs.Inside.Painter.{Reads}
+use Rattle.gix_paint.specs.Painting.{IsFaultAt, IsHistory}
 use Rattle.gix_revwalk.specs.Agreeing.{rows_in}
 use Rattle.gix_revwalk.specs.Commits.{commit_at, parents_of}
 use Rattle.gix_revwalk.specs.Ids.{new_ids}
 use Rattle.gix_revwalk.specs.Reading.{DropsRows}
 use Rattle.gix_revwalk.specs.RowParents.{ids_at}
-
--- a commit that the store has whole, and its parents
-abbrev pub Reads : Objects → ObjectId → List ObjectId → Type 0
-Reads objects i ids = (commit : Commit) × (commit_at objects i ≡ Some commit) × (ids ≡ commit.parents)
 
 -- the parents by the row, or else from the store, and whether rows are in use then
 pub data ReadsParents (objects : Objects) (rows : List GraphRow) (in_use : Bool) (i : ObjectId) (ids : List ObjectId) : Bool → Type 0 where
@@ -64,10 +61,6 @@ pub record Knows (objects : Objects) (rows : List GraphRow) (in_use : Bool) (i :
 pub data GivesParents (objects : Objects) (rows : List GraphRow) (in_use : Bool) (w : Waiting) (ids : List ObjectId) : Bool → Type 0 where
   brought : brings w ≡ Some ids → GivesParents objects rows in_use w ids in_use
   looked_up : {after : Bool} → ReadsParents objects rows in_use w.id ids after → GivesParents objects rows in_use w ids after
-
--- out of memory, or one of the ids has no row and can't be read
-abbrev pub LookUpFailsAmong : Objects → (ObjectId → Type 0) → List GraphRow → List ObjectId → Hidden → Type 0
-LookUpFailsAmong objects faulty rows ids why = why ≢ hidden_by.Find existing.Memory → (i : ObjectId) × Contains ids i × (row_of rows i ≡ None) × IsFaultAt objects faulty i why
 
 -- an id that is asked about, and its generation
 abbrev pub AskedId : Type 0

@@ -1,13 +1,14 @@
 -- Worked examples of the order by time: over a finite history a test that computes says whether a list is in it.
 use Rattle.std.proofs.Common.{◌≡◌, ◌≤◌, ℕ, pos, List, [], ◌∷◌, Bool, true, false, not, ◌&&◌, ◌||◌, find, Option, Some, None, Contains, MatchOption, refl, sym, ◌∙◌, arith, true≢false, leb-true}
 use Rattle.std.proofs.Math.Dec.{leb}
-use Rattle.gix_topo.proofs.Common.{ints, and_parts, not-true, false_from_ne_true, ObjectId, is_among, among_from, among_is, NewestFirst, OldestFirst, named_by}
+use Rattle.gix_topo.proofs.Common.{ints, and_parts, not-true, false_from_ne_true, ObjectId, is_among, IsListBy, among_from, among_is, NewestFirst, OldestFirst, named_by}
 use Rattle.gix_revwalk.specs.declared.CommitTimeOrder.{CommitTimeOrder}
-use Rattle.gix_revwalk.specs.TimeOrder.{is_no_worse, IsNoWorse, IsPending, IsNextByTime, IsTimeOrder}
+use Rattle.gix_revwalk.specs.TimeOrder.{is_no_worse, IsNoWorse, IsNextByTime}
+use Rattle.gix_revwalk.proofs.Beginnings.{begins_empty}
 use Rattle.gix_revwalk.specs.Examples.{ids, history, sample_in}
 use Rattle.gix_topo.proofs.Readiness.Decided.{all_of, all_is}
 use Rattle.gix_topo.proofs.Examples.TopologicalOrders.{sample_seconds, is_this, this_is}
-use Rattle.gix_topo.proofs.Run.ReadyInTurn.{is_list, list_turns}
+use Rattle.gix_topo.proofs.Run.ReadyInTurn.{is_list, list_tested}
 
 abbrev no_worse : CommitTimeOrder → ℕ → ℕ → Bool
 no_worse NewestFirst a b = leb b a
@@ -27,14 +28,14 @@ module _ (order : CommitTimeOrder) (seconds : ObjectId → ℕ) (next : ObjectId
       ((is_among i (named_by next starts done) && not (is_among i done)) && all_of (λ j. is_among j done || no_worse order (seconds i) (seconds j)) (named_by next starts done))
       && is_this (find (λ j. not (is_among j done) && is_no_worse order (pos (seconds j)) (pos (seconds i))) (named_by next starts done)) (Some i)
 
-  abbrev IsNext : List ObjectId → Option ObjectId → Type 0
-  IsNext done o = MatchOption o ((i : ObjectId) → IsPending next starts done i → ⊥) (IsNextByTime order (λ i. pos (seconds i)) next starts done)
+  abbrev IsNext : List ObjectId → ObjectId → Type 0
+  IsNext = IsNextByTime order (λ i. pos (seconds i)) next starts
 
   untaken : (done : List ObjectId) (i : ObjectId) → (Contains done i → ⊥) → is_among i done ≡ false
   untaken done i left = false_from_ne_true _ (λ e. left (among_is i done e))
 
-  next_is : (done : List ObjectId) (o : Option ObjectId) → is_next done o ≡ true → IsNext done o
-  next_is done None e = λ i p. true≢false (sym (all_is (λ j. is_among j done) (named_by next starts done) e i p.0) ∙ untaken done i p.1)
+  next_is : (done : List ObjectId) (o : Option ObjectId) → is_next done o ≡ true → MatchOption o ((i : ObjectId) → IsNext done i → ⊥) (IsNext done)
+  next_is done None e = λ i n. let p = n.best.among in true≢false (sym (all_is (λ j. is_among j done) (named_by next starts done) e i p.0) ∙ untaken done i p.1)
   next_is done (Some i) e =
       let t : (((is_among i (named_by next starts done) && not (is_among i done)) && all_of (λ j. is_among j done || no_worse order (seconds i) (seconds j)) (named_by next starts done)) ≡ true) × (is_this (find (λ j. not (is_among j done) && is_no_worse order (pos (seconds j)) (pos (seconds i))) (named_by next starts done)) (Some i) ≡ true) = and_parts _ _ e in
       let a : ((is_among i (named_by next starts done) && not (is_among i done)) ≡ true) × (all_of (λ j. is_among j done || no_worse order (seconds i) (seconds j)) (named_by next starts done) ≡ true) = and_parts _ _ t.0 in
@@ -51,11 +52,11 @@ module _ (order : CommitTimeOrder) (seconds : ObjectId → ℕ) (next : ObjectId
   is_time = is_list is_next
 
   -- a list that passes is in order by time
-  pub time_by : (ids : List ObjectId) → is_time [] ids ≡ true → IsTimeOrder order (λ i. pos (seconds i)) next starts ids
-  time_by ids e = list_turns IsNext is_next next_is ids [] e
+  pub time_by : (ids : List ObjectId) → is_time [] ids ≡ true → IsListBy IsNext ids
+  time_by ids e = list_tested IsNext is_next next_is ids [] (begins_empty _) e
 
 abbrev pub IsSampleTime : CommitTimeOrder → List ℕ → List ℕ → Type 0
-IsSampleTime order tips list = IsTimeOrder order (λ i. pos (sample_seconds history i)) (sample_in history) (ids tips) (ids list)
+IsSampleTime order tips list = IsListBy (IsNextByTime order (λ i. pos (sample_seconds history i)) (sample_in history) (ids tips)) (ids list)
 
 pub newest_first : IsSampleTime NewestFirst (8 ∷ []) (8 ∷ 7 ∷ 6 ∷ 5 ∷ 4 ∷ 3 ∷ 2 ∷ 1 ∷ [])
 newest_first = time_by NewestFirst (sample_seconds history) (sample_in history) (ids (8 ∷ [])) (ids (8 ∷ 7 ∷ 6 ∷ 5 ∷ 4 ∷ 3 ∷ 2 ∷ 1 ∷ [])) refl

@@ -1,14 +1,15 @@
 -- Worked examples: over a finite history, lists in the orders of topological walks are found by computing.
-use Rattle.std.proofs.Common.{◌≡◌, ◌≤◌, ℕ, suc, ℤ, pos, List, [], ◌∷◌, Bool, true, false, not, ◌&&◌, ◌||◌, cond, find, reverse, take, Option, Some, None, Contains, refl, sym, ap, subst, inr, ⊎_elim, ◌∙◌, arith, true≢false, leb-true}
+use Rattle.std.proofs.Common.{◌≡◌, ◌≤◌, ℕ, suc, ℤ, pos, List, [], ◌∷◌, Bool, true, false, not, ◌&&◌, ◌||◌, cond, find, reverse, take, Option, Some, None, MatchOption, Contains, refl, sym, ap, subst, inr, ⊎_elim, ◌∙◌, arith, true≢false, leb-true}
 use Rattle.std.proofs.Math.Dec.{leb}
-use Rattle.gix_topo.proofs.Common.{ints, false≢true, and_parts, and_from, not-true, not_from_false, false_from_ne_true, ObjectId, is_same, is_among, first_new, named_by, IsDateOrder, Reaches, start, step, IsAcyclic, IsAtBoundary}
-use Rattle.gix_topo.proofs.Common.{IsInWalk, IsAcyclicIn, IsReady, IsMadeReady, IsTopoOrder, NewestFirst, same_is, among_is, Contains-cons_cases, no_member}
+use Rattle.gix_topo.proofs.Common.{ints, false≢true, and_parts, and_from, not-true, not_from_false, false_from_ne_true, ObjectId, is_same, is_among, first_new, named_by, IsBestMade, IsListBy, Reaches, start, step, IsAcyclic, IsAtBoundary}
+use Rattle.gix_topo.proofs.Common.{IsInWalk, IsAcyclicIn, IsReady, IsLastMade, IsMadeReady, NewestFirst, same_is, among_is, Contains-cons_cases, no_member}
 use Rattle.gix_revwalk.specs.Examples.{n, ids, history, sample_in}
 use Rattle.gix_revwalk.specs.TimeOrder.{is_no_worse, IsBest}
+use Rattle.gix_topo.specs.declared.Sorting.TheVariants as order
+use Rattle.gix_revwalk.proofs.Beginnings.{begins_empty, one_list}
 use Rattle.gix_revwalk.proofs.Orders.{reached_by_named}
 use Rattle.gix_topo.proofs.Readiness.Decided.{all_of, all_is, given, is_ready as is_ready_of, ready_is as ready_of, is_ready_by as of_ready, made as made_by, made_is as made_is_by}
-use Rattle.gix_topo.proofs.Run.ReadyInTurn.{is_list, list_turns, IsBestNext, IsLastMade}
-use Rattle.gix_topo.proofs.Run.OneList.{same_topo}
+use Rattle.gix_topo.proofs.Run.ReadyInTurn.{is_list, last_or_none, list_tested, one_taken}
 
 -- the list is what the starts reach: it is closed, and each id of it is named by those before
 module _ (next : ObjectId → List ObjectId) (starts : List ObjectId) where
@@ -85,15 +86,15 @@ module _ (walked : ObjectId → List ObjectId) (tips ends keys reached hidden : 
     abbrev is_turn : List ObjectId → Option ObjectId → Bool
     is_turn done o = is_this o (first_new (reverse (made (reverse done))) done)
 
-    turn_is : (done : List ObjectId) (o : Option ObjectId) → is_turn done o ≡ true → IsLastMade time walked Member tips done o
-    turn_is done o e = (made (reverse done), made_is (reverse done), this_is o _ e)
+    turn_is : (done : List ObjectId) (o : Option ObjectId) → is_turn done o ≡ true → MatchOption o ((i : ObjectId) → IsLastMade time walked Member tips done i → ⊥) (IsLastMade time walked Member tips done)
+    turn_is done o e = last_or_none time walked Member tips done (made (reverse done)) (made_is (reverse done)) o (sym (this_is o _ e))
 
     abbrev is_topo : List ObjectId → List ObjectId → Bool
     is_topo = is_list is_turn
 
     -- a list that passes is in topological order
-    pub topo_by : (ids : List ObjectId) → is_topo [] ids ≡ true → IsTopoOrder time walked Member tips ids
-    topo_by ids e = list_turns (IsLastMade time walked Member tips) is_turn turn_is ids [] e
+    pub topo_by : (ids : List ObjectId) → is_topo [] ids ≡ true → IsListBy (IsLastMade time walked Member tips) ids
+    topo_by ids e = list_tested (IsLastMade time walked Member tips) is_turn turn_is ids [] (begins_empty _) e
 
   -- the next one is ready, and no member that is ready has a greater time
   module _ (seconds : ObjectId → ℕ) where
@@ -106,14 +107,10 @@ module _ (walked : ObjectId → List ObjectId) (tips ends keys reached hidden : 
         (is_ready done i && all_of (λ j. not (is_ready done j) || leb (seconds j) (seconds i)) reached)
         && is_this (find (λ j. not (is_among j done) && is_no_worse NewestFirst (pos (seconds j)) (pos (seconds i))) (made at (reverse done))) (Some i)
 
-    best_is : (done : List ObjectId) (o : Option ObjectId) → is_best done o ≡ true → IsBestNext at walked Member tips done o
-    best_is done None e = (
-      made at (reverse done),
-      made_is at (reverse done),
-      λ i r.
-          let b : is_ready done i ≡ true = is_ready_by done i r in
-          true≢false (sym (all_is (λ j. not (is_ready done j)) reached e i (among_is i reached (and_parts _ _ (and_parts _ _ b).0).0)) ∙ ap not b),
-    )
+    best_is : (done : List ObjectId) (o : Option ObjectId) → is_best done o ≡ true → MatchOption o ((i : ObjectId) → IsBestMade at walked Member tips done i → ⊥) (IsBestMade at walked Member tips done)
+    best_is done None e = λ i n.
+        let b : is_ready done i ≡ true = is_ready_by done i n.2.best.among in
+        true≢false (sym (all_is (λ j. not (is_ready done j)) reached e i (among_is i reached (and_parts _ _ (and_parts _ _ b).0).0)) ∙ ap not b)
     best_is done (Some i) e =
         let t : ((is_ready done i && all_of (λ j. not (is_ready done j) || leb (seconds j) (seconds i)) reached) ≡ true) × (is_this (find (λ j. not (is_among j done) && is_no_worse NewestFirst (at j) (at i)) (made at (reverse done))) (Some i) ≡ true) = and_parts _ _ e in
         let a : (is_ready done i ≡ true) × (all_of (λ j. not (is_ready done j) || leb (seconds j) (seconds i)) reached ≡ true) = and_parts _ _ t.0 in
@@ -130,8 +127,8 @@ module _ (walked : ObjectId → List ObjectId) (tips ends keys reached hidden : 
     is_date = is_list is_best
 
     -- a list that passes is in order by date
-    pub date_by : (ids : List ObjectId) → is_date [] ids ≡ true → IsDateOrder at walked Member tips ids
-    date_by ids e = list_turns (IsBestNext at walked Member tips) is_best best_is ids [] e
+    pub date_by : (ids : List ObjectId) → is_date [] ids ≡ true → IsListBy (IsBestMade at walked Member tips) ids
+    date_by ids e = list_tested (IsBestMade at walked Member tips) is_best best_is ids [] (begins_empty _) e
 
 -- the sample history
 abbrev pub keys_of : List (ℕ × List ℕ) → List ObjectId
@@ -156,10 +153,10 @@ abbrev pub SampleSet : List (ℕ × List ℕ) → List ℕ → List ℕ → Obje
 SampleSet h tips ends = IsInWalk (sample_in h) (sample_in h) (ids tips) (ids ends)
 
 abbrev pub IsSampleTopo : List (ℕ × List ℕ) → List ℕ → List ℕ → List ℕ → Type 0
-IsSampleTopo h tips ends order = IsTopoOrder (λ i. pos (sample_seconds h i)) (sample_in h) (SampleSet h tips ends) (ids tips) (ids order)
+IsSampleTopo h tips ends order = IsListBy (IsLastMade (λ i. pos (sample_seconds h i)) (sample_in h) (SampleSet h tips ends) (ids tips)) (ids order)
 
 abbrev pub IsSampleDate : List (ℕ × List ℕ) → List ℕ → List ℕ → List ℕ → Type 0
-IsSampleDate h tips ends order = IsDateOrder (λ i. pos (sample_seconds h i)) (sample_in h) (SampleSet h tips ends) (ids tips) (ids order)
+IsSampleDate h tips ends order = IsListBy (IsBestMade (λ i. pos (sample_seconds h i)) (sample_in h) (SampleSet h tips ends) (ids tips)) (ids order)
 
 -- `reached` and `hidden` are what tips and ends reach, each behind a commit that names it
 module _ (h : List (ℕ × List ℕ)) (tips ends reached hidden : List ℕ)
@@ -213,7 +210,7 @@ goes_round = (sample_topo round (1 ∷ []) [] (1 ∷ 2 ∷ []) [] refl [] refl, 
 pub first_place_refused : IsSampleTopo repeated (9 ∷ []) [] (9 ∷ 7 ∷ 4 ∷ 2 ∷ 6 ∷ 5 ∷ 3 ∷ 1 ∷ []) → ⊥
 first_place_refused h =
     let e : ids (9 ∷ 7 ∷ 4 ∷ 2 ∷ 6 ∷ 5 ∷ 3 ∷ 1 ∷ []) ≡ ids (9 ∷ 6 ∷ 5 ∷ 3 ∷ 7 ∷ 4 ∷ 2 ∷ 1 ∷ []) =
-    same_topo (λ i. pos (sample_seconds repeated i)) (sample_in repeated) (SampleSet repeated (9 ∷ []) []) (ids (9 ∷ [])) _ _ h parent_repeated in
+    one_list _ (one_taken (λ i. pos (sample_seconds repeated i)) (sample_in repeated) (SampleSet repeated (9 ∷ []) []) (ids (9 ∷ [])) order.TopoOrder) _ _ h parent_repeated in
     false≢true (ap (λ xs. is_among (n 7) (take 2 xs)) (sym e))
 
 -- where each parent is one of these and has a lesser number, so has each ancestor

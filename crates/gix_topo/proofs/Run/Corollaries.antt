@@ -1,45 +1,38 @@
 -- The laws of topological walks that follow from the order alone; and what a walk through all parents gives, by the store over a sound history, and by the texts where no fault comes.
-use Rattle.gix_topo.specs.declared.Sorting.TheVariants as order
 use Rattle.gix_revwalk.specs.declared.Parents.TheVariants as mode
-use Rattle.std.proofs.Common.{◌≡◌, ◌↔◌, ℕ, List, [], Bool, filter, take, slice_get, Some, Result, Contains, ◌++◌, ℤ, ◌∷◌, true, Ok, Err, All, subst, refl, sym}
+use Rattle.std.proofs.Common.{◌≡◌, ◌↔◌, List, [], Bool, filter, Result, Contains, ◌++◌, ℤ, ◌∷◌, true, Ok, Err, All, subst, refl, sym}
 use Rattle.std.specs.List.{AllZip}
 use Rattle.gix_topo.proofs.Common.{ObjectId, Objects, GraphRow, Info, Sorting, Error, parents_of, time_of, ReadsWhole, walked_parents, by_mode, IsAcyclicIn, IsChild, IsInWalk, AreDistinct, TopoPlan, TopoWalk, walked_of}
-use Rattle.gix_topo.proofs.Common.{IsMember, text_walked, IsTextMember, IsStarted, Next, IsTakenInOrder, IsTakenFirst, IsTakenByText, IsGiven, GivesInOrder, IsWholeRun, IsNoRefusal, IsTextGiven, GivesTextOrder, GivesDifference}
+use Rattle.gix_topo.proofs.Common.{IsMember, text_walked, IsTextMember, IsStarted, Next, IsBeginningBy, IsListBy, IsNextBy, IsNextByText, IsNextTaken, IsGiven, GivesInOrder, IsWholeRun, IsNoRefusal, IsTextGiven, GivesTextOrder, GivesDifference}
 use Rattle.gix_topo.proofs.Common.{GivesTextDifference, given_ids, Drains, Contains-append_left, Contains-append_right, Parents, Reaches, step, IsAgreeing, filter_all}
 use Rattle.gix_revwalk.specs.Texts.{text_next}
-use Rattle.gix_topo.specs.Laws.{IsSorted}
-use Rattle.gix_topo.proofs.Run.ReadyInTurn.{TurnsFrom, IsReadyNext, same_set}
+use Rattle.gix_topo.proofs.Run.ReadyInTurn.{IsReadyNext, one_taken, same_set}
 use Rattle.gix_topo.proofs.Reading.ReadsCommit.{text_has}
-use Rattle.gix_topo.proofs.Run.EachOnce.{turns_by, each_by, first_by}
-use Rattle.gix_topo.proofs.Run.OneList.{same_date, same_topo}
+use Rattle.gix_topo.proofs.Run.EachOnce.{all_ready, each_by, first_by}
 use Rattle.gix_topo.proofs.Run.Theorem.{gives, gives_text, run_faultless}
 use Rattle.gix_revwalk.specs.Asking.{AnswersBy}
+use Rattle.gix_revwalk.proofs.Beginnings.{one_list}
 use Rattle.gix_revwalk.proofs.Reached.{reach_more}
 
 module _ {F : Type 0} (objects : F → Objects) (plan : TopoPlan F) (ids : List ObjectId) where
-  pub once : IsTakenInOrder objects plan ids → AreDistinct ids × ((i : ObjectId) → Contains ids i → IsMember objects plan i) × (IsAcyclicIn (walked_of objects plan) (IsMember objects plan) → (i : ObjectId) → IsMember objects plan i → Contains ids i)
+  pub once : IsListBy (IsNextTaken objects plan) ids → AreDistinct ids × ((i : ObjectId) → Contains ids i → IsMember objects plan i) × (IsAcyclicIn (walked_of objects plan) (IsMember objects plan) → (i : ObjectId) → IsMember objects plan i → Contains ids i)
   once h =
       let e = each_by (objects plan.store) (parents_of (objects plan.store)) (text_has (objects plan.store)) plan.parents (time_of (objects plan.store)) plan.tips plan.ends ids plan.sorting h in
       (e.0, e.1, e.2)
 
-  pub before_parents : IsTakenInOrder objects plan ids → (k : ℕ) (child parent : ObjectId) → slice_get ids k ≡ Some parent → Contains ids child → Contains (walked_of objects plan child) parent → Contains (take k ids) child
+  pub before_parents : IsListBy (IsNextTaken objects plan) ids → (taken rest : List ObjectId) (child parent : ObjectId) → ids ≡ taken ++ parent ∷ rest → Contains ids child → Contains (walked_of objects plan child) parent → Contains taken child
   before_parents h = (each_by (objects plan.store) (parents_of (objects plan.store)) (text_has (objects plan.store)) plan.parents (time_of (objects plan.store)) plan.tips plan.ends ids plan.sorting h).3
 
   -- the same by the texts
-  pub each_by_text : IsTakenByText objects plan ids
+  pub each_by_text : IsListBy (IsNextByText objects plan) ids
       → AreDistinct ids × ((i : ObjectId) → Contains ids i → IsTextMember objects plan i) × (IsAcyclicIn (text_walked objects plan) (IsTextMember objects plan) → (i : ObjectId) → IsTextMember objects plan i → Contains ids i)
-      × ((k : ℕ) (child parent : ObjectId) → slice_get ids k ≡ Some parent → Contains ids child → Contains (text_walked objects plan child) parent → Contains (take k ids) child)
+      × ((taken rest : List ObjectId) (child parent : ObjectId) → ids ≡ taken ++ parent ∷ rest → Contains ids child → Contains (text_walked objects plan child) parent → Contains taken child)
   each_by_text h = each_by (objects plan.store) (text_next (objects plan.store)) (λ c i n. n) plan.parents (time_of (objects plan.store)) plan.tips plan.ends ids plan.sorting h
 
   -- of the first commits that are taken
-  pub first_once : IsTakenFirst objects plan ids → AreDistinct ids × ((i : ObjectId) → Contains ids i → IsMember objects plan i) ×
-      ((k : ℕ) (d p : ObjectId) → slice_get ids k ≡ Some p → IsChild (walked_of objects plan) (IsMember objects plan) d p → Contains (take k ids) d)
+  pub first_once : IsBeginningBy (IsNextTaken objects plan) ids → AreDistinct ids × ((i : ObjectId) → Contains ids i → IsMember objects plan i) ×
+      ((taken rest : List ObjectId) (d p : ObjectId) → ids ≡ taken ++ p ∷ rest → IsChild (walked_of objects plan) (IsMember objects plan) d p → Contains taken d)
   first_once h = first_by (objects plan.store) (parents_of (objects plan.store)) (text_has (objects plan.store)) plan.parents (time_of (objects plan.store)) plan.tips plan.ends ids plan.sorting h
-
--- each order is one list
-one_sorted : (s : Sorting) (time : ObjectId → ℤ) (walked : ObjectId → List ObjectId) (In : ObjectId → Type 0) (tips xs ys : List ObjectId) → IsSorted s time walked In tips xs → IsSorted s time walked In tips ys → xs ≡ ys
-one_sorted order.DateOrder time walked In tips xs ys h k = same_date time walked In tips xs ys h k
-one_sorted order.TopoOrder time walked In tips xs ys h k = same_topo time walked In tips xs ys h k
 
 pub with_rows : {F P : Type 0} (objects : F → Objects) (faulty : F → ObjectId → Type 0) (answers : P → ObjectId → Bool → P → Type 0) (walk other : TopoWalk F P) (rows : List GraphRow) (accepts : ObjectId → Bool) (list longer : List (Result Info Error)) → other.plan ≡ record walk.plan { rows = rows } →
     IsWholeRun objects faulty answers walk accepts list → IsWholeRun objects faulty answers other accepts longer →
@@ -48,7 +41,7 @@ with_rows {F} objects faulty answers walk other rows accepts list longer same ru
     let g : GivesInOrder objects walk.plan accepts list = gives objects faulty answers accepts walk list run in
     let h : GivesInOrder objects other.plan accepts longer = gives objects faulty answers accepts other longer run_other in
     let plan : TopoPlan F = walk.plan in
-    let e : h.ids ≡ g.ids = one_sorted plan.sorting (time_of (objects plan.store)) (walked_of objects plan) (IsMember objects plan) plan.tips h.ids g.ids (subst (λ p. IsTakenInOrder objects p h.ids) same h.in_order) g.in_order in
+    let e : h.ids ≡ g.ids = one_list (IsNextTaken objects plan) (one_taken (time_of (objects plan.store)) (walked_of objects plan) (IsMember objects plan) plan.tips plan.sorting) h.ids g.ids (subst (λ p. IsListBy (IsNextTaken objects p) h.ids) same h.in_order) g.in_order in
     (g.ids, g.given, subst (λ ids. AllZip (IsGiven objects other.plan) longer (filter accepts ids)) e h.given)
 
 -- whatever the rows and the order: the same commits are taken
@@ -59,9 +52,9 @@ same_ids {F} objects faulty answers walk other rows sorting accepts list longer 
     let plan : TopoPlan F = walk.plan in
     let g : GivesInOrder objects walk.plan accepts list = gives objects faulty answers accepts walk list run in
     let h : GivesInOrder objects other.plan accepts longer = gives objects faulty answers accepts other longer run_other in
-    let b : IsTakenInOrder objects (record plan { rows = rows; sorting = sorting }) h.ids = subst (λ p. IsTakenInOrder objects p h.ids) same h.in_order in
-    let turns : (ids : List ObjectId) (s : Sorting) → IsSorted s (time_of (objects plan.store)) (walked_of objects plan) (IsMember objects plan) plan.tips ids → TurnsFrom (IsReadyNext (walked_of objects plan) (IsMember objects plan)) [] ids =
-    λ ids s k. turns_by (objects plan.store) (parents_of (objects plan.store)) (text_has (objects plan.store)) plan.parents (time_of (objects plan.store)) plan.tips plan.ends ids s k in
+    let b : IsListBy (IsNextTaken objects (record plan { rows = rows; sorting = sorting })) h.ids = subst (λ p. IsListBy (IsNextTaken objects p) h.ids) same h.in_order in
+    let turns : (ids : List ObjectId) (s : Sorting) → IsListBy (IsNextBy s (time_of (objects plan.store)) (walked_of objects plan) (IsMember objects plan) plan.tips) ids → IsListBy (IsReadyNext (walked_of objects plan) (IsMember objects plan)) ids =
+    λ ids s k. all_ready (objects plan.store) (parents_of (objects plan.store)) (text_has (objects plan.store)) plan.parents (time_of (objects plan.store)) plan.tips plan.ends ids s k in
     (g, h, same_set (walked_of objects plan) (IsMember objects plan) g.ids h.ids (turns g.ids plan.sorting g.in_order) (turns h.ids sorting b))
 
 -- A walk through all parents, whose predicate accepts all: each once, what tips reach and ends don't, and all of it where no member is its own ancestor
@@ -72,9 +65,9 @@ IsDifference next tips ends ids =
 
 -- a list in order is that, where all parents are walked
 in_order : (objects : Objects) (next : ObjectId → List ObjectId) → ((c i : ObjectId) → Contains (next c) i → Contains (text_next objects c) i) → (m : Parents) → m ≡ mode.All → (time : ObjectId → ℤ) (tips ends ids : List ObjectId) (s : Sorting) →
-    IsSorted s time (λ i. by_mode m (next i)) (IsInWalk (λ i. by_mode m (next i)) next tips ends) tips ids → IsDifference next tips ends ids
+    IsListBy (IsNextBy s time (λ i. by_mode m (next i)) (IsInWalk (λ i. by_mode m (next i)) next tips ends) tips) ids → IsDifference next tips ends ids
 in_order objects next named m all time tips ends ids s h =
-    let e = each_by objects next named mode.All time tips ends ids s (subst (λ m. IsSorted s time (λ i. by_mode m (next i)) (IsInWalk (λ i. by_mode m (next i)) next tips ends) tips ids) all h) in
+    let e = each_by objects next named mode.All time tips ends ids s (subst (λ m. IsListBy (IsNextBy s time (λ i. by_mode m (next i)) (IsInWalk (λ i. by_mode m (next i)) next tips ends) tips) ids) all h) in
     (e.0, λ i c. ((e.1 i c).reached, (e.1 i c).outside), λ acyclic i r o. e.2 acyclic i (record { reached = r; outside = o }))
 
 -- the answers are commits, and their ids are these

@@ -1,13 +1,12 @@
 -- What a list in either order has, over parents that texts name: each once, members alone, children first, and all where no member is its own ancestor.
-use Rattle.std.proofs.Common.{◌≡◌, ◌⊎◌, ◌++◌, ℕ, List, [], true, take, slice_get, ℤ, Option, Some, None, Contains, refl, sym, subst, ◌∙◌, flat_map}
-use Rattle.gix_topo.proofs.Common.{Contains-append_left, Contains-append_right, ObjectId, is_among, Reaches, start, step, Object, Objects, Parents, Sorting, by_mode, AreDistinct, IsInWalk, IsAcyclicIn, IsChild, IsSortedBeginning}
+use Rattle.std.proofs.Common.{◌≡◌, ◌⊎◌, ◌++◌, List, [], ◌∷◌, true, ℤ, Option, Some, None, Contains, refl, sym, subst, ◌∙◌, flat_map}
+use Rattle.gix_topo.proofs.Common.{Contains-append_left, Contains-append_right, ObjectId, is_among, Reaches, start, step, Object, Objects, Parents, Sorting, by_mode, AreDistinct, IsInWalk, IsAcyclicIn, IsChild, IsBeginningBy, IsListBy, IsNextBy}
 use Rattle.gix_topo.proofs.Common.{among_from, among_is, no_member, among_flat, walked_within}
 use Rattle.std.specs.FinMap as map_of
 use Rattle.gix_revwalk.specs.Texts.{text_parents, next_in, text_next}
-use Rattle.gix_topo.specs.Laws.{IsSorted}
 use Rattle.gix_revwalk.proofs.Rows.{found_entry}
 use Rattle.gix_topo.proofs.Readiness.IsReady.{in_walk_top}
-use Rattle.gix_topo.proofs.Run.ReadyInTurn.{TurnsFrom, IfOne, IsReadyNext, ready_turns, ready_begins, begun_once, begun_members, begun_children, each_once, each_member, children_first, all_given}
+use Rattle.gix_topo.proofs.Run.ReadyInTurn.{IsReadyNext, ready_list, ready_begins, each_once, each_member, children_before, all_given}
 
 -- what the texts of stored commits name is finite
 abbrev pub named_all : Objects → List ObjectId
@@ -38,23 +37,24 @@ module _ (objects : Objects) (next : ObjectId → List ObjectId) (named : (c i :
   top : (i : ObjectId) → In i → Contains tips i ⊎ ((c : ObjectId) × IsChild walked In c i)
   top = in_walk_top walked next tips ends (λ c i n. walked_within m (next c) i n)
 
-  pub turns_by : (s : Sorting) → IsSorted s time walked In tips ids → TurnsFrom (IsReadyNext walked In) [] ids
-  turns_by s h = ready_turns time walked In tips top s ids h
+  pub all_ready : (s : Sorting) → IsListBy (IsNextBy s time walked In tips) ids → IsListBy (IsReadyNext walked In) ids
+  all_ready s h = ready_list time walked In tips top s ids h
 
-  pub each_by : (s : Sorting) → IsSorted s time walked In tips ids
-      → AreDistinct ids × ((i : ObjectId) → Contains ids i → In i) × (IsAcyclicIn walked In → (i : ObjectId) → In i → Contains ids i)
-      × ((k : ℕ) (child parent : ObjectId) → slice_get ids k ≡ Some parent → Contains ids child → Contains (walked child) parent → Contains (take k ids) child)
-  each_by s h =
-      let t : TurnsFrom (IsReadyNext walked In) [] ids = turns_by s h in (
-        each_once walked In ids t,
-        each_member walked In ids t,
-        λ acyclic i m. all_given walked In ids t (tips ++ named_all objects) (λ j k. reached_named j k.reached) acyclic i m,
-        children_first walked In ids t,
-      )
-
-  -- the same of a beginning
-  pub first_by : (s : Sorting) → IsSortedBeginning s time walked In tips ids
-      → AreDistinct ids × ((i : ObjectId) → Contains ids i → In i) × ((k : ℕ) (d p : ObjectId) → slice_get ids k ≡ Some p → IsChild walked In d p → Contains (take k ids) d)
+  -- a beginning has each once, members alone, and every child of a member before it
+  pub first_by : (s : Sorting) → IsBeginningBy (IsNextBy s time walked In tips) ids
+      → AreDistinct ids × ((i : ObjectId) → Contains ids i → In i) × ((taken rest : List ObjectId) (d p : ObjectId) → ids ≡ taken ++ p ∷ rest → IsChild walked In d p → Contains taken d)
   first_by s h =
-      let t : TurnsFrom (IfOne (IsReadyNext walked In)) [] ids = ready_begins time walked In tips top s ids h in
-      (begun_once walked In ids t, begun_members walked In ids t, begun_children walked In ids t)
+      let t : IsBeginningBy (IsReadyNext walked In) ids = ready_begins time walked In tips top s ids h in
+      (each_once walked In ids t, each_member walked In ids t, children_before walked In ids t)
+
+  pub each_by : (s : Sorting) → IsListBy (IsNextBy s time walked In tips) ids
+      → AreDistinct ids × ((i : ObjectId) → Contains ids i → In i) × (IsAcyclicIn walked In → (i : ObjectId) → In i → Contains ids i)
+      × ((taken rest : List ObjectId) (child parent : ObjectId) → ids ≡ taken ++ parent ∷ rest → Contains ids child → Contains (walked child) parent → Contains taken child)
+  each_by s h =
+      let t : IsListBy (IsReadyNext walked In) ids = all_ready s h in
+      let f = first_by s h.begins in (
+        f.0,
+        f.1,
+        λ acyclic i m. all_given walked In ids t (tips ++ named_all objects) (λ j k. reached_named j k.reached) acyclic i m,
+        λ taken rest child parent e c n. f.2 taken rest child parent e (record { child = f.1 child c; parent = (t.begins taken rest parent e).member; named = n }),
+      )

@@ -1,139 +1,67 @@
 -- What a list has in which each commit is ready when it comes: no id twice, children first, and all of the set where no member is its own ancestor.
-use Rattle.std.proofs.Common.{◌≡◌, ◌↔◌, ◌⊎◌, ◌≤◌, ℕ, zero, suc, ℤ, List, [], ◌∷◌, ◌++◌, Bool, true, false, not, ◌&&◌, ◌||◌, filter, reverse, length, take, slice_get, Option, Some, None, Contains, MatchOption, refl, sym, ap, subst, inl}
-use Rattle.std.proofs.Common.{inr, ⊎_elim, ◌∙◌, arith, append_assoc, append-nil, take_all, le_refl, true≢false}
-use Rattle.gix_topo.proofs.Common.{false_from_ne_true, true_from_ne_false, and_parts, and_from, not-true, list_any-IsPermutation, IsPermutation-reverse, Contains-append_left, Contains-push, Contains-push_cases, ObjectId, is_same}
-use Rattle.gix_topo.proofs.Common.{is_among, NewestFirst, first_new, Reaches, start, step, IsAcyclicIn, IsChild, IsChildless, IsReady, by_time, IsMadeReady, AreDistinct, Sorting, IsSortedBeginning, same_is, same_itself, among-append}
-use Rattle.gix_topo.proofs.Common.{among_from, among_is, Contains-here, Contains-there, Contains-cons_cases, no_member, fresh, among-filter, new_less, past_end}
+-- In either order each is ready when it comes, and one at most comes next.
+use Rattle.std.proofs.Common.{◌≡◌, ◌↔◌, ◌⊎◌, ◌≤◌, ℕ, zero, suc, ℤ, List, [], ◌∷◌, ◌++◌, Bool, true, false, not, ◌&&◌, ◌||◌, filter, reverse, length, Option, Some, None, Contains, MatchOption, refl, sym, ap, subst, inl}
+use Rattle.std.proofs.Common.{inr, ⊎_elim, ◌∙◌, arith, append_assoc, append-nil, le_refl, true≢false}
+use Rattle.gix_topo.proofs.Common.{false_from_ne_true, true_from_ne_false, and_parts, and_from, not-true, list_any-IsPermutation, IsPermutation-reverse, Contains-append_left, Contains-push_cases, ObjectId, is_same}
+use Rattle.gix_topo.proofs.Common.{is_among, IsBeginningBy, IsListBy, NewestFirst, first_new, Reaches, start, step, IsAcyclicIn, IsBestMade, IsLastMade, IsNextBy, IsChild, IsChildless, IsReady, Keeps, passed, first_places, last_places, by_time, IsMadeReady, AreDistinct, Sorting}
+use Rattle.gix_topo.proofs.Common.{same_is, same_itself, among-append, among_from, among_is, Contains-here, Contains-there, Contains-cons_cases, no_member, fresh, among-filter, new_less}
 use Rattle.std.proofs.lemmas.List.{reverse-append}
-use Rattle.gix_revwalk.proofs.OneOrder as best
 use Rattle.gix_topo.specs.declared.Sorting.TheVariants as order
-use Rattle.gix_topo.specs.Laws.{IsSorted}
+use Rattle.gix_topo.specs.TopoOrder.{none, kept}
+use Rattle.gix_revwalk.specs.TimeOrder.{IsFirstBest, is_no_worse}
+use Rattle.gix_revwalk.proofs.Beginnings.{begins_as, begins_more, kept_along, once}
+use Rattle.gix_revwalk.proofs.Greedy.{Picks, none_has}
+use Rattle.gix_revwalk.proofs.OneOrder.{one_best, same_some}
 use Rattle.gix_revwalk.proofs.Orders.{found_passes, none_passes}
+use Rattle.gix_revwalk.proofs.SomeOrder.{best, best_of, untaken}
 use Rattle.gix_topo.proofs.Readiness.IsReady.{among-by_time, keeps_from, keeps_one, AreReady, are_ready_alike, takes_ready, starts_ready}
-
--- an order that is defined by the beginnings of its list
-module _ (Q : List ObjectId → Option ObjectId → Type 0) where
-  abbrev pub TurnsFrom : List ObjectId → List ObjectId → Type 0
-  TurnsFrom done ids = (k : ℕ) → k ≤ length ids → Q (done ++ take k ids) (slice_get ids k)
-
-  pub turn_none : (done : List ObjectId) → Q done None → TurnsFrom done []
-  turn_none done h zero b = rw append-nil h
-  turn_none done h (suc k) b = absurd (omega arith)
-
-  pub turn_more : (done ids : List ObjectId) (i : ObjectId) → Q done (Some i) → TurnsFrom (done ++ i ∷ []) ids → TurnsFrom done (i ∷ ids)
-  turn_more done ids i h r zero b = rw append-nil h
-  turn_more done ids i h r (suc k) b = rw append_assoc at (r k (omega arith))
-
-  pub turn_ended : (done : List ObjectId) → TurnsFrom done [] → Q done None
-  turn_ended done h = rw append-nil at (h zero (omega arith))
-
-  pub turn_now : (done ids : List ObjectId) (i : ObjectId) → TurnsFrom done (i ∷ ids) → Q done (Some i)
-  turn_now done ids i h = rw append-nil at (h zero (omega arith))
-
-  pub turn_on : (done ids : List ObjectId) (i : ObjectId) → TurnsFrom done (i ∷ ids) → TurnsFrom (done ++ i ∷ []) ids
-  turn_on done ids i h k b = rw append_assoc (h (suc k) (omega arith))
-
-  -- an entry of the list, by the entries before it
-  pub turn_at : (ids : List ObjectId) → TurnsFrom [] ids → (k : ℕ) (i : ObjectId) → slice_get ids k ≡ Some i → Q (take k ids) (Some i)
-  turn_at ids h k i e =
-      let w : suc k ≤ length ids = Rattle.std.proofs.lemmas.Option.slice_get_within ids k i e in
-      subst (Q (take k ids)) e (h k (omega arith))
-
-  -- Q of the next one, if there is one: nothing is said of the end of the list
-  abbrev pub IfOne : List ObjectId → Option ObjectId → Type 0
-  IfOne done o = MatchOption o (Unit {0}) (λ i. Q done (Some i))
-
-pub turns_by : (Q : List ObjectId → Option ObjectId → Type 0) (ids : List ObjectId) → ((k : ℕ) (i : ObjectId) → slice_get ids k ≡ Some i → Q (take k ids) (Some i)) → TurnsFrom (IfOne Q) [] ids
-turns_by Q ids h k b = go (slice_get ids k) refl
-  where
-    go : (o : Option ObjectId) → slice_get ids k ≡ o → IfOne Q (take k ids) o
-    go None e = tt
-    go (Some i) e = h k i e
-
--- in other words along a list, where something is kept
-pub turns_map : (Q R : List ObjectId → Option ObjectId → Type 0) (Keep : List ObjectId → Type 0) → ((done : List ObjectId) → Keep done → Q done None → R done None) → ((done : List ObjectId) (i : ObjectId) → Keep done → Q done (Some i) → R done (Some i) × Keep (done ++ i ∷ [])) →
-    (ids done : List ObjectId) → Keep done → TurnsFrom Q done ids → TurnsFrom R done ids
-turns_map Q R Keep last now [] done k h = turn_none R done (last done k (turn_ended Q done h))
-turns_map Q R Keep last now (i ∷ ids) done k h =
-    let n : R done (Some i) × Keep (done ++ i ∷ []) = now done i k (turn_now Q done ids i h) in
-    turn_more R done ids i n.0 (turns_map Q R Keep last now ids (done ++ i ∷ []) n.1 (turn_on Q done ids i h))
-
-pub turns_begin : (Q : List ObjectId → Option ObjectId → Type 0) (done ids : List ObjectId) → TurnsFrom Q done ids → TurnsFrom (IfOne Q) done ids
-turns_begin Q done ids h = turns_map Q (IfOne Q) (λ all. Unit {0}) (λ all k q. tt) (λ all i k q. (q, tt)) ids done tt h
 
 -- a list of which a test says that each turn is right
 abbrev pub is_list : (List ObjectId → Option ObjectId → Bool) → List ObjectId → List ObjectId → Bool
 is_list test done [] = test done None
 is_list test done (i ∷ ids) = test done (Some i) && is_list test (done ++ i ∷ []) ids
 
-pub list_turns : (Q : List ObjectId → Option ObjectId → Type 0) (test : List ObjectId → Option ObjectId → Bool) → ((done : List ObjectId) (o : Option ObjectId) → test done o ≡ true → Q done o) → (ids done : List ObjectId) → is_list test done ids ≡ true → TurnsFrom Q done ids
-list_turns Q test sound [] done e = turn_none Q done (sound done None e)
-list_turns Q test sound (i ∷ ids) done e = turn_more Q done ids i (sound done (Some i) (and_parts _ _ e).0) (list_turns Q test sound ids (done ++ i ∷ []) (and_parts _ _ e).1)
+pub list_tested : (Next : List ObjectId → ObjectId → Type 0) (test : List ObjectId → Option ObjectId → Bool) → ((done : List ObjectId) (o : Option ObjectId) → test done o ≡ true → MatchOption o ((i : ObjectId) → Next done i → ⊥) (Next done))
+    → (ids done : List ObjectId) → IsBeginningBy Next done → is_list test done ids ≡ true → IsListBy Next (done ++ ids)
+list_tested Next test sound [] done begins e = subst (IsListBy Next) (sym (append-nil done)) (record { begins = begins; ends = sound done None e })
+list_tested Next test sound (i ∷ ids) done begins e =
+    subst (IsListBy Next) (append_assoc done (i ∷ []) ids) (list_tested Next test sound ids (done ++ i ∷ []) (begins_more Next done i begins (sound done (Some i) (and_parts _ _ e).0)) (and_parts _ _ e).1)
 
 through : (walked : ObjectId → List ObjectId) (d i v : ObjectId) → Contains (walked d) i → Reaches walked (walked i) v → Reaches walked (walked d) v
 through walked d i v n (start s) = step (start n) s
 through walked d i v n (step r m) = step (through walked d i _ n r) m
 
 module _ (walked : ObjectId → List ObjectId) (In : ObjectId → Type 0) where
-  -- the next one is ready; there is none only where none is ready
-  abbrev pub IsReadyNext : List ObjectId → Option ObjectId → Type 0
-  IsReadyNext done o = MatchOption o ((i : ObjectId) → IsReady walked In (Contains done) i → ⊥) (IsReady walked In (Contains done))
+  abbrev pub IsReadyNext : List ObjectId → ObjectId → Type 0
+  IsReadyNext taken = IsReady walked In (Contains taken)
 
-  once_from : (ids done : List ObjectId) → TurnsFrom (IfOne IsReadyNext) done ids → AreDistinct ids × ((i : ObjectId) → Contains ids i → In i × (Contains done i → ⊥))
-  once_from [] done h = (tt, λ i c. absurd (no_member i c))
-  once_from (x ∷ ids) done h =
-      let now : IsReady walked In (Contains done) x = turn_now (IfOne IsReadyNext) done ids x h in
-      let r : AreDistinct ids × ((i : ObjectId) → Contains ids i → In i × (Contains (done ++ x ∷ []) i → ⊥)) = once_from ids (done ++ x ∷ []) (turn_on (IfOne IsReadyNext) done ids x h) in (
-        (λ c. (r.1 x c).1 (Contains-push done x), r.0),
-        λ i c. ⊎_elim (λ e. subst (λ y. In y × (Contains done y → ⊥)) e (now.member, now.left)) (λ t. ((r.1 i t).0, λ d. (r.1 i t).1 (Contains-append_left done (x ∷ []) i d))) (Contains-cons_cases i x ids c),
-      )
+  -- What became ready stays so until it is taken: each commit of a beginning is in any list that ends where nothing is ready.
+  also_taken : (others : List ObjectId) → IsListBy IsReadyNext others → (ids : List ObjectId) → IsBeginningBy IsReadyNext ids → (i : ObjectId) → Contains ids i → Contains others i
+  also_taken others list = kept_along IsReadyNext (λ taken. (i : ObjectId) → Contains taken i → Contains others i)
+      (λ taken x before now i m. ⊎_elim (before i) (λ e. subst (Contains others) e (here taken x before now)) (Contains-push_cases taken x i m)) (λ i c. absurd (no_member i c))
+    where
+      here : (taken : List ObjectId) (x : ObjectId) → ((i : ObjectId) → Contains taken i → Contains others i) → IsReadyNext taken x → Contains others x
+      here taken x before now = among_is x others (true_from_ne_false _ (λ f. list.ends x (record { member = now.member; left = λ t. true≢false (sym (among_from x others t) ∙ f); children = λ d k. before d (now.children d k) })))
 
-  -- What became ready stays so until it is taken: each commit of a list is in any list that ends where nothing is ready.
-  also_taken : (others : List ObjectId) → ((i : ObjectId) → IsReady walked In (Contains others) i → ⊥) → (ids done : List ObjectId) → ((i : ObjectId) → Contains done i → Contains others i) → TurnsFrom (IfOne IsReadyNext) done ids → (i : ObjectId) → Contains ids i → Contains others i
-  also_taken others none [] done before h i c = absurd (no_member i c)
-  also_taken others none (x ∷ ids) done before h i c =
-      let now : IsReady walked In (Contains done) x = turn_now (IfOne IsReadyNext) done ids x h in
-      let here : Contains others x = among_is x others (true_from_ne_false _ (λ f. none x (record { member = now.member; left = λ t. true≢false (sym (among_from x others t) ∙ f); children = λ d k. before d (now.children d k) }))) in
-      ⊎_elim (λ e. subst (Contains others) e here)
-      (λ t. also_taken others none ids (done ++ x ∷ []) (λ j m. ⊎_elim (λ d. before j d) (λ e. subst (Contains others) e here) (Contains-push_cases done x j m)) (turn_on (IfOne IsReadyNext) done ids x h) i t)
-      (Contains-cons_cases i x ids c)
-
-  module _ (ids : List ObjectId) (turns : TurnsFrom (IfOne IsReadyNext) [] ids) where
-    pub begun_once : AreDistinct ids
-    begun_once = (once_from ids [] turns).0
-
-    pub begun_members : (i : ObjectId) → Contains ids i → In i
-    begun_members i c = ((once_from ids [] turns).1 i c).0
-
-    -- a child comes before its parents
-    pub begun_children : (k : ℕ) (d p : ObjectId) → slice_get ids k ≡ Some p → IsChild walked In d p → Contains (take k ids) d
-    begun_children k d p e c = (let r : IsReady walked In (Contains (take k ids)) p = turn_at (IfOne IsReadyNext) ids turns k p e in r).children d c
-
-  module _ (ids : List ObjectId) (turns : TurnsFrom IsReadyNext [] ids) where
-    begun : TurnsFrom (IfOne IsReadyNext) [] ids
-    begun = turns_begin IsReadyNext [] ids turns
-
+  module _ (ids : List ObjectId) (begins : IsBeginningBy IsReadyNext ids) where
     pub each_once : AreDistinct ids
-    each_once = begun_once ids begun
+    each_once = once IsReadyNext (λ taken i r. r.left) ids begins
 
     pub each_member : (i : ObjectId) → Contains ids i → In i
-    each_member = begun_members ids begun
+    each_member = kept_along IsReadyNext (λ taken. (i : ObjectId) → Contains taken i → In i) (λ taken x before now i m. ⊎_elim (before i) (λ e. subst In e now.member) (Contains-push_cases taken x i m)) (λ i c. absurd (no_member i c)) ids begins
 
-    pub children_first : (k : ℕ) (d p : ObjectId) → slice_get ids k ≡ Some p → Contains ids d → Contains (walked d) p → Contains (take k ids) d
-    children_first k d p e c n =
-        let r : IsReady walked In (Contains (take k ids)) p = turn_at IsReadyNext ids turns k p e in
-        r.children d (record { child = each_member d c; parent = r.member; named = n })
+    -- a child comes before its parents
+    pub children_before : (taken rest : List ObjectId) (d p : ObjectId) → ids ≡ taken ++ p ∷ rest → IsChild walked In d p → Contains taken d
+    children_before taken rest d p e c = (begins taken rest p e).children d c
 
-    pub none_left : (i : ObjectId) → IsReady walked In (Contains ids) i → ⊥
-    none_left = rw (past_end ids, take_all (length ids) ids (le_refl _)) at (turns (length ids) (le_refl _))
-
+  module _ (ids : List ObjectId) (list : IsListBy IsReadyNext ids) where
     -- a member that is missing has a child that is missing, which isn't among those seen on the way
     missing : (finite : List ObjectId) → ((i : ObjectId) → In i → is_among i finite ≡ true) → IsAcyclicIn walked In → (n : ℕ) (seen : List ObjectId) (i : ObjectId) → suc (length (fresh (λ j. is_among j seen) finite)) ≤ n → ((v : ObjectId) → Contains seen v → Reaches walked (walked i) v) →
         In i → is_among i ids ≡ false → ⊥
     missing finite within acyclic zero seen i b above m f = omega arith
     missing finite within acyclic (suc n) seen i b above m f =
         let e : suc (length (fresh (λ j. is_same j i || is_among j seen) finite)) ≡ length (fresh (λ j. is_among j seen) finite) = new_less (λ j. is_among j seen) finite i (within i m) (false_from_ne_true _ (λ t. acyclic i m (above i (among_is i seen t)))) in
-        none_left i (record {
+        list.ends i (record {
           member = m;
           left = λ c. true≢false (sym (among_from i ids c) ∙ f);
           children = λ d c. among_is d ids (true_from_ne_false _ (λ g.
@@ -146,9 +74,8 @@ module _ (walked : ObjectId → List ObjectId) (In : ObjectId → Type 0) where
     all_given finite within acyclic i m = among_is i ids (true_from_ne_false _ (λ f. missing finite within acyclic (suc (length (fresh (λ j. is_among j []) finite))) [] i (le_refl _) (λ v h. absurd (no_member v h)) m f))
 
   -- two such lists hold the same
-  pub same_set : (ids others : List ObjectId) → TurnsFrom IsReadyNext [] ids → TurnsFrom IsReadyNext [] others → (i : ObjectId) → Contains ids i ↔ Contains others i
-  same_set ids others h k i =
-      (λ c. also_taken others (none_left others k) ids [] (λ j d. absurd (no_member j d)) (turns_begin IsReadyNext [] ids h) i c, λ c. also_taken ids (none_left ids h) others [] (λ j d. absurd (no_member j d)) (turns_begin IsReadyNext [] others k) i c)
+  pub same_set : (ids others : List ObjectId) → IsListBy IsReadyNext ids → IsListBy IsReadyNext others → (i : ObjectId) → Contains ids i ↔ Contains others i
+  same_set ids others h k i = (also_taken others k ids h.begins i, also_taken ids h others k.begins i)
 
 pub among-reverse : (i : ObjectId) (xs : List ObjectId) → is_among i (reverse xs) ≡ is_among i xs
 among-reverse i xs = sym (list_any-IsPermutation (is_same i) xs (reverse xs) (IsPermutation-reverse xs))
@@ -159,15 +86,12 @@ reverse_in i xs c = among_is i xs (sym (among-reverse i xs) ∙ among_from i (re
 pub in_reverse : (i : ObjectId) (xs : List ObjectId) → Contains xs i → Contains (reverse xs) i
 in_reverse i xs c = among_is i (reverse xs) (among-reverse i xs ∙ among_from i xs c)
 
+-- it can't be that there is no list of those kept
+keeps_some : (P : ObjectId → Type 0) (xs : List ObjectId) → ((ys : List ObjectId) → Keeps P xs ys → ⊥) → ⊥
+keeps_some P [] never = never [] none
+keeps_some P (x ∷ xs) never = keeps_some P xs (λ ys h. never ys (passed (λ p. never (x ∷ ys) (kept p h)) h))
+
 module _ (time : ObjectId → ℤ) (walked : ObjectId → List ObjectId) (In : ObjectId → Type 0) (tips : List ObjectId) where
-  -- the last of those made ready that isn't taken
-  abbrev pub IsLastMade : List ObjectId → Option ObjectId → Type 0
-  IsLastMade done o = (ready : List ObjectId) × IsMadeReady time walked In tips (reverse done) ready × (o ≡ first_new (reverse ready) done)
-
-  -- a ready one of greatest time, of these the one made ready first; there is none only where none is ready
-  abbrev pub IsBestNext : List ObjectId → Option ObjectId → Type 0
-  IsBestNext done o = (ready : List ObjectId) × IsMadeReady time walked In tips (reverse done) ready × best.IsBestNext NewestFirst time (IsReady walked In (Contains done)) ready done o
-
   -- there is one list of those made ready
   pub made_one : (taken xs ys : List ObjectId) → IsMadeReady time walked In tips taken xs → IsMadeReady time walked In tips taken ys → xs ≡ ys
   made_one [] xs ys h k = let e : h.0 ≡ k.0 = keeps_one (IsChildless walked In) h.1 k.0 k.1 in h.2 ∙ ap (by_time time) e ∙ sym k.2
@@ -176,26 +100,22 @@ module _ (time : ObjectId → ℤ) (walked : ObjectId → List ObjectId) (In : O
       let f : h.1 ≡ k.1 = keeps_one (IsReady walked In (Contains (c ∷ taken))) h.3 k.1 k.3 in
       h.4 ∙ (λ j. e j ++ f j) ∙ sym k.4
 
-  -- the next one in either order
-  abbrev pub IsNextBy : Sorting → List ObjectId → Option ObjectId → Type 0
-  IsNextBy order.DateOrder = IsBestNext
-  IsNextBy order.TopoOrder = IsLastMade
+  -- nor that there is none
+  made_some : (taken : List ObjectId) → ((ready : List ObjectId) → IsMadeReady time walked In tips taken ready → ⊥) → ⊥
+  made_some [] never = keeps_some (IsChildless walked In) (first_places tips) (λ some h. never (by_time time some) (some, h, refl))
+  made_some (c ∷ taken) never = made_some taken (λ before h. keeps_some (IsReady walked In (Contains (c ∷ taken))) (last_places (walked c)) (λ added k. never (before ++ added) (before, added, h, k, refl)))
 
-  pub turns_sorted : (s : Sorting) (ids : List ObjectId) → TurnsFrom (IsNextBy s) [] ids → IsSorted s time walked In tips ids
-  turns_sorted order.DateOrder ids h = h
-  turns_sorted order.TopoOrder ids h = h
+  -- one at most comes next
+  pub one_taken : (s : Sorting) (done : List ObjectId) (i j : ObjectId) → IsNextBy s time walked In tips done i → IsNextBy s time walked In tips done j → i ≡ j
+  one_taken order.TopoOrder done i j a b = same_some i j (sym a.2 ∙ ap (λ r. first_new (reverse r) done) (made_one (reverse done) a.0 b.0 a.1 b.1) ∙ b.2)
+  one_taken order.DateOrder done i j a b =
+      one_best NewestFirst time (IsReady walked In (Contains done)) b.0 done i j
+      (subst (λ ready. IsFirstBest NewestFirst time (IsReady walked In (Contains done)) ready done i) (made_one (reverse done) a.0 b.0 a.1 b.1) a.2) b.2
 
-  pub sorted_turns : (s : Sorting) (ids : List ObjectId) → IsSorted s time walked In tips ids → TurnsFrom (IsNextBy s) [] ids
-  sorted_turns order.DateOrder ids h = h
-  sorted_turns order.TopoOrder ids h = h
-
-  pub turns_beginning : (s : Sorting) (ids : List ObjectId) → TurnsFrom (IfOne (IsNextBy s)) [] ids → IsSortedBeginning s time walked In tips ids
-  turns_beginning order.DateOrder ids h = turn_at (IfOne IsBestNext) ids h
-  turns_beginning order.TopoOrder ids h = λ k i e. let l : IsLastMade (take k ids) (Some i) = turn_at (IfOne IsLastMade) ids h k i e in (l.0, l.1, sym l.2)
-
-  pub beginning_turns : (s : Sorting) (ids : List ObjectId) → IsSortedBeginning s time walked In tips ids → TurnsFrom (IfOne (IsNextBy s)) [] ids
-  beginning_turns order.DateOrder ids h = turns_by IsBestNext ids h
-  beginning_turns order.TopoOrder ids h = turns_by IsLastMade ids (λ k i e. let b = h k i e in (b.0, b.1, sym b.2))
+  -- the last of those made ready, or none
+  pub last_or_none : (done ready : List ObjectId) → IsMadeReady time walked In tips (reverse done) ready → (o : Option ObjectId) → first_new (reverse ready) done ≡ o → MatchOption o ((i : ObjectId) → IsLastMade time walked In tips done i → ⊥) (IsLastMade time walked In tips done)
+  last_or_none done ready made (Some i) e = (ready, made, e)
+  last_or_none done ready made None e = λ i n. let f : None ≡ Some i = sym e ∙ ap (λ r. first_new (reverse r) done) (made_one (reverse done) ready n.0 made n.1) ∙ n.2 in cc
 
   -- each was the last of those made ready, when it was taken
   abbrev pub WereTaken : List ObjectId → Type 0
@@ -239,24 +159,47 @@ module _ (time : ObjectId → ℤ) (walked : ObjectId → List ObjectId) (In : O
     pub are_left : (done : List ObjectId) → WereTaken (reverse done) → (ready : List ObjectId) → IsMadeReady time walked In tips (reverse done) ready → AreReady walked In (Contains done) (left_among (reverse done) ready)
     are_left done were ready h = are_ready_alike walked In (Contains (reverse done)) (Contains done) (λ j. reverse_in j done) (λ j. in_reverse j done) (left_among (reverse done) ready) (made_ready (reverse done) ready were h)
 
-    none_is_ready : (done : List ObjectId) → WereTaken (reverse done) → IsLastMade done None → IsReadyNext walked In done None
-    none_is_ready done were h = λ i r.
-        let m : (not (is_among i (reverse done)) ≡ true) × (is_among i h.0 ≡ true) = and_parts _ _ (sym (among-filter i (λ j. not (is_among j (reverse done))) h.0) ∙ (are_left done were h.0 h.1).all i r) in
-        let n : not (is_among i done) ≡ false = none_passes (λ j. not (is_among j done)) (reverse h.0) i (sym h.2) (in_reverse i h.0 (among_is i h.0 m.1)) in
-        true≢false (sym m.0 ∙ ap not (among-reverse i done) ∙ n)
-
-    last_is_ready : (done : List ObjectId) (i : ObjectId) → WereTaken (reverse done) → IsLastMade done (Some i) → IsReady walked In (Contains done) i × WereTaken (reverse (done ++ i ∷ []))
-    last_is_ready done i were h =
-        let f : Contains (reverse h.0) i × (not (is_among i done) ≡ true) = found_passes (λ j. not (is_among j done)) (reverse h.0) i (sym h.2) in (
+    -- in either order what comes next is ready
+    pub next_is_ready : (s : Sorting) (done : List ObjectId) (i : ObjectId) → WereTaken (reverse done) → IsNextBy s time walked In tips done i → IsReadyNext walked In done i × WereTaken (reverse (done ++ i ∷ []))
+    next_is_ready order.DateOrder done i were h =
+        let f : Contains h.0 i × ((not (is_among i done) && is_no_worse NewestFirst (time i) (time i)) ≡ true) = found_passes _ h.0 i h.2.first in
+        (h.2.best.among, were_on done i h.0 h.1 were f.0 (not-true _ (and_parts _ _ f.1).0))
+    next_is_ready order.TopoOrder done i were h =
+        let f : Contains (reverse h.0) i × (not (is_among i done) ≡ true) = found_passes (λ j. not (is_among j done)) (reverse h.0) i h.2 in (
           (are_left done were h.0 h.1).each i (among-filter i (λ j. not (is_among j (reverse done))) h.0 ∙ and_from _ _ (ap not (among-reverse i done) ∙ f.1) (among_from i h.0 (reverse_in i h.0 f.0))),
           were_on done i h.0 h.1 were (reverse_in i h.0 f.0) (not-true _ f.1),
         )
 
-    -- in either order each is ready when it comes, and the list ends where none is ready
-    pub ready_turns : (s : Sorting) (ids : List ObjectId) → IsSorted s time walked In tips ids → TurnsFrom (IsReadyNext walked In) [] ids
-    ready_turns order.DateOrder ids h = turns_map IsBestNext (IsReadyNext walked In) (λ done. Unit {0}) (λ done k n. n.2) (λ done i k b. (b.2.best.among, tt)) ids [] tt h
-    ready_turns order.TopoOrder ids h = turns_map IsLastMade (IsReadyNext walked In) (λ done. WereTaken (reverse done)) none_is_ready last_is_ready ids [] tt h
+    among_left : (done ready : List ObjectId) (i : ObjectId) → is_among i (untaken done ready) ≡ is_among i (left_among (reverse done) ready)
+    among_left done ready i =
+        among-filter i (λ j. not (is_among j done)) ready ∙ ap (λ b. not b && is_among i ready) (sym (among-reverse i done)) ∙ sym (among-filter i (λ j. not (is_among j (reverse done))) ready)
 
-    pub ready_begins : (s : Sorting) (ids : List ObjectId) → IsSortedBeginning s time walked In tips ids → TurnsFrom (IfOne (IsReadyNext walked In)) [] ids
-    ready_begins order.DateOrder ids h = turns_by (IsReadyNext walked In) ids (λ k i e. (h k i e).2.best.among)
-    ready_begins order.TopoOrder ids h = turns_map (IfOne IsLastMade) (IfOne (IsReadyNext walked In)) (λ done. WereTaken (reverse done)) (λ done were n. tt) last_is_ready ids [] tt (beginning_turns order.TopoOrder ids h)
+    -- and something does where anything is
+    pub ready_picks : (s : Sorting) (done : List ObjectId) → WereTaken (reverse done) → (ready : List ObjectId) → IsMadeReady time walked In tips (reverse done) ready → Picks (IsReadyNext walked In) (IsNextBy s time walked In tips) done
+    ready_picks order.TopoOrder done were ready made = (first_new (reverse ready) done, go (first_new (reverse ready) done) refl)
+      where
+        go : (o : Option ObjectId) → first_new (reverse ready) done ≡ o → MatchOption o ((i : ObjectId) → IsReadyNext walked In done i → ⊥) (IsLastMade time walked In tips done)
+        go (Some i) e = (ready, made, e)
+        go None e = λ i r.
+            let m : (not (is_among i (reverse done)) ≡ true) × (is_among i ready ≡ true) = and_parts _ _ (sym (among-filter i (λ j. not (is_among j (reverse done))) ready) ∙ (are_left done were ready made).all i r) in
+            let n : not (is_among i done) ≡ false = none_passes (λ j. not (is_among j done)) (reverse ready) i e (in_reverse i ready (among_is i ready m.1)) in
+            true≢false (sym m.0 ∙ ap not (among-reverse i done) ∙ n)
+    ready_picks order.DateOrder done were ready made = (best NewestFirst time (untaken done ready), go (best NewestFirst time (untaken done ready)) (best_of NewestFirst time (IsReadyNext walked In done) ready done left_is (best NewestFirst time (untaken done ready)) refl))
+      where
+        left_is : (i : ObjectId) → Contains (untaken done ready) i ↔ IsReadyNext walked In done i
+        left_is i =
+            let left = are_left done were ready made in
+            (λ c. left.each i (sym (among_left done ready i) ∙ among_from i _ c), λ r. among_is i _ (among_left done ready i ∙ left.all i r))
+
+        go : (o : Option ObjectId) → MatchOption o ((i : ObjectId) → IsReadyNext walked In done i → ⊥) (IsFirstBest NewestFirst time (IsReadyNext walked In done) ready done) → MatchOption o ((i : ObjectId) → IsReadyNext walked In done i → ⊥) (IsBestMade time walked In tips done)
+        go (Some i) h = (ready, made, h)
+        go None h = h
+
+    -- so each is ready when it comes, and a list ends where none is
+    pub ready_begins : (s : Sorting) (ids : List ObjectId) → IsBeginningBy (IsNextBy s time walked In tips) ids → IsBeginningBy (IsReadyNext walked In) ids
+    ready_begins s = begins_as (IsNextBy s time walked In tips) (λ taken. WereTaken (reverse taken)) (λ taken i were n. (next_is_ready s taken i were n).1) tt (IsReadyNext walked In) (λ taken i were n. (next_is_ready s taken i were n).0)
+
+    pub ready_list : (s : Sorting) (ids : List ObjectId) → IsListBy (IsNextBy s time walked In tips) ids → IsListBy (IsReadyNext walked In) ids
+    ready_list s ids list =
+        let were : WereTaken (reverse ids) = kept_along (IsNextBy s time walked In tips) (λ taken. WereTaken (reverse taken)) (λ taken i were n. (next_is_ready s taken i were n).1) tt ids list.begins in
+        record { begins = ready_begins s ids list.begins; ends = λ i r. made_some (reverse ids) (λ ready made. none_has (IsReadyNext walked In) (IsNextBy s time walked In tips) ids (ready_picks s ids were ready made) list.ends i r) }

@@ -1,13 +1,9 @@
 -- Two ways to say what the parents and the members are, which agree on the members, give the same orders.
-use Rattle.std.proofs.Common.{◌≡◌, ℕ, ℤ, List, [], ◌∷◌, take, drop, reverse, slice_get, Option, Some, None, Contains, sym, subst, take-append-drop}
-use Rattle.gix_topo.proofs.Common.{Contains-append_left, ObjectId, Contains-here, Contains-there, Sorting, IsChild, IsChildless, IsReady, Keeps, last_places, IsMadeReady, IsSortedBeginning}
+use Rattle.std.proofs.Common.{◌≡◌, ℤ, List, [], ◌∷◌, ◌++◌, reverse, Contains, sym, subst}
+use Rattle.gix_topo.proofs.Common.{Contains-append_left, ObjectId, Contains-here, Contains-there, Sorting, IsChild, IsChildless, IsReady, Keeps, last_places, IsMadeReady, IsBeginningBy, IsListBy, IsNextBy}
 use Rattle.gix_topo.specs.declared.Sorting.TheVariants as order
-use Rattle.gix_topo.specs.Laws.{IsSorted}
 use Rattle.gix_topo.proofs.Readiness.IsReady.{keeps_alike}
-use Rattle.gix_topo.proofs.Run.ReadyInTurn.{IfOne, IsNextBy, turns_sorted, sorted_turns, turns_beginning, beginning_turns, reverse_in}
-
-take_within : (k : ℕ) (ids : List ObjectId) (i : ObjectId) → Contains (take k ids) i → Contains ids i
-take_within k ids i c = subst (λ xs. Contains xs i) (take-append-drop k ids) (Contains-append_left (take k ids) (drop k ids) i c)
+use Rattle.gix_topo.proofs.Run.ReadyInTurn.{reverse_in}
 
 module _ (time : ObjectId → ℤ) (walked other : ObjectId → List ObjectId) (In Out : ObjectId → Type 0) (to : (i : ObjectId) → In i → Out i) (from : (i : ObjectId) → Out i → In i)
     (same : (i : ObjectId) → In i → other i ≡ walked i) where
@@ -41,23 +37,21 @@ module _ (time : ObjectId → ℤ) (walked other : ObjectId → List ObjectId) (
   )
 
   -- so is the next one
-  next_to : (s : Sorting) (tips done : List ObjectId) → ((i : ObjectId) → Contains done i → In i) → (o : Option ObjectId) → IsNextBy time walked In tips s done o → IsNextBy time other Out tips s done o
-  next_to order.DateOrder tips done members None h = (h.0, made_to tips (reverse done) h.0 (λ i m. members i (reverse_in i done m)) h.1, λ i r. h.2 i (ready_from (Contains done) i r))
-  next_to order.DateOrder tips done members (Some i) h = (
+  pub next_to : (s : Sorting) (tips done : List ObjectId) → ((i : ObjectId) → Contains done i → In i) → (i : ObjectId) → IsNextBy s time walked In tips done i → IsNextBy s time other Out tips done i
+  next_to order.DateOrder tips done members i h = (
     h.0,
     made_to tips (reverse done) h.0 (λ i m. members i (reverse_in i done m)) h.1,
     record { best = record { among = ready_to (Contains done) i h.2.best.among; best = λ j r. h.2.best.best j (ready_from (Contains done) j r) }; first = h.2.first },
   )
-  next_to order.TopoOrder tips done members o h = (h.0, made_to tips (reverse done) h.0 (λ i m. members i (reverse_in i done m)) h.1, h.2)
+  next_to order.TopoOrder tips done members i h = (h.0, made_to tips (reverse done) h.0 (λ i m. members i (reverse_in i done m)) h.1, h.2)
 
-  module _ (tips ids : List ObjectId) (members : (i : ObjectId) → Contains ids i → In i) (s : Sorting) where
-    -- what is in order stays so
-    pub sorted_to : IsSorted s time walked In tips ids → IsSorted s time other Out tips ids
-    sorted_to h = turns_sorted time other Out tips s ids (λ k b. next_to s tips (take k ids) (λ i m. members i (take_within k ids i m)) (slice_get ids k) (sorted_turns time walked In tips s ids h k b))
+  -- what is in order stays so
+  pub begins_to : (tips ids : List ObjectId) → ((i : ObjectId) → Contains ids i → In i) → (s : Sorting) → IsBeginningBy (IsNextBy s time walked In tips) ids → IsBeginningBy (IsNextBy s time other Out tips) ids
+  begins_to tips ids members s h taken rest i e = next_to s tips taken (λ j m. members j (subst (λ xs. Contains xs j) (sym e) (Contains-append_left taken (i ∷ rest) j m))) i (h taken rest i e)
 
-    pub begins_to : IsSortedBeginning s time walked In tips ids → IsSortedBeginning s time other Out tips ids
-    begins_to h = turns_beginning time other Out tips s ids (λ k b. go k (slice_get ids k) (beginning_turns time walked In tips s ids h k b))
-      where
-        go : (k : ℕ) (o : Option ObjectId) → IfOne (IsNextBy time walked In tips s) (take k ids) o → IfOne (IsNextBy time other Out tips s) (take k ids) o
-        go k None n = tt
-        go k (Some i) n = next_to s tips (take k ids) (λ i m. members i (take_within k ids i m)) (Some i) n
+pub list_to : (time : ObjectId → ℤ) (walked other : ObjectId → List ObjectId) (In Out : ObjectId → Type 0) (to : (i : ObjectId) → In i → Out i) (from : (i : ObjectId) → Out i → In i) (same : (i : ObjectId) → In i → other i ≡ walked i)
+    → (tips ids : List ObjectId) → ((i : ObjectId) → Contains ids i → In i) → (s : Sorting) → IsListBy (IsNextBy s time walked In tips) ids → IsListBy (IsNextBy s time other Out tips) ids
+list_to time walked other In Out to from same tips ids members s h = record {
+  begins = begins_to time walked other In Out to from same tips ids members s h.begins;
+  ends = λ i n. h.ends i (next_to time other walked Out In from to (λ j o. sym (same j (from j o))) s tips ids (λ j m. to j (members j m)) i n);
+}

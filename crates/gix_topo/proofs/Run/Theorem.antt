@@ -1,12 +1,12 @@
 -- A topological walk takes what the definitions say, in their order: all of it where it is drawn to its end.
 use Rattle.std.proofs.Common.{◌≡◌, ◌⊎◌, ◌<ℤ◌, ◌≤ℤ◌, ℤ, List, [], ◌∷◌, ◌++◌, Bool, true, false, not, ◌&&◌, ◌||◌, cond, filter, find, reverse, slice_get, Option, Some, None, Result, Ok, Err, Contains, All, refl, sym, ap, subst, ⊎_elim, inl, inr}
-use Rattle.std.proofs.Common.{◌∙◌, arith, append-nil}
+use Rattle.std.proofs.Common.{◌∙◌, arith, append_assoc, append-nil}
 use Rattle.std.proofs.Math.Bool.{or_comm}
 use Rattle.std.specs.List.{AllZip}
 use Rattle.gix_topo.proofs.Common.{ints, false≢true, false_from_ne_true, not_from_false, Contains-append_left, Contains-push, Contains-push_cases, All-head, All-tail, filter-append, filter_agree, Drains, Yields}
 use Rattle.gix_topo.proofs.Common.{ObjectId, id_cmp, is_same, is_among, Objects, Info, Sorting, Error, time_of, IsReady, Keeps, last_places, IsMadeReady, IsAgreeing, TopoPlan, TopoWalk, Ready, Counted, ready_ids, IsTaken}
-use Rattle.gix_topo.proofs.Common.{Chooses, TakesLatest, NewestFirst, IsStored, IsSound, IsFault, StartsWith, IsStarted, Takes, after, Next, text_walked, IsTextMember, walked_of, IsMember, IsNoRefusal, IsSortedBeginning, IsTakenInOrder, IsTakenFirst}
-use Rattle.gix_topo.proofs.Common.{IsTakenByText, IsTakenFirstByText, IsCommitInfo, IsTextInfo, IsGiven, IsTextGiven, GivesInOrder, BeginsInOrder, GivesTextOrder, BeginsTextOrder, IsWholeRun, AreApart, id_total, same_is, same_itself}
+use Rattle.gix_topo.proofs.Common.{Chooses, TakesLatest, NewestFirst, IsStored, IsSound, IsFault, StartsWith, IsStarted, Takes, after, Next, text_walked, IsTextMember, walked_of, IsMember, IsNoRefusal, IsBeginningBy, IsListBy, IsNextBy, IsNextTaken}
+use Rattle.gix_topo.proofs.Common.{IsNextByText, IsCommitInfo, IsTextInfo, IsGiven, IsTextGiven, GivesInOrder, BeginsInOrder, GivesTextOrder, BeginsTextOrder, IsWholeRun, AreApart, id_total, same_is, same_itself}
 use Rattle.gix_topo.proofs.Common.{among-append, among-one, among_from, among_is, Contains-here, Contains-there, Contains-cons_cases, no_member, walked_within, filter_all}
 use Rattle.std.proofs.lemmas.List.{map-append, reverse-append}
 use Rattle.std.specs.FinSet as set
@@ -16,16 +16,16 @@ use Rattle.gix_topo.specs.declared.Error.TheVariants as error
 use Rattle.gix_revwalk.specs.Texts.{text_next}
 use Rattle.gix_revwalk.specs.Asking.{Becomes, itself, further, AnswersBy}
 use Rattle.gix_revwalk.specs.TimeOrder.{is_no_worse}
+use Rattle.gix_revwalk.proofs.Beginnings.{begins_empty, begins_more}
 use Rattle.gix_revwalk.proofs.NewIds.{find-filter, find-behind}
 use Rattle.gix_revwalk.proofs.SomeOrder.{itself_is}
-use Rattle.gix_topo.specs.Laws.{IsSorted}
 use Rattle.gix_topo.proofs.Readiness.IsReady.{among_by, among-by_time, keeps_from, keeps_alike, AreReady, ready_alike, takes_ready, starts_ready, in_walk_top}
-use Rattle.gix_topo.proofs.Run.ReadyInTurn.{TurnsFrom, IfOne, turn_none, turn_more, IsNextBy, turns_sorted, turns_beginning, reverse_in, in_reverse}
+use Rattle.gix_topo.proofs.Run.ReadyInTurn.{made_one, reverse_in, in_reverse}
 use Rattle.gix_topo.proofs.Reading.WholeTexts.{member_text, text_member, member_names, member_walks}
 use Rattle.gix_topo.proofs.Run.Draws.{Draws, rests, shows, hides, breaks, ready_after, all_drawn, drained}
 use Rattle.gix_topo.proofs.Run.EachOnce.{each_by, first_by}
 use Rattle.gix_topo.proofs.Run.Ends.{apart_on, started_apart}
-use Rattle.gix_topo.proofs.Run.SameOrder.{sorted_to, begins_to}
+use Rattle.gix_topo.proofs.Run.SameOrder.{list_to, begins_to}
 use Rattle.gix_topo.proofs.Readiness.ReadyIds.{in_ids, from_ids, Splits, chosen_splits, holds_times, chosen_in, chosen_among, chosen_once, held_among}
 
 -- the first that passes is the first of those that pass
@@ -69,8 +69,8 @@ module _ {F P : Type 0} (objects : F → Objects) (faulty : F → ObjectId → T
   IsFaultless list = (e : Error) → Contains list (Err e) → ⊥
 
   -- the next commit in the order that was asked for
-  abbrev IsNext : Sorting → TopoPlan F → List ObjectId → Option ObjectId → Type 0
-  IsNext s plan = IsNextBy (time_of (objects plan.store)) (text_walked objects plan) (IsTextMember objects plan) plan.tips s
+  abbrev IsNext : Sorting → TopoPlan F → List ObjectId → ObjectId → Type 0
+  IsNext s plan = IsNextBy s (time_of (objects plan.store)) (text_walked objects plan) (IsTextMember objects plan) plan.tips
 
   -- the ready ones are those made ready and not taken, in their order
   record Stacks (w : TopoWalk F P) (done : List ObjectId) : Type 0 where
@@ -125,10 +125,10 @@ module _ {F P : Type 0} (objects : F → Objects) (faulty : F → ObjectId → T
     left_is = sym s.left ∙ ap ready_ids k.place ∙ map-append (λ r. r.id) k.before (c ∷ k.behind)
 
     -- the last one of a stack
-    last_next : w.plan.sorting ≡ order.TopoOrder → IsNext order.TopoOrder w.plan done (Some c.id)
+    last_next : w.plan.sorting ≡ order.TopoOrder → IsNext order.TopoOrder w.plan done c.id
     last_next o =
         let stack_is : filter (λ i. not (is_among i done)) s.made ≡ ready_ids t.others ++ c.id ∷ [] = sym s.left ∙ ap ready_ids (subst (λ x. Chooses x w.ready c t.others) o t.chosen) ∙ map-append (λ r. r.id) t.others (c ∷ []) in
-        (s.made, s.is_made, sym (first_found (λ i. not (is_among i done)) (reverse s.made) ∙ ap (λ ids. slice_get ids 0) (filter-reverse _ s.made ∙ ap reverse stack_is ∙ reverse-append (ready_ids t.others) (c.id ∷ []))))
+        (s.made, s.is_made, first_found (λ i. not (is_among i done)) (reverse s.made) ∙ ap (λ ids. slice_get ids 0) (filter-reverse _ s.made ∙ ap reverse stack_is ∙ reverse-append (ready_ids t.others) (c.id ∷ [])))
 
     without : (xs ys : List ObjectId) → filter (λ i. not (is_same i c.id)) (xs ++ c.id ∷ ys) ≡ filter (λ i. not (is_same i c.id)) (xs ++ ys)
     without xs ys =
@@ -173,7 +173,7 @@ module _ {F P : Type 0} (objects : F → Objects) (faulty : F → ObjectId → T
     abbrev as_late : ObjectId → Bool
     as_late j = is_no_worse NewestFirst (time_of (objects w.plan.store) j) (time_of (objects w.plan.store) c.id)
 
-    best_next : w.plan.sorting ≡ order.DateOrder → IsNext order.DateOrder w.plan done (Some c.id)
+    best_next : w.plan.sorting ≡ order.DateOrder → IsNext order.DateOrder w.plan done c.id
     best_next o =
         let ch : TakesLatest w.ready c t.others = subst (λ x. Chooses x w.ready c t.others) o t.chosen in
         let here : c.time ≡ time_of (objects w.plan.store) c.id = time_in c c_in in (
@@ -200,7 +200,7 @@ module _ {F P : Type 0} (objects : F → Objects) (faulty : F → ObjectId → T
           },
         )
 
-    turn : (s : Sorting) → w.plan.sorting ≡ s → IsNext s w.plan done (Some c.id)
+    turn : (s : Sorting) → w.plan.sorting ≡ s → IsNext s w.plan done c.id
     turn order.DateOrder e = best_next e
     turn order.TopoOrder e = last_next e
 
@@ -217,34 +217,33 @@ module _ {F P : Type 0} (objects : F → Objects) (faulty : F → ObjectId → T
     }
 
   -- nothing is ready
-  none_next : (w : TopoWalk F P) (done : List ObjectId) → Stands w done → w.ready ≡ [] → (s : Sorting) → w.plan.sorting ≡ s → IsNext s w.plan done None
-  none_next w done h e order.DateOrder o = (h.stacks.made, h.stacks.is_made, λ i r. false≢true (sym (ap (λ rs. is_among i (ready_ids rs)) e) ∙ h.ready.all i r))
-  none_next w done h e order.TopoOrder o =
+  none_next : (w : TopoWalk F P) (done : List ObjectId) → Stands w done → w.ready ≡ [] → (s : Sorting) → w.plan.sorting ≡ s → (i : ObjectId) → IsNext s w.plan done i → ⊥
+  none_next w done h e order.DateOrder o i n = false≢true (sym (ap (λ rs. is_among i (ready_ids rs)) e) ∙ h.ready.all i n.2.best.among)
+  none_next w done h e order.TopoOrder o i n =
       let s : Stacks w done = h.stacks in
-      (s.made, s.is_made, sym (first_found (λ i. not (is_among i done)) (reverse s.made) ∙ ap (λ ids. slice_get ids 0) (filter-reverse _ s.made ∙ ap reverse (sym s.left ∙ ap ready_ids e))))
+      let none : find (λ j. not (is_among j done)) (reverse s.made) ≡ None = first_found (λ j. not (is_among j done)) (reverse s.made) ∙ ap (λ ids. slice_get ids 0) (filter-reverse _ s.made ∙ ap reverse (sym s.left ∙ ap ready_ids e)) in
+      let some : find (λ j. not (is_among j done)) (reverse s.made) ≡ Some i = subst (λ made. find (λ j. not (is_among j done)) (reverse made) ≡ Some i) (made_one (time_of (objects w.plan.store)) (text_walked objects w.plan) (IsTextMember objects w.plan) w.plan.tips (reverse done) n.0 s.made n.1 s.is_made) n.2 in
+      let no : None ≡ Some i = sym none ∙ some in cc
 
-  -- each commit is taken in its turn
-  module _ (Q : TopoPlan F → List ObjectId → Option ObjectId → Type 0) (Stops : TopoWalk F P → Type 0) (now : (plan : TopoPlan F) (done : List ObjectId) (i : ObjectId) → IsNext plan.sorting plan done (Some i) → Q plan done (Some i))
-      (last : (w : TopoWalk F P) (done : List ObjectId) → Stands w done → Stops w → Q w.plan done None) where
-    draws_turns : {w new : TopoWalk F P} {ids : List ObjectId} {list : List (Result Info Error)} → Draws objects faulty answers w ids list new → IsFaultless list → Stops new → (done : List ObjectId) → Stands w done → TurnsFrom (Q w.plan) done ids
-    draws_turns (rests {w = w}) ok e done h = turn_none (Q w.plan) done (last w done h e)
-    draws_turns (shows {w = w} {c = c} {counted = counted} {ready = ready} {q = q} {info = info} {ids = ids} {list = list} t a is d) ok e done h =
-        turn_more (Q w.plan) done ids c.id (now w.plan done c.id (turn w done c counted ready t h w.plan.sorting refl)) (draws_turns d (λ x m. ok x (Contains-there (Err x) (Ok info) list m)) e (done ++ c.id ∷ []) (stands_on w done c counted ready t h q))
-    draws_turns (hides {w = w} {c = c} {counted = counted} {ready = ready} {q = q} {ids = ids} t a d) ok e done h =
-        turn_more (Q w.plan) done ids c.id (now w.plan done c.id (turn w done c counted ready t h w.plan.sorting refl)) (draws_turns d ok e (done ++ c.id ∷ []) (stands_on w done c counted ready t h q))
-    draws_turns (breaks c others {e = x} ch f l) ok e done h = absurd (ok x (Contains-here (Err x) []))
+  -- each commit is taken in its turn, and where nothing is ready nothing comes next
+  abbrev GoesTo : TopoWalk F P → TopoPlan F → List ObjectId → Type 0
+  GoesTo new plan ids = IsBeginningBy (IsNextByText objects plan) ids × (new.ready ≡ [] → (i : ObjectId) → IsNextByText objects plan ids i → ⊥)
 
-  in_order : {w new : TopoWalk F P} {ids : List ObjectId} {list : List (Result Info Error)} → Draws objects faulty answers w ids list new → IsFaultless list → new.ready ≡ [] → Stands w [] →
-      IsSorted w.plan.sorting (time_of (objects w.plan.store)) (text_walked objects w.plan) (IsTextMember objects w.plan) w.plan.tips ids
-  in_order {w} {ids = ids} d ok e h =
-      turns_sorted (time_of (objects w.plan.store)) (text_walked objects w.plan) (IsTextMember objects w.plan) w.plan.tips w.plan.sorting ids
-      (draws_turns (λ plan. IsNext plan.sorting plan) (λ v. v.ready ≡ []) (λ plan done i k. k) (λ v done k n. none_next v done k n v.plan.sorting refl) d ok e [] h)
+  draws_turns : {w new : TopoWalk F P} {ids : List ObjectId} {list : List (Result Info Error)} → Draws objects faulty answers w ids list new → IsFaultless list → (done : List ObjectId) → Stands w done → IsBeginningBy (IsNextByText objects w.plan) done → GoesTo new w.plan (done ++ ids)
+  draws_turns (rests {w = w}) ok done h b = subst (GoesTo w w.plan) (sym (append-nil done)) (b, λ e. none_next w done h e w.plan.sorting refl)
+  draws_turns {new = new} (shows {w = w} {c = c} {counted = counted} {ready = ready} {q = q} {info = info} {ids = ids} {list = list} t a is d) ok done h b =
+      subst (GoesTo new w.plan) (append_assoc done (c.id ∷ []) ids)
+      (draws_turns d (λ x m. ok x (Contains-there (Err x) (Ok info) list m)) (done ++ c.id ∷ []) (stands_on w done c counted ready t h q) (begins_more (IsNextByText objects w.plan) done c.id b (turn w done c counted ready t h w.plan.sorting refl)))
+  draws_turns {new = new} (hides {w = w} {c = c} {counted = counted} {ready = ready} {q = q} {ids = ids} t a d) ok done h b =
+      subst (GoesTo new w.plan) (append_assoc done (c.id ∷ []) ids)
+      (draws_turns d ok (done ++ c.id ∷ []) (stands_on w done c counted ready t h q) (begins_more (IsNextByText objects w.plan) done c.id b (turn w done c counted ready t h w.plan.sorting refl)))
+  draws_turns (breaks c others {e = x} ch f l) ok done h b = absurd (ok x (Contains-here (Err x) []))
 
-  begins_order : {w new : TopoWalk F P} {ids : List ObjectId} {list : List (Result Info Error)} → Draws objects faulty answers w ids list new → IsFaultless list → Stands w [] →
-      IsSortedBeginning w.plan.sorting (time_of (objects w.plan.store)) (text_walked objects w.plan) (IsTextMember objects w.plan) w.plan.tips ids
-  begins_order {w} {ids = ids} d ok h =
-      turns_beginning (time_of (objects w.plan.store)) (text_walked objects w.plan) (IsTextMember objects w.plan) w.plan.tips w.plan.sorting ids
-      (draws_turns (λ plan. IfOne (IsNext plan.sorting plan)) (λ v. Unit {0}) (λ plan done i k. k) (λ v done k n. tt) d ok tt [] h)
+  begins_order : {w new : TopoWalk F P} {ids : List ObjectId} {list : List (Result Info Error)} → Draws objects faulty answers w ids list new → IsFaultless list → Stands w [] → IsBeginningBy (IsNextByText objects w.plan) ids
+  begins_order d ok h = (draws_turns d ok [] h (begins_empty _)).0
+
+  in_order : {w new : TopoWalk F P} {ids : List ObjectId} {list : List (Result Info Error)} → Draws objects faulty answers w ids list new → IsFaultless list → new.ready ≡ [] → Stands w [] → IsListBy (IsNextByText objects w.plan) ids
+  in_order d ok e h = record { begins = begins_order d ok h; ends = (draws_turns d ok [] h (begins_empty _)).1 e }
 
   -- what is given: each answer is G of its commit
   module _ (G : Result Info Error → ObjectId → Type 0) where
@@ -290,7 +289,7 @@ module _ {F P : Type 0} (objects : F → Objects) (faulty : F → ObjectId → T
   pub begins_text : (w new : TopoWalk F P) (list : List (Result Info Error)) → AnswersBy answers w.predicate accepts → IsStarted objects faulty answers w → IsAgreeing (objects w.plan.store) w.plan.rows → IsFaultless list → Yields (Next objects faulty answers) w list new → BeginsTextOrder objects w.plan accepts list
   begins_text w new list by st agrees ok yields =
       let d = all_drawn objects faulty answers list w new yields in
-      record { ids = d.0; in_order = begins_order d.1 ok (starts_stands w agrees st); given = draws_given (IsTextGiven objects w.plan) d.1 by ok [] (starts_stands w agrees st) (λ info i m k. k) }
+      record { ids = d.0; begins = begins_order d.1 ok (starts_stands w agrees st); given = draws_given (IsTextGiven objects w.plan) d.1 by ok [] (starts_stands w agrees st) (λ info i m k. k) }
 
   -- over a sound history no fault comes, where neither memory nor the store fails
   sound_fault : (plan : TopoPlan F) (Q : ObjectId → Type 0) (e : Error) → IsSound objects faulty plan → IsFault objects faulty plan Q e → (e ≡ error.Memory) ⊎ (e ≡ error.Find existing.Store)
@@ -314,12 +313,12 @@ module _ {F P : Type 0} (objects : F → Objects) (faulty : F → ObjectId → T
     whole_info info i m k = record { generation = k.generation; by_row = k.by_row; info_is = record { same_id = k.info_is.same_id; same_parents = k.info_is.same_parents ∙ sym (member_names objects faulty plan s i m); same_generation = k.info_is.same_generation; same_time = k.info_is.same_time } }
 
     -- and taken in the store's order
-    whole_order : (ids : List ObjectId) → IsTakenByText objects plan ids → IsTakenInOrder objects plan ids
+    whole_order : (ids : List ObjectId) → IsListBy (IsNextByText objects plan) ids → IsListBy (IsNextTaken objects plan) ids
     whole_order ids o =
-        sorted_to (time_of (objects plan.store)) (text_walked objects plan) (walked_of objects plan) (IsTextMember objects plan) (IsMember objects plan) (text_member objects faulty plan s) (member_text objects faulty plan s) (member_walks objects faulty plan s) plan.tips ids
+        list_to (time_of (objects plan.store)) (text_walked objects plan) (walked_of objects plan) (IsTextMember objects plan) (IsMember objects plan) (text_member objects faulty plan s) (member_text objects faulty plan s) (member_walks objects faulty plan s) plan.tips ids
         (each_by (objects plan.store) (text_next (objects plan.store)) (λ c i n. n) plan.parents (time_of (objects plan.store)) plan.tips plan.ends ids plan.sorting o).1 plan.sorting o
 
-    whole_beginning : (ids : List ObjectId) → IsTakenFirstByText objects plan ids → IsTakenFirst objects plan ids
+    whole_beginning : (ids : List ObjectId) → IsBeginningBy (IsNextByText objects plan) ids → IsBeginningBy (IsNextTaken objects plan) ids
     whole_beginning ids o =
         begins_to (time_of (objects plan.store)) (text_walked objects plan) (walked_of objects plan) (IsTextMember objects plan) (IsMember objects plan) (text_member objects faulty plan s) (member_text objects faulty plan s) (member_walks objects faulty plan s) plan.tips ids
         (first_by (objects plan.store) (text_next (objects plan.store)) (λ c i n. n) plan.parents (time_of (objects plan.store)) plan.tips plan.ends ids plan.sorting o).1 plan.sorting o
@@ -342,4 +341,4 @@ module _ {F P : Type 0} (objects : F → Objects) (faulty : F → ObjectId → T
       let d = all_drawn objects faulty answers list w new yields in
       let ok : IsFaultless list = draws_faultless d.1 s un in
       let st : Stands w [] = starts_stands w s.agreeing started in
-      record { ids = d.0; in_order = whole_beginning w.plan s d.0 (begins_order d.1 ok st); given = draws_given (IsGiven objects w.plan) d.1 by ok [] st (whole_info w.plan s) }
+      record { ids = d.0; begins = whole_beginning w.plan s d.0 (begins_order d.1 ok st); given = draws_given (IsGiven objects w.plan) d.1 by ok [] st (whole_info w.plan s) }

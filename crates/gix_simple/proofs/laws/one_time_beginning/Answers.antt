@@ -1,5 +1,7 @@
-use Rattle.gix_revwalk.proofs.OneOrder.{one_time_beginning}
+use Rattle.std.specs.Prelude.{Some}
+use Rattle.gix_revwalk.proofs.Beginnings.{one_beginning}
+use Rattle.gix_revwalk.proofs.OneOrder.{one_next}
 use Rattle.gix_simple.proofs.laws.one_time_beginning.Goals as goal
 
 pub returns : goal.returns
-returns c = λ order time next starts ids whole. one_time_beginning order time next starts ids whole
+returns c = λ order time next starts. one_beginning _ (one_next (Some order) time next starts)
