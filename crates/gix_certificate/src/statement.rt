@@ -8,7 +8,7 @@ use std::alloc::Global;
 pub const PAGES: &[(&str, &str)] = &[
     (
         "crates/gix_statement/specs/WholeStatement.antt",
-        "0f05580ff548b85bda67f46f1a1ec9b0485ba4d37379b776de9a1979b62730cd",
+        "91e4325c5857ca3b469f6c21813a68e2b093c18917606cbd86d320231e65abe0",
     ),
     (
         "crates/gix_statement/specs/CommitGraph.antt",

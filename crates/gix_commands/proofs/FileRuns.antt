@@ -2,7 +2,7 @@
 use Rattle.std.proofs.Common.{◌≡◌, ◌≢◌, ℕ, List, [], ◌∷◌, false, true, Option, Some, Result, Ok, Err, refl, sym, subst, ◌∙◌}
 use Rattle.gix_commands.proofs.Common.{ObjectId, Objects, Tracked, Tracks, fresh_recorder, Ending, Whole, Broken, Failed, IsUnfailed, LookUpFails, depth_answer, trees_of, LookUpFailed, only_reading, Runs, without_memory, no_command, not_read, bad_record, served}
 use Rattle.gix_commands.proofs.Common.{sound_depth_succeeds, Fault, fault_of_find, fault_of_tree_walk, RecordsTree, EndsWell, IsOutside, stored, not_listed, unserved, never_faulty, request_of}
-use Rattle.gix_commands.proofs.Common.{Files}
+use Rattle.gix_commands.proofs.Common.{EntryLines, Files}
 use Rattle.gix_object.specs.declared.find.existing_iter.Error.{Error as ExistingError}
 use Rattle.gix_object.specs.declared.find.existing_iter.Error.TheVariants as existing
 use Rattle.gix_records.specs.Records.{Record, AreRecords}
@@ -41,11 +41,11 @@ not_failed why Whole e u = cc
 not_failed why Broken e u = cc
 not_failed why (Failed other) e u = u
 
-module _ (objects : Objects) (ending : ℕ) (tree : ObjectId) where
+module _ (objects : Objects) (shown : EntryLines) (tree : ObjectId) where
   pub unfolds : (recorder : Tracked) (walk : RecordsTree objects tree recorder (Ok tt)) → Unfolds objects tree walk.visits
   unfolds recorder walk = record { in_order = in_preorder objects tree recorder walk.script walk.run walk.answered; all = goes_on objects tree recorder walk.script walk.run }
 
-  reports : (i : ObjectId) (answer : Result (Unit {0}) Fault) (old new : Option (List ℕ)) → Serves objects [] old (Files ending tree) answer new → answer ≡ Err (fault.Name i) → Misnames objects tree i
+  reports : (i : ObjectId) (answer : Result (Unit {0}) Fault) (old new : Option (List ℕ)) → Serves objects [] old (Files shown tree) answer new → answer ≡ Err (fault.Name i) → Misnames objects tree i
   reports i answer old new (listed recorder walk names written) is = cc
   reports i answer old new (not_listed recorder why walk) is = absurd (not_named i why (err_same is))
   reports i answer old new (misnamed {i = j} recorder walk first) is = subst (Misnames objects tree) (name_same (err_same is)) (misnames objects tree walk.visits j (unfolds recorder walk) first)
@@ -53,12 +53,12 @@ module _ (objects : Objects) (ending : ℕ) (tree : ObjectId) where
   reports i answer old new (cut_off some more s a b) is = cc
 
   module _ (sound : AreSound (trees_of objects) (LookUpFails objects (never_faulty objects)) (λ e. true) (tree ∷ [])) (named : AreNamed objects tree) where
-    shown : (why : Error) → AreSound (trees_of objects) (LookUpFailed objects (never_faulty objects) (Err why)) (λ e. true) (tree ∷ [])
-    shown why = record { whole = λ i r. let w = sound.whole i r in record { stored = w.stored; found = λ e f. w.found e f.0 }; free = sound.free }
+    soundly : (why : Error) → AreSound (trees_of objects) (LookUpFailed objects (never_faulty objects) (Err why)) (λ e. true) (tree ∷ [])
+    soundly why = record { whole = λ i r. let w = sound.whole i r in record { stored = w.stored; found = λ e f. w.found e f.0 }; free = sound.free }
 
     no_other : (why : Error) (recorder : Tracked) → RecordsTree objects tree recorder (Err why) → why ≢ error.Memory → ⊥
     no_other why recorder walk other =
-        not_failed why walk.end walk.answered (sound_depth_succeeds objects (never_faulty objects) Tracks tree fresh_recorder recorder (Err why) walk (λ e. true) (λ calls mid new e run s. refl) (shown why) (λ e. let same : why ≡ error.Memory = cc in other same))
+        not_failed why walk.end walk.answered (sound_depth_succeeds objects (never_faulty objects) Tracks tree fresh_recorder recorder (Err why) walk (λ e. true) (λ calls mid new e run s. refl) (soundly why) (λ e. let same : why ≡ error.Memory = cc in other same))
 
     outside : (why : Error) (recorder : Tracked) → RecordsTree objects tree recorder (Err why) → IsOutside (fault_of_tree_walk why)
     outside error.Memory recorder walk = tt
@@ -67,7 +67,7 @@ module _ (objects : Objects) (ending : ℕ) (tree : ObjectId) where
     outside (error.ObjectDecode e) recorder walk = absurd (no_other (error.ObjectDecode e) recorder walk (λ e. cc))
     outside (error.Cycle i) recorder walk = absurd (no_other (error.Cycle i) recorder walk (λ e. cc))
 
-    well : (old : Option (List ℕ)) (answer : Result (Unit {0}) Fault) (new : Option (List ℕ)) → Serves objects [] old (Files ending tree) answer new → EndsWell answer
+    well : (old : Option (List ℕ)) (answer : Result (Unit {0}) Fault) (new : Option (List ℕ)) → Serves objects [] old (Files shown tree) answer new → EndsWell answer
     well old answer new (listed recorder walk names written) = tt
     well old answer new (not_listed recorder why walk) = outside why recorder walk
     well old answer new (misnamed {i = i} recorder walk first) = no_misnamed walk.visits i (have_names objects tree named walk.visits (unfolds recorder walk)) first
@@ -75,18 +75,18 @@ module _ (objects : Objects) (ending : ℕ) (tree : ObjectId) where
     well old answer new (cut_off some more s a b) = tt
 
 pub files_succeeds : FilesSucceeds
-files_succeeds words input records ending tree answer old new asked are sound named runs = ends_well words input records (Files ending tree) answer old new asked are (well (readable false (stored records)) ending tree (readable_sound false (stored records) (λ e. true) (tree ∷ []) sound) (readable_named false (stored records) tree named) old) runs
+files_succeeds words input records shown tree answer old new asked are sound named runs = ends_well words input records (Files shown tree) answer old new asked are (well (readable false (stored records)) shown tree (readable_sound false (stored records) (λ e. true) (tree ∷ []) sound) (readable_named false (stored records) tree named) old) runs
 
-name_reported : (words : List (List ℕ)) (input : List ℕ) (records : List Record) (ending : ℕ) (tree i : ObjectId) (answer : Result (Unit {0}) Fault) (old new : Option (List ℕ)) → request_of words ≡ Ok (Files ending tree) → AreRecords records input
+name_reported : (words : List (List ℕ)) (input : List ℕ) (records : List Record) (shown : EntryLines) (tree i : ObjectId) (answer : Result (Unit {0}) Fault) (old new : Option (List ℕ)) → request_of words ≡ Ok (Files shown tree) → AreRecords records input
     → Runs words (Some input) old answer new → answer ≡ Err (fault.Name i) → Misnames (stored records) tree i
-name_reported words input records ending tree i answer old new asked are without_memory is = cc
-name_reported words input records ending tree i answer old new asked are (no_command t) is = let n : Err _ ≡ Ok (Files ending tree) = sym t ∙ asked in cc
-name_reported words input records ending tree i answer old new asked are (not_read other t) is = cc
-name_reported words input records ending tree i answer old new asked are (bad_record other there n t same b) is = cc
-name_reported words input records ending tree i answer old new asked are (served other there read t same is_read s) is =
+name_reported words input records shown tree i answer old new asked are without_memory is = cc
+name_reported words input records shown tree i answer old new asked are (no_command t) is = let n : Err _ ≡ Ok (Files shown tree) = sym t ∙ asked in cc
+name_reported words input records shown tree i answer old new asked are (not_read other t) is = cc
+name_reported words input records shown tree i answer old new asked are (bad_record other there n t same b) is = cc
+name_reported words input records shown tree i answer old new asked are (served other there read t same is_read s) is =
     misnames_back false (stored records) tree i
-    (reports (readable false (stored records)) ending tree i answer old new
+    (reports (readable false (stored records)) shown tree i answer old new
     (subst (λ r. Serves (readable (reads_all_lines r) (stored records)) [] old r answer new) (ok_same (sym t ∙ asked)) (subst (λ rs. Serves (readable (reads_all_lines other) (stored rs)) [] old other answer new) (only_reading read records input (subst (AreRecords read) same is_read) are) s)) is)
 
 pub files_report_names : FilesReportNames
-files_report_names words input records ending tree i old new asked are runs = name_reported words input records ending tree i (Err (fault.Name i)) old new asked are runs refl
+files_report_names words input records shown tree i old new asked are runs = name_reported words input records shown tree i (Err (fault.Name i)) old new asked are runs refl

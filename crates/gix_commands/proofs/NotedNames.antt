@@ -1,6 +1,6 @@
 -- A lister notes the first tree, in the order of the visits, that has a name that is none.
 use Rattle.std.proofs.Common.{◌≡◌, ◌≢◌, ◌==◌, ◌||◌, not, ℕ, List, [], ◌∷◌, ◌++◌, Bool, true, false, Option, Some, None, refl, sym, ap, subst, ◌∙◌, append_assoc, eqb-true, Continue}
-use Rattle.gix_commands.proofs.Common.{ObjectId, is_among, Action, Call, PushPath, PopBack, Run, DepthScript, IsDepthScript, Items, Place, Visit, visit, Leaves, Enters, Ending, Whole}
+use Rattle.gix_commands.proofs.Common.{EntryLines, ObjectId, is_among, Action, Call, PushPath, PopBack, Run, DepthScript, IsDepthScript, Items, Place, Visit, visit, Leaves, Enters, Ending, Whole}
 use Rattle.std.specs.List.{AllByRecursion, list_any}
 use Rattle.gix_object.specs.declared.find.existing_iter.Error.{Error as ExistingError}
 use Rattle.gix_object.specs.TreeItems.{TreeEntry, is_tree}
@@ -127,10 +127,10 @@ module _ (trees : ObjectId → Option Items) (fails : ObjectId → ExistingError
   noting (script.ends_inside o found inner other) h i up k old new m s run = absurd (other refl)
 
   -- of a walk from a root
-  root_found : (ending : ℕ) {root : ObjectId} {calls : List Call} {visits : List Visit} → IsDepthScript trees fails root calls visits Whole → GoOn visits → (new : Listed) → Run Lists (fresh_lister ending root) calls new → Tells None visits new.noted.misnamed
-  root_found ending {root} {visits = visits} (script.found found walk) h new run =
+  root_found : (shown : EntryLines) {root : ObjectId} {calls : List Call} {visits : List Visit} → IsDepthScript trees fails root calls visits Whole → GoOn visits → (new : Listed) → Run Lists (fresh_lister shown root) calls new → Tells None visits new.noted.misnamed
+  root_found shown {root} {visits = visits} (script.found found walk) h new run =
       let r : Noting (root ∷ []) None visits new.noted = noting walk h root [] refl run.0 new None run.1.1 run.2 in
       subst (Tells None visits) (sym (ap (λ n. n.misnamed) r.is)) r.tells
 
-  pub root_noted : (ending : ℕ) (root : ObjectId) {calls : List Call} {visits : List Visit} {end : Ending} → IsDepthScript trees fails root calls visits end → end ≡ Whole → GoOn visits → (new : Listed) → Run Lists (fresh_lister ending root) calls new → Tells None visits new.noted.misnamed
-  root_noted ending root {calls = calls} {visits = visits} walk whole h new run = root_found ending (subst (IsDepthScript trees fails root calls visits) whole walk) h new run
+  pub root_noted : (shown : EntryLines) (root : ObjectId) {calls : List Call} {visits : List Visit} {end : Ending} → IsDepthScript trees fails root calls visits end → end ≡ Whole → GoOn visits → (new : Listed) → Run Lists (fresh_lister shown root) calls new → Tells None visits new.noted.misnamed
+  root_noted shown root {calls = calls} {visits = visits} walk whole h new run = root_found shown (subst (IsDepthScript trees fails root calls visits) whole walk) h new run

@@ -1,7 +1,7 @@
 -- What a run over objects and rows that agree with them has written is right in each history that has these objects, where what is said to
 -- be a commit has the text of one.
 use Rattle.std.proofs.Common.{◌≡◌, ◌≢◌, ℕ, List, [], ◌∷◌, Option, Some, Result, Ok, Err, Contains, codes, refl, sym, ap, subst, inl, ◌∙◌}
-use Rattle.gix_commands.proofs.Common.{get, kind_of, Parents, ReadsParents, IsCommitRead, IsReached, objects_of, plan_from, IsBuiltFrom, Appends, Contains-get_or, Contains-here, Contains-there, ObjectId, Objects, GraphRow, IsAgreeing, text_next, time_of, Fault, Simple, Topo, AreWhole, whole_from, not_listed, not_ahead, not_behind, not_joined, not_reaching, not_selected, unserved, Request, Commits, Files, Ahead, Contained, Containing, Bases, request_of, Shown}
+use Rattle.gix_commands.proofs.Common.{get, kind_of, Parents, ReadsParents, IsCommitRead, IsReached, objects_of, plan_from, IsBuiltFrom, Appends, Contains-get_or, Contains-here, Contains-there, ObjectId, Objects, GraphRow, IsAgreeing, text_next, time_of, Fault, Simple, Topo, AreWhole, whole_from, not_listed, not_ahead, not_behind, not_joined, not_reaching, not_selected, unserved, Request, Commits, EntryLines, Files, Ahead, Contained, Containing, Bases, request_of, Shown}
 use Rattle.gix_object.specs.CommitItems.{commit_items}
 use Rattle.gix_object.specs.declared.Kind.TheVariants as kind
 use Rattle.gix_revwalk.specs.declared.Parents.TheVariants as mode
@@ -47,14 +47,14 @@ module _ (objects : Objects) (rows : List GraphRow) (agrees : IsAgreeing objects
   abbrev EachSo : Option (List ℕ) → List (List ℕ) → Type 0
   EachSo = Each (page_objects objects) [] (text_next objects) (time_of objects) (fed_history objects) old
 
-  files_right : (words : List (List ℕ)) (ending : ℕ) (tree : ObjectId) → AreWordsOf words (Ok (Files ending tree)) → (answer : Result (Unit {0}) Fault) (new : Option (List ℕ)) → Serves objects rows old (Files ending tree) answer new → RightSo words answer new
-  files_right words ending tree (option, text, ends, is, spells) (Ok tt) new s =
-      let t = tree_written objects rows old new ending tree s in
-      subst (EachSo new) (sym is) (files_each (page_objects objects) [] (text_next objects) (time_of objects) (fed_history objects) old new option text ends spells t.2 t.3 t.4)
-  files_right words ending tree w (Err e) new (not_listed recorder why walk) = inl refl
-  files_right words ending tree w (Err e) new (misnamed recorder walk first) = inl refl
-  files_right words ending tree w (Err e) new unserved = inl refl
-  files_right words ending tree w (Err e) new (cut_off {answer = answer} {full = full} some more s a b) = cut_right (page_objects objects) words old answer full new some more (files_right words ending tree w answer full s) a b
+  files_right : (words : List (List ℕ)) (shown : EntryLines) (tree : ObjectId) → AreWordsOf words (Ok (Files shown tree)) → (answer : Result (Unit {0}) Fault) (new : Option (List ℕ)) → Serves objects rows old (Files shown tree) answer new → RightSo words answer new
+  files_right words shown tree (bound, option, text, within, ends, is, spells) (Ok tt) new s =
+      let t = tree_written objects rows old new shown tree s in
+      subst (EachSo new) (sym is) (files_each (page_objects objects) [] (text_next objects) (time_of objects) (fed_history objects) old new shown.limit bound option text within ends spells t.2 t.3 t.4)
+  files_right words shown tree w (Err e) new (not_listed recorder why walk) = inl refl
+  files_right words shown tree w (Err e) new (misnamed recorder walk first) = inl refl
+  files_right words shown tree w (Err e) new unserved = inl refl
+  files_right words shown tree w (Err e) new (cut_off {answer = answer} {full = full} some more s a b) = cut_right (page_objects objects) words old answer full new some more (files_right words shown tree w answer full s) a b
 
   ahead_right : (words : List (List ℕ)) (one other : ObjectId) → AreWordsOf words (Ok (Ahead one other)) → (answer : Result (Unit {0}) Fault) (new : Option (List ℕ)) → Serves objects rows old (Ahead one other) answer new → RightSo words answer new
   ahead_right words one other (a, b, is, spells, spells_other) (Ok tt) new s =
@@ -126,7 +126,7 @@ module _ (objects : Objects) (rows : List GraphRow) (agrees : IsAgreeing objects
   right_of_words words (Commits (Topo by) shown tips ends) (name, option, rest, is, named, chosen, place, chooses, some) have answer new s =
       subst (λ asked. RightSo asked answer new) (sym is)
       (topo_right objects rows agrees by tips ends some (down_there (Commits (Topo by) shown tips ends) have) (read by tips ends) old name option rest named chosen shown place chooses answer new s)
-  right_of_words words (Files ending tree) w have answer new s = files_right words ending tree w answer new s
+  right_of_words words (Files shown tree) w have answer new s = files_right words shown tree w answer new s
   right_of_words words (Ahead one other) w have answer new s = ahead_right words one other w answer new s
   right_of_words words (Contained tip ids) w have answer new s = contained_right words tip ids w answer new s
   right_of_words words (Containing target tips) w have answer new s = containing_right words target tips w answer new s

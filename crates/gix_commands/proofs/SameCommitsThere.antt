@@ -29,7 +29,7 @@ module _ (objects others : Objects) (rows those : List Row) (commit_on : (r : Ro
     serves_on old new words (contains {tip = tip} {ids = ids} are some there keeps appends) = contains are some (all_on (tip ∷ ids) there) keeps appends
     serves_on old new words (containing {target = target} {tips = tips} are some there keeps appends) = containing are some (all_on (target ∷ tips) there) keeps appends
     serves_on old new words (bases {one = one} {others = ids} those are some there exact rising appends) = bases those are some (all_on (one ∷ ids) there) exact rising appends
-    serves_on old new words (files option a {tree = i} {entries = entries} ends spells is unfolds appends) = files option a ends spells (tree_on i entries is) (unfolds_on unfolds) appends
+    serves_on old new words (files limit bound option a {tree = i} {entries = entries} within ends spells is unfolds appends) = files limit bound option a within ends spells (tree_on i entries is) (unfolds_on unfolds) appends
 
     begun_on : (old new : Option (List ℕ)) (words : List (List ℕ)) → HasBegun objects rows parents time old new words → HasBegun others those parents time old new words
     begun_on old new words (ids, l, appends) = (ids, lists_on ids _ words l, appends)

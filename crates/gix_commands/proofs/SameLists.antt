@@ -1,8 +1,9 @@
 -- The lists of commits, the numbers of commits and the lines are those of the statement.
-use Rattle.std.proofs.Common.{◌≡◌, ℕ, ℤ, List, [], ◌∷◌, ◌++◌, map, take, Contains, Option, Some, None, codes, flat_map, refl, sym, subst, arith}
-use Rattle.gix_commands.proofs.Common.{transport, ObjectId, Objects, CommitTimeOrder, Parents, by_mode, time_of, cutoff, time_order, IsNumberOf, IsInWalk, Visit, Simple, Topo, file_lines, six_octal_digits}
+use Rattle.std.proofs.Common.{◌≡◌, ℕ, ℤ, List, [], ◌∷◌, ◌++◌, map, take, Contains, Option, Some, None, codes, flat_map, refl, sym, ap, subst, ◌∙◌, arith}
+use Rattle.gix_commands.proofs.Common.{transport, ObjectId, Objects, CommitTimeOrder, Parents, by_mode, time_of, cutoff, time_order, IsNumberOf, IsInWalk, Visit, Simple, Topo, EntryLines, allowed, file_line, file_lines, six_octal_digits}
 use Rattle.gix_commands.proofs.Common.{Follows, IsNumberShown, entry_line}
 use Rattle.gix_statement.specs.WholeStatement.{id_line}
+use Rattle.std.specs.List.{take-map}
 use Rattle.hex.specs.Hex.{encode_lower}
 use Rattle.gix_revwalk.specs.declared.CommitTimeOrder.TheVariants as order
 use Rattle.gix_revwalk.specs.declared.Parents.TheVariants as mode
@@ -129,6 +130,15 @@ id_lines [] = refl
 id_lines (i ∷ ids) = (λ k. encode_lower (same_bytes i k) ++ 10 ∷ [] ++ id_lines ids k)
 
 -- the lines of entries
-pub entry_lines : (ending : ℕ) (visits : List Visit) → file_lines ending (map record_of visits) ≡ flat_map (entry_line ending) (map placed_by visits)
-entry_lines ending [] = refl
-entry_lines ending (v ∷ visits) = (λ k. six_octal_digits v.entry.mode ++ 32 ∷ (encode_lower (same_bytes v.entry.id k) ++ 32 ∷ (joined_behind v.place.names v.entry.name k ++ ending ∷ [])) ++ entry_lines ending visits k)
+each_line : (ending : ℕ) (visits : List Visit) → flat_map (file_line ending) (map record_of visits) ≡ flat_map (entry_line ending) (map placed_by visits)
+each_line ending [] = refl
+each_line ending (v ∷ visits) = (λ k. six_octal_digits v.entry.mode ++ 32 ∷ (encode_lower (same_bytes v.entry.id k) ++ 32 ∷ (joined_behind v.place.names v.entry.name k ++ ending ∷ [])) ++ each_line ending visits k)
+
+allowed_map : {X Y : Type 0} (f : X → Y) (limit : Option ℕ) (xs : List X) → allowed limit (map f xs) ≡ map f (allowed limit xs)
+allowed_map f None xs = refl
+allowed_map f (Some n) xs = take-map f n xs
+
+pub entry_lines : (shown : EntryLines) (visits : List Visit) → file_lines shown (map record_of visits) ≡ flat_map (entry_line shown.ending) (allowed shown.limit (map placed_by visits))
+entry_lines shown visits =
+    ap (flat_map (file_line shown.ending)) (allowed_map record_of shown.limit visits) ∙ each_line shown.ending (allowed shown.limit visits)
+    ∙ ap (flat_map (entry_line shown.ending)) (sym (allowed_map placed_by shown.limit visits))

@@ -2,7 +2,7 @@
 use Rattle.std.proofs.Common.{arith, int_le, ◌<◌, ◌≤◌, ◌≡◌, ◌≢◌, ◌⊎◌, ◌+◌, ◌==◌, ◌||◌, ◌&&◌, nat_lt, nat_le, length, ℕ, ℤ, pos, List, [], ◌∷◌, ◌++◌, Bool, true, false, cond, Option, Some, None, Result, Ok, Err, codes, bytes_eq, refl, sym, ap, subst, ◌∙◌, inl}
 use Rattle.std.proofs.Common.{inr, eqb-true, ltb-true, leb-true}
 use Rattle.std.specs.List.{list_all}
-use Rattle.gix_commands.proofs.Common.{false≢true, ObjectId, HexError, id_from_hex, Fault, Order, Simple, Topo, Request, Commits, Files, Ahead, Contained, Containing, Bases, Ranked, Ids, begins_with_caret, begins_with_sign, without_caret, is_shown, with_id, with_word, ids_from, number_in, order_named, limited_of, listed_of, chosen_of, since_of, by_first_parents, in_order_of, file_of, files_from, files_of, ahead_from, ahead_of, asked, several_among, several_from, several_of, request_named, request_of, recent_of, by_cutoff, IsNumber, Spells, AreTips, digits_in, Asked, Shown, chosen_from, commits_in, formed_of, limit_by, merges_of, plain_of, skip_by, until_by, until_of, with_form, with_limit, with_merges, with_skip, with_until, page_choice}
+use Rattle.gix_commands.proofs.Common.{false≢true, ObjectId, HexError, id_from_hex, Fault, Order, Simple, Topo, Request, Commits, Files, Ahead, Contained, Containing, Bases, Ranked, Ids, begins_with_caret, begins_with_sign, without_caret, is_shown, with_id, with_word, ids_from, number_in, order_named, limited_of, listed_of, chosen_of, since_of, by_first_parents, in_order_of, ended_files_of, file_of, files_by, files_from, files_of, limited_files_of, ahead_from, ahead_of, asked, several_among, several_from, several_of, request_named, request_of, recent_of, by_cutoff, IsLimit, IsNumber, Spells, AreTips, digits_in, Asked, Shown, chosen_from, commits_in, formed_of, limit_by, merges_of, plain_of, skip_by, until_by, until_of, with_form, with_limit, with_merges, with_skip, with_until, page_choice}
 use Rattle.std.proofs.lemmas.Slice.Eq.{bytes_eq-Decides}
 use Rattle.gix_records.specs.Decimal.{digits_behind}
 use Rattle.gix_revwalk.specs.declared.CommitTimeOrder.TheVariants as order
@@ -147,8 +147,9 @@ AreWordsOf words (Err e) = Unit {0}
 AreWordsOf words (Ok (Commits by shown tips hidden)) =
     (name : List ℕ) × (option rest : List (List ℕ)) × (words ≡ name ∷ (option ++ rest)) × IsNameOf name by × IsOptionOf option by
     × (place : ℕ) × Chooses tips hidden place rest (page_choice shown) × (tips ≢ [])
-AreWordsOf words (Ok (Files ending tree)) =
-    (option : List (List ℕ)) × (text : List ℕ) × IsEndedBy option ending × (words ≡ codes "files" ∷ (option ++ text ∷ [])) × Spells (digits_in tree) text tree
+AreWordsOf words (Ok (Files shown tree)) =
+    (bound option : List (List ℕ)) × (text : List ℕ) × IsLimit bound shown.limit × IsEndedBy option shown.ending
+    × (words ≡ codes "files" ∷ (bound ++ (option ++ text ∷ []))) × Spells (digits_in tree) text tree
 AreWordsOf words (Ok (Ahead one other)) = (a b : List ℕ) × (words ≡ codes "ahead" ∷ a ∷ b ∷ []) × Spells (digits_in one) a one × Spells (digits_in other) b other
 AreWordsOf words (Ok (Contained tip ids)) = (rest : List (List ℕ)) × (words ≡ codes "contains" ∷ rest) × AreTips rest (tip ∷ ids) [] × (ids ≢ [])
 AreWordsOf words (Ok (Containing target tips)) = (rest : List (List ℕ)) × (words ≡ codes "containing" ∷ rest) × AreTips rest (target ∷ tips) [] × (tips ≢ [])
@@ -386,26 +387,47 @@ in_order_are name by (option ∷ words) named plain = first (bytes_eq option (co
         (chosen_are name (codes "--first-parent" ∷ []) (by_first_parents by) 3 words (first_chosen name by named))
     first false e = second (bytes_eq option (codes "--since")) refl
 
-file_is : (option : List (List ℕ)) (ending n : ℕ) (text : List ℕ) → IsEndedBy option ending → AreWordsOf (codes "files" ∷ (option ++ text ∷ [])) (file_of ending n text)
-file_is option ending n text ends = go (begins_with_sign text)
-  where
-    from : (r : Result ObjectId HexError) → id_from_hex text ≡ r → AreWordsOf (codes "files" ∷ (option ++ text ∷ [])) (files_from ending n r)
-    from (Ok i) e = (option, text, ends, refl, hex_spelled text i e)
-    from (Err why) e = tt
+-- the words of a tree behind a limit
+module _ (limit : Option ℕ) (bound : List (List ℕ)) (within : IsLimit bound limit) where
+  abbrev AreFiles : List (List ℕ) → Result Request Fault → Type 0
+  AreFiles words = AreWordsOf (codes "files" ∷ (bound ++ words))
 
-    go : (t : Bool) → AreWordsOf (codes "files" ∷ (option ++ text ∷ [])) (cond t (Err fault.Usage) (files_from ending n (id_from_hex text)))
-    go true = tt
-    go false = from (id_from_hex text) refl
+  file_is : (option : List (List ℕ)) (ending n : ℕ) (text : List ℕ) → IsEndedBy option ending → AreFiles (option ++ text ∷ []) (file_of (record { limit = limit; ending = ending }) n text)
+  file_is option ending n text ends = go (begins_with_sign text)
+    where
+      from : (r : Result ObjectId HexError) → id_from_hex text ≡ r → AreFiles (option ++ text ∷ []) (files_from (record { limit = limit; ending = ending }) n r)
+      from (Ok i) e = (bound, option, text, within, ends, refl, hex_spelled text i e)
+      from (Err why) e = tt
+
+      go : (t : Bool) → AreFiles (option ++ text ∷ []) (cond t (Err fault.Usage) (files_from (record { limit = limit; ending = ending }) n (id_from_hex text)))
+      go true = tt
+      go false = from (id_from_hex text) refl
+
+  ended_files_are : (n : ℕ) (rest : List (List ℕ)) → AreFiles rest (ended_files_of limit n rest)
+  ended_files_are n [] = tt
+  ended_files_are n (text ∷ []) = file_is [] 10 n text (inl (refl, refl))
+  ended_files_are n (option ∷ text ∷ []) = go (bytes_eq option (codes "-z")) refl
+    where
+      go : (t : Bool) → bytes_eq option (codes "-z") ≡ t → AreFiles (option ∷ text ∷ []) (cond t (file_of (record { limit = limit; ending = 0 }) (n + 1) text) (Err fault.Usage))
+      go true e = file_is (option ∷ []) 0 (n + 1) text (inr (ap (λ w. w ∷ []) ((bytes_eq-Decides option (codes "-z")).0 e), refl))
+      go false e = tt
+  ended_files_are n (option ∷ text ∷ next ∷ rest) = tt
 
 files_are : (rest : List (List ℕ)) → AreWordsOf (codes "files" ∷ rest) (files_of rest)
 files_are [] = tt
-files_are (text ∷ []) = file_is [] 10 2 text (inl (refl, refl))
-files_are (option ∷ text ∷ []) = go (bytes_eq option (codes "-z")) refl
+files_are (option ∷ rest) = go (bytes_eq option (codes "-n")) refl
   where
-    go : (t : Bool) → bytes_eq option (codes "-z") ≡ t → AreWordsOf (codes "files" ∷ option ∷ text ∷ []) (cond t (file_of 0 3 text) (Err fault.Usage))
-    go true e = file_is (option ∷ []) 0 3 text (inr (ap (λ w. w ∷ []) ((bytes_eq-Decides option (codes "-z")).0 e), refl))
-    go false e = tt
-files_are (option ∷ text ∷ next ∷ rest) = tt
+    by : (number : List ℕ) (words : List (List ℕ)) (o : Option ℕ) → number_in 9 number ≡ o → AreWordsOf (codes "files" ∷ codes "-n" ∷ number ∷ words) (files_by o words)
+    by number words (Some n) e = ended_files_are (Some n) (codes "-n" ∷ number ∷ []) (number, refl, is_number 9 number n e) 4 words
+    by number words None e = tt
+
+    limited : (words : List (List ℕ)) → AreWordsOf (codes "files" ∷ codes "-n" ∷ words) (limited_files_of words)
+    limited [] = tt
+    limited (number ∷ words) = by number words (number_in 9 number) refl
+
+    go : (t : Bool) → bytes_eq option (codes "-n") ≡ t → AreWordsOf (codes "files" ∷ option ∷ rest) (cond t (limited_files_of rest) (ended_files_of None 2 (option ∷ rest)))
+    go true e = subst (λ w. AreWordsOf (codes "files" ∷ w ∷ rest) (limited_files_of rest)) (sym ((bytes_eq-Decides option (codes "-n")).0 e)) (limited rest)
+    go false e = ended_files_are None [] refl 2 (option ∷ rest)
 
 ahead_are : (rest : List (List ℕ)) → AreWordsOf (codes "ahead" ∷ rest) (ahead_of rest)
 ahead_are [] = tt

@@ -1,7 +1,7 @@
 -- What is so of each request that words spell, and which faults words may have.
 use Rattle.std.proofs.Common.{ℕ, ◌+◌, pos, List, [], ◌∷◌, Bool, true, false, ◌||◌, Option, Some, None, Result, Ok, Err, codes, bytes_eq, cond}
 use Rattle.std.specs.List.{list_all}
-use Rattle.gix_commands.proofs.Common.{ObjectId, HexError, id_from_hex, Fault, Order, Request, Files, Ahead, Contained, Containing, Bases, Ids, begins_with_caret, begins_with_sign, without_caret, is_shown, with_id, with_word, ids_from, number_in, order_named, limited_of, listed_of, chosen_of, recent_of, since_of, by_cutoff, in_order_of, file_of, files_from, files_of, ahead_from, ahead_of, asked, several_among, several_from, several_of, Asked, chosen_from, commits_in, formed_of, limit_by, merges_of, plain_of, skip_by, until_by, until_of, with_form, with_limit, with_merges, with_skip, with_until}
+use Rattle.gix_commands.proofs.Common.{ObjectId, HexError, id_from_hex, EntryLines, Fault, Order, Request, Files, Ahead, Contained, Containing, Bases, Ids, begins_with_caret, begins_with_sign, without_caret, is_shown, with_id, with_word, ids_from, number_in, order_named, limited_of, listed_of, chosen_of, recent_of, since_of, by_cutoff, in_order_of, ended_files_of, file_of, files_by, files_from, files_of, limited_files_of, ahead_from, ahead_of, asked, several_among, several_from, several_of, Asked, chosen_from, commits_in, formed_of, limit_by, merges_of, plain_of, skip_by, until_by, until_of, with_form, with_limit, with_merges, with_skip, with_until}
 use Rattle.gix_commands.proofs.Common.{request_named, request_of, by_first_parents}
 use Rattle.gix_words.specs.Words.{ended_of, limit_from, named_of, skip_from, skipped_of, timed_of, until_from, with_parents, with_time, with_zeros}
 use Rattle.gix_words.specs.declared.fault.Fault.TheVariants as fault
@@ -20,23 +20,35 @@ each_ids Q ids_so no_id n (word ∷ words) =
     with_each Q ids_so no_id (begins_with_caret word) n (id_from_hex (without_caret word)) (ids_from (n + 1) words) (each_ids Q ids_so no_id (n + 1) words)
 
 -- what is so of a wrong use, of a word that spells no id, of a tree, of two commits to compare, of an id and ids behind it and of what an order's words ask for
-module _ (P : Result Request Fault → Type 0) (usage : P (Err fault.Usage)) (no_id : (n : ℕ) → P (Err (fault.Id n))) (tree : (ending : ℕ) (i : ObjectId) → P (Ok (Files ending i))) (pair : (i j : ObjectId) → P (Ok (Ahead i j))) (some : (i : ObjectId) (ids : List ObjectId) → P (Ok (Contained i ids))) (above : (i : ObjectId) (ids : List ObjectId) → P (Ok (Containing i ids))) (joint : (i : ObjectId) (ids : List ObjectId) → P (Ok (Bases i ids))) where
+module _ (P : Result Request Fault → Type 0) (usage : P (Err fault.Usage)) (no_id : (n : ℕ) → P (Err (fault.Id n))) (tree : (shown : EntryLines) (i : ObjectId) → P (Ok (Files shown i))) (pair : (i j : ObjectId) → P (Ok (Ahead i j))) (some : (i : ObjectId) (ids : List ObjectId) → P (Ok (Contained i ids))) (above : (i : ObjectId) (ids : List ObjectId) → P (Ok (Containing i ids))) (joint : (i : ObjectId) (ids : List ObjectId) → P (Ok (Bases i ids))) where
   either : (t : Bool) (a b : Result Request Fault) → P a → P b → P (cond t a b)
   either true a b h k = h
   either false a b h k = k
 
-  from_id : (ending n : ℕ) (r : Result ObjectId HexError) → P (files_from ending n r)
-  from_id ending n (Ok i) = tree ending i
-  from_id ending n (Err e) = no_id n
+  from_id : (shown : EntryLines) (n : ℕ) (r : Result ObjectId HexError) → P (files_from shown n r)
+  from_id shown n (Ok i) = tree shown i
+  from_id shown n (Err e) = no_id n
 
-  from_tree : (ending n : ℕ) (id : List ℕ) → P (file_of ending n id)
-  from_tree ending n id = either (begins_with_sign id) (Err fault.Usage) (files_from ending n (id_from_hex id)) usage (from_id ending n (id_from_hex id))
+  from_tree : (shown : EntryLines) (n : ℕ) (id : List ℕ) → P (file_of shown n id)
+  from_tree shown n id = either (begins_with_sign id) (Err fault.Usage) (files_from shown n (id_from_hex id)) usage (from_id shown n (id_from_hex id))
 
-  from_trees : (ids : List (List ℕ)) → P (files_of ids)
+  from_ended : (limit : Option ℕ) (n : ℕ) (ids : List (List ℕ)) → P (ended_files_of limit n ids)
+  from_ended limit n [] = usage
+  from_ended limit n (id ∷ []) = from_tree _ n id
+  from_ended limit n (option ∷ id ∷ []) = either (bytes_eq option (codes "-z")) (file_of _ (n + 1) id) (Err fault.Usage) (from_tree _ (n + 1) id) usage
+  from_ended limit n (option ∷ id ∷ next ∷ ids) = usage
+
+  from_limited : (limit : Option ℕ) (words : List (List ℕ)) → P (files_by limit words)
+  from_limited (Some limit) words = from_ended (Some limit) 4 words
+  from_limited None words = usage
+
+  from_limit : (words : List (List ℕ)) → P (limited_files_of words)
+  from_limit [] = usage
+  from_limit (number ∷ words) = from_limited (number_in 9 number) words
+
+  from_trees : (words : List (List ℕ)) → P (files_of words)
   from_trees [] = usage
-  from_trees (id ∷ []) = from_tree 10 2 id
-  from_trees (option ∷ id ∷ []) = either (bytes_eq option (codes "-z")) (file_of 0 3 id) (Err fault.Usage) (from_tree 0 3 id) usage
-  from_trees (option ∷ id ∷ next ∷ ids) = usage
+  from_trees (option ∷ words) = either (bytes_eq option (codes "-n")) (limited_files_of words) (ended_files_of None 2 (option ∷ words)) (from_limit words) (from_ended None 2 (option ∷ words))
 
   from_pair : (one other : Result ObjectId HexError) → P (ahead_from one other)
   from_pair (Ok one) (Ok other) = pair one other
@@ -213,4 +225,4 @@ listed_words by n words = go (until_of n words) (until_words n words)
     go (Err e) h = h
 
 pub request_words : (words : List (List ℕ)) → OfWords (request_of words)
-request_words = each_request OfWords tt (λ n. tt) (λ ending i. tt) (λ i j. tt) (λ i ids. tt) (λ i ids. tt) (λ i ids. tt) listed_words
+request_words = each_request OfWords tt (λ n. tt) (λ shown i. tt) (λ i j. tt) (λ i ids. tt) (λ i ids. tt) (λ i ids. tt) listed_words

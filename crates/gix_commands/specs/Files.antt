@@ -11,8 +11,10 @@ use Rattle.gix_tree.specs.Recorder.{Record}
 use Rattle.gix_tree.specs.Tracked.{Tracked, Tracks, fresh_recorder}
 use Rattle.gix_tree.specs.Visits.{Visit}
 use Rattle.gix_tree.specs.Walk.{DepthFirst}
+use Rattle.gix_statement.specs.WholeStatement.{allowed}
 use Rattle.gix_words.specs.declared.fault.Fault.{Fault}
 use Rattle.gix_words.specs.declared.fault.Fault.TheVariants as fault
+use Rattle.gix_words.specs.declared.words.EntryLines.{EntryLines}
 use Rattle.gix_words.specs.Faults.{fault_of_tree_walk}
 use Rattle.gix_commands.specs.Walked.{never_faulty}
 
@@ -28,9 +30,9 @@ six_octal_digits n = let shown = digits 8 false n in replicate (6 - length shown
 abbrev pub file_line : (ending : ℕ) → Record → List ℕ
 file_line ending r = six_octal_digits r.mode ++ 32 ∷ (hex_of r.id ++ 32 ∷ (r.path ++ ending ∷ []))
 
--- entries, one a line
-abbrev pub file_lines : (ending : ℕ) → List Record → List ℕ
-file_lines ending records = flat_map (file_line ending) records
+-- entries up to a limit, one a line
+abbrev pub file_lines : EntryLines → List Record → List ℕ
+file_lines shown records = flat_map (file_line shown.ending) (allowed shown.limit records)
 
 -- the first of these visits whose entry's name is no name is in the tree of this id
 abbrev pub IsMisnamed : List Visit → ObjectId → Type 0
@@ -39,9 +41,9 @@ IsMisnamed visits i =
     × (IsName v.entry.name → ⊥) × (v.place.ids ≡ i ∷ above)
 
 -- these are the lines of the entries of a tree and of the trees in it, whose names are all names
-abbrev pub AreLinesOf : (ending : ℕ) → Objects → ObjectId → List ℕ → Type 0
-AreLinesOf ending objects tree lines =
-    (recorder : Tracked) × (walk : RecordsTree objects tree recorder (Ok tt)) × HaveNames walk.visits × (lines ≡ file_lines ending recorder.held.records)
+abbrev pub AreLinesOf : EntryLines → Objects → ObjectId → List ℕ → Type 0
+AreLinesOf shown objects tree lines =
+    (recorder : Tracked) × (walk : RecordsTree objects tree recorder (Ok tt)) × HaveNames walk.visits × (lines ≡ file_lines shown recorder.held.records)
 
 -- a walk through a tree fails so
 abbrev pub IsWalkFaultOf : Objects → ObjectId → Fault → Type 0

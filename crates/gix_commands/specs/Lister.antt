@@ -6,7 +6,9 @@ use Rattle.gix_hash.specs.declared.ObjectId.{ObjectId}
 use Rattle.gix_object.specs.TreeItems.{TreeEntry}
 use Rattle.gix_tree.specs.Delegate.{Action, Call, PushPath, PopPath, PushBack, PopBack, PopFront, VisitTree, VisitNontree, Refused}
 use Rattle.gix_tree.specs.Tracked.{Tracked, Tracks, fresh_recorder}
-use Rattle.gix_commands.specs.Files.{file_line}
+use Rattle.gix_words.specs.declared.words.EntryLines.{EntryLines}
+use Rattle.gix_commands.specs.Chosen.{one_less}
+use Rattle.gix_commands.specs.Files.{file_lines}
 
 -- where a walk in depth is, and what it has met
 pub record Noted : Type 0 where
@@ -17,18 +19,18 @@ pub record Noted : Type 0 where
   -- the first tree that has a name that is none
   pub misnamed : Option ObjectId
 
--- a recorder that follows the path and records nothing, the lines, the byte that ends a line, and what is noted of names
+-- a recorder that follows the path and records nothing, the lines, what is still written, and what is noted of names
 pub record Listed : Type 0 where
   pub recorder : Tracked
   pub lines : List ℕ
-  pub ending : ℕ
+  pub left : EntryLines
   pub noted : Noted
 
 abbrev pub fresh_noted : ObjectId → Noted
 fresh_noted root = record { ids = root ∷ []; entering = true; misnamed = None }
 
-abbrev pub fresh_lister : (ending : ℕ) → ObjectId → Listed
-fresh_lister ending root = record { recorder = fresh_recorder; lines = []; ending = ending; noted = fresh_noted root }
+abbrev pub fresh_lister : EntryLines → ObjectId → Listed
+fresh_lister shown root = record { recorder = fresh_recorder; lines = []; left = shown; noted = fresh_noted root }
 
 -- whether a name isn't empty and holds no `/`
 abbrev pub is_name : List ℕ → Bool
@@ -61,17 +63,21 @@ ids_above (i ∷ j ∷ ids) = j ∷ ids
 abbrev pub turned : Noted → Noted
 turned n = if n.entering then record n { entering = false } else record n { ids = ids_above n.ids }
 
--- the line of the entry at the current path
-abbrev pub line_at : Listed → TreeEntry → List ℕ
-line_at l e = file_line l.ending (record { mode = e.mode; path = l.recorder.held.path; id = e.id })
+-- the line of the entry at the current path, if one is still written
+abbrev pub lines_at : Listed → TreeEntry → List ℕ
+lines_at l e = file_lines l.left (record { mode = e.mode; path = l.recorder.held.path; id = e.id } ∷ [])
+
+-- what is still written behind one line
+abbrev pub behind_one : EntryLines → EntryLines
+behind_one left = record left { limit = one_less left.limit }
 
 -- the path was followed
 abbrev pub Moves : Listed → Call → Listed → Type 0
-Moves old call new = Tracks old.recorder call new.recorder × (new.lines ≡ old.lines) × (new.ending ≡ old.ending)
+Moves old call new = Tracks old.recorder call new.recorder × (new.lines ≡ old.lines) × (new.left ≡ old.left)
 
--- a line was added
+-- a line was added, if one was still written
 abbrev pub AddsLine : Listed → TreeEntry → Action → Listed → Type 0
-AddsLine old e answer new = (answer ≡ Continue true) × (new.recorder ≡ old.recorder) × (new.lines ≡ old.lines ++ line_at old e) × (new.ending ≡ old.ending)
+AddsLine old e answer new = (answer ≡ Continue true) × (new.recorder ≡ old.recorder) × (new.lines ≡ old.lines ++ lines_at old e) × (new.left ≡ behind_one old.left)
 
 -- what one call makes of the path and the lines
 abbrev pub Writes : Listed → Call → Listed → Type 0

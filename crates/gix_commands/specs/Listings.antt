@@ -14,6 +14,7 @@ use Rattle.gix_tree.specs.Visits.{Visit}
 use Rattle.gix_tree.specs.Walk.{LookUpFails, trees_of}
 use Rattle.gix_words.specs.declared.fault.Fault.{Fault}
 use Rattle.gix_words.specs.declared.fault.Fault.TheVariants as fault
+use Rattle.gix_words.specs.declared.words.EntryLines.{EntryLines}
 use Rattle.gix_commands.specs.Files.{IsMisnamed}
 use Rattle.gix_commands.specs.Histories.{EndsWell}
 use Rattle.gix_records.specs.Records.{Record, AreRecords, stored}
@@ -38,8 +39,8 @@ pub record Misnames (objects : Objects) (tree i : ObjectId) : Type 0 where
 -- A run of `files` that reports a bad name reports the tree of the first.
 abbrev pub FilesReportNames : Type 0
 FilesReportNames =
-    (words : List (List ℕ)) (input : List ℕ) (records : List Record) (ending : ℕ) (tree i : ObjectId) (old new : Option (List ℕ)) →
-    request_of words ≡ Ok (Files ending tree) → AreRecords records input → Runs words (Some input) old (Err (fault.Name i)) new →
+    (words : List (List ℕ)) (input : List ℕ) (records : List Record) (shown : EntryLines) (tree i : ObjectId) (old new : Option (List ℕ)) →
+    request_of words ≡ Ok (Files shown tree) → AreRecords records input → Runs words (Some input) old (Err (fault.Name i)) new →
     Misnames (stored records) tree i
 
 -- in a tree, and the trees that it holds, and so on, each name is a name
@@ -51,8 +52,8 @@ AreNamed objects tree =
 -- Where each tree in it reads whole, none is under itself, and each name is a name, it ends well.
 abbrev pub FilesSucceeds : Type 0
 FilesSucceeds =
-    (words : List (List ℕ)) (input : List ℕ) (records : List Record) (ending : ℕ) (tree : ObjectId) (answer : Result (Unit {0}) Fault)
+    (words : List (List ℕ)) (input : List ℕ) (records : List Record) (shown : EntryLines) (tree : ObjectId) (answer : Result (Unit {0}) Fault)
     (old new : Option (List ℕ)) →
-    request_of words ≡ Ok (Files ending tree) → AreRecords records input →
+    request_of words ≡ Ok (Files shown tree) → AreRecords records input →
     AreSound (trees_of (stored records)) (LookUpFails (stored records) (never_faulty (stored records))) (λ e. true) (tree ∷ []) →
     AreNamed (stored records) tree → Runs words (Some input) old answer new → EndsWell answer

@@ -52,7 +52,7 @@ is_first mode.First = true
 abbrev pub reads_all_lines : Request → Bool
 reads_all_lines (Commits (Simple parents by) shown tips hidden) = is_first parents
 reads_all_lines (Commits (Topo by) shown tips hidden) = false
-reads_all_lines (Files ending tree) = false
+reads_all_lines (Files shown tree) = false
 reads_all_lines (Ahead one other) = false
 reads_all_lines (Contained tip ids) = false
 reads_all_lines (Containing target tips) = false

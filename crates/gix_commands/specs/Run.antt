@@ -24,6 +24,7 @@ use Rattle.gix_tree.specs.Paths.{HaveNames}
 use Rattle.gix_tree.specs.Tracked.{Tracked}
 use Rattle.gix_words.specs.declared.fault.Fault.{Fault}
 use Rattle.gix_words.specs.declared.fault.Fault.TheVariants as fault
+use Rattle.gix_words.specs.declared.words.EntryLines.{EntryLines}
 use Rattle.gix_words.specs.declared.words.Order.TheVariants.{Simple, Topo}
 use Rattle.gix_words.specs.declared.words.Shown.{Shown}
 use Rattle.gix_commands.specs.Ahead.{Counts, FailsToCount, ahead_line}
@@ -68,14 +69,14 @@ pub data Serves (objects : Objects) (rows : List GraphRow) (old : Option (List �
       → Serves objects rows old (Commits (Topo by) shown tips ends) answer new
   not_built : {by : TopoSorting} {shown : Shown} {tips ends : List ObjectId} (e : TopoError) → topo.IsBuiltFrom objects rows by tips ends (Err e)
       → Serves objects rows old (Commits (Topo by) shown tips ends) (Err (fault_of_topo_walk e)) old
-  listed : {ending : ℕ} {tree : ObjectId} (recorder : Tracked) (walk : RecordsTree objects tree recorder (Ok tt)) {new : Option (List ℕ)}
-      → HaveNames walk.visits → Appends old new (file_lines ending recorder.held.records) → Serves objects rows old (Files ending tree) (Ok tt) new
+  listed : {shown : EntryLines} {tree : ObjectId} (recorder : Tracked) (walk : RecordsTree objects tree recorder (Ok tt)) {new : Option (List ℕ)}
+      → HaveNames walk.visits → Appends old new (file_lines shown recorder.held.records) → Serves objects rows old (Files shown tree) (Ok tt) new
   -- of a tree whose walk failed no line is written
-  not_listed : {ending : ℕ} {tree : ObjectId} (recorder : Tracked) (e : TreeError) → RecordsTree objects tree recorder (Err e)
-      → Serves objects rows old (Files ending tree) (Err (fault_of_tree_walk e)) old
+  not_listed : {shown : EntryLines} {tree : ObjectId} (recorder : Tracked) (e : TreeError) → RecordsTree objects tree recorder (Err e)
+      → Serves objects rows old (Files shown tree) (Err (fault_of_tree_walk e)) old
   -- and of a tree whose walk ended well, where a name is none. The first tree that has such a name is reported
-  misnamed : {ending : ℕ} {tree i : ObjectId} (recorder : Tracked) (walk : RecordsTree objects tree recorder (Ok tt)) → IsMisnamed walk.visits i
-      → Serves objects rows old (Files ending tree) (Err (fault.Name i)) old
+  misnamed : {shown : EntryLines} {tree i : ObjectId} (recorder : Tracked) (walk : RecordsTree objects tree recorder (Ok tt)) → IsMisnamed walk.visits i
+      → Serves objects rows old (Files shown tree) (Err (fault.Name i)) old
   counted : {one other : ObjectId} (ahead behind : ℕ) {new : Option (List ℕ)}
       → Counts objects rows one other ahead → Counts objects rows other one behind → Appends old new (ahead_line ahead behind)
       → Serves objects rows old (Ahead one other) (Ok tt) new

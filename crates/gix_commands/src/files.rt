@@ -2,7 +2,7 @@
 ghost use Rattle.std.specs.Prelude.{◌≡◌, ◌++◌, ◌∷◌, [], length, take, IfErr, IfOk, IfSome, OnErr, OnOk, false};
 ghost use Rattle.gix_object.specs.TreeRefIter.{entry_of};
 ghost use Rattle.gix_commands.specs.Files.{AreLinesOf, IsTreeFault, file_line, six_octal_digits};
-ghost use Rattle.gix_commands.specs.Lister.{fresh_noted, is_name, line_at, turned, with_entry, with_tree};
+ghost use Rattle.gix_commands.specs.Lister.{fresh_noted, is_name, behind_one, lines_at, turned, with_entry, with_tree};
 ghost use Rattle.gix_commands.specs.Readable.{readable};
 ghost use Rattle.gix_commands.specs.Run.{Serves};
 ghost use Rattle.gix_words.specs.Words.{Files};
@@ -21,46 +21,46 @@ use gix_revwalk::Parents;
 use gix_tree::Recorder;
 use gix_tree::depthfirst::{State, depthfirst};
 use gix_tree::visit::{Action, Visit};
-use gix_words::Fault;
+use gix_words::{EntryLines, Fault};
 use std::alloc::{AllocError, Global};
 use std::io::Write;
 use std::marker::Model;
 use std::ops::ControlFlow;
 
-/// Walks through the tree of this id in depth, and writes a line for each entry, which this byte ends, once the walk has ended well and
-/// each name was a name.
+/// Walks through the tree of this id in depth, and writes a line for each entry, up to a limit, once the whole walk has ended well and each
+/// name was a name.
 ///
 /// # Errors
 /// The fault of the walk, `Name` where the walk ended well and a name is empty or holds `/`, and `Memory`: nothing is written. `Write`
 /// where the writer failed: a beginning of the lines is.
 pub fn write_files<W: Write>(
     alloc: Global,
-    ending: u8,
+    shown: EntryLines,
     tree: ObjectId,
     store: &LentStore<'_>,
     graph: Option<&Graph>,
     writer: &mut W,
 ) -> Result<(), Fault>
-    ensures { Serves (readable false (with_rows (rows_in graph.entry) store.now)) (rows_in graph.entry) (W.contents writer.old) (Files ending tree) result (W.contents writer.new) }
+    ensures { Serves (readable false (with_rows (rows_in graph.entry) store.now)) (rows_in graph.entry) (W.contents writer.old) (Files shown tree) result (W.contents writer.new) }
 {
-    let mut lines = lines_of_tree(alloc, ending, tree, Lent::over(store, graph, Parents::All))?;
+    let mut lines = lines_of_tree(alloc, shown, tree, Lent::over(store, graph, Parents::All))?;
     write_out(&mut lines, writer)
 }
 
-/// A line for each entry of the tree of this id and of the trees in it.
+/// A line for each entry of the tree of this id and of the trees in it, up to a limit.
 fn lines_of_tree(
     alloc: Global,
-    ending: u8,
+    shown: EntryLines,
     tree: ObjectId,
     store: Lent<'_>,
 ) -> Result<Vec<u8>, Fault>
-    ensures ok { IfOk result (λ lines. AreLinesOf ending store.entry tree lines.items) }
+    ensures ok { IfOk result (λ lines. AreLinesOf shown store.entry tree lines.items) }
     ensures err { IfErr result (IsTreeFault store.entry tree) }
 {
     let mut lister = Lister {
         recorder: Recorder::new(alloc),
         lines: Vec::new(alloc),
-        ending,
+        left: shown,
         names: Names::below(alloc, tree),
         alloc,
     };
@@ -153,13 +153,13 @@ fn is_name(name: &[u8]) -> bool
     !name.is_empty() && !name.contains(&b'/')
 }
 
-/// Adds a line for each entry that a walk shows, and goes into each tree. The recorder follows the path, and records nothing.
+/// Adds a line for each entry that a walk shows, as long as one is still written, and goes into each tree. The recorder follows the path, and records nothing.
 #[derive(Drop)]
 struct Lister {
     recorder: Recorder,
     lines: Vec<u8>,
-    /// The byte that ends a line.
-    ending: u8,
+    /// What is still written.
+    left: EntryLines,
     names: Names,
     alloc: Global,
 }
@@ -169,7 +169,7 @@ impl Model for Lister {
 
     ghost Value = { Listed };
 
-    ghost view = { λ l. record { recorder = l.recorder; lines = l.lines.items; ending = l.ending; noted = l.names } };
+    ghost view = { λ l. record { recorder = l.recorder; lines = l.lines.items; left = l.left; noted = l.names } };
 }
 
 impl Lister {
@@ -180,11 +180,16 @@ impl Lister {
         self.names.first()
     }
 
-    /// Adds the line of the entry at the current path.
+    /// Adds the line of the entry at the current path, if one is still written.
     fn list(&mut self, entry: &EntryRef<'_>) -> Result<(), AllocError>
-        ensures ok { OnOk result (self.new ≡ record self.old { lines = self.old.lines ++ line_at self.old (entry_of entry.now) }) }
+        ensures ok { OnOk result (self.new ≡ record self.old { lines = self.old.lines ++ lines_at self.old (entry_of entry.now); left = behind_one self.old.left }) }
         ensures err { OnErr result (self.new ≡ self.old) }
     {
+        let limit = match self.left.limit {
+            Some(0) => return Ok(()),
+            Some(limit) => Some(limit - 1),
+            None => None,
+        };
         let len = self.lines.len();
         let path = self.recorder.path();
         match add_line(
@@ -193,9 +198,12 @@ impl Lister {
             entry.mode.value,
             &entry.oid,
             path.as_bytes(),
-            self.ending,
+            self.left.ending,
         ) {
-            Ok(()) => Ok(()),
+            Ok(()) => {
+                self.left.limit = limit;
+                Ok(())
+            }
             Err(e) => {
                 self.lines.truncate(len);
                 Err(e)

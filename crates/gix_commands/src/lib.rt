@@ -120,7 +120,7 @@ fn serve<W: Write>(
             tips,
             hidden,
         } => serve_commits(alloc, order, shown, tips, hidden, store, graph, writer),
-        Command::Files { ending, tree } => write_files(alloc, ending, tree, store, graph, writer),
+        Command::Files { shown, tree } => write_files(alloc, shown, tree, store, graph, writer),
         Command::Ahead { one, other } => write_ahead(alloc, one, other, store, graph, writer),
         Command::Contained { tip, ids } => write_contained(alloc, tip, ids, store, graph, writer),
         Command::Containing { target, tips } => {

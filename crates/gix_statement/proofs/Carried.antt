@@ -38,7 +38,7 @@ module _ (read objects : Objects) (rows others : List Row) (all : (i : ObjectId)
     serves_too old new words (contains {tip = tip} {ids = ids} are some there keeps appends) = contains are some (all_there (tip ∷ ids) there) keeps appends
     serves_too old new words (containing {target = target} {tips = tips} are some there keeps appends) = containing are some (all_there (target ∷ tips) there) keeps appends
     serves_too old new words (bases {one = one} {others = ids} those are some there exact rising appends) = bases those are some (all_there (one ∷ ids) there) exact rising appends
-    serves_too old new words (files option a {tree = i} {entries = entries} ends spells is unfolds appends) = files option a ends spells (tree_too i entries is) (unfolds_too unfolds) appends
+    serves_too old new words (files limit bound option a {tree = i} {entries = entries} within ends spells is unfolds appends) = files limit bound option a within ends spells (tree_too i entries is) (unfolds_too unfolds) appends
 
 pub equal_numbers : (a b : ℕ) → (a ≡ b) ⊎ (a ≢ b)
 equal_numbers zero zero = inl refl

@@ -73,7 +73,7 @@ module _ (objects : Objects) (rows : List Row) (nothing : (i : ObjectId) → obj
   served_nothing words out (contains {tip = tip} {ids = ids} are some there keeps appends) = absurd (not_there tip (there 0 tip (omega arith)))
   served_nothing words out (containing {target = target} are some there keeps appends) = absurd (not_there target (there 0 target (omega arith)))
   served_nothing words out (bases {one = one} those are some there exact rising appends) = absurd (not_there one (there 0 one (omega arith)))
-  served_nothing words out (files option a {tree = t} ends spells (text, is, entries) unfolds appends) = let no : None ≡ Some _ = sym (nothing t) ∙ is in cc
+  served_nothing words out (files limit bound option a {tree = t} within ends spells (text, is, entries) unfolds appends) = let no : None ≡ Some _ = sym (nothing t) ∙ is in cc
 
   abbrev five : List (List ℕ)
   five = codes "breadth" ∷ codes "newest" ∷ codes "oldest" ∷ codes "topo" ∷ codes "date" ∷ []
@@ -89,7 +89,7 @@ module _ (objects : Objects) (rows : List Row) (nothing : (i : ObjectId) → obj
   not_contained words rest out is (contains {tip = tip} {ids = ids} are some there keeps appends) = not_there tip (there 0 tip (omega arith))
   not_contained words rest out is (containing {target = target} are some there keeps appends) = not_there target (there 0 target (omega arith))
   not_contained words rest out is (bases {one = one} those are some there exact rising appends) = not_there one (there 0 one (omega arith))
-  not_contained words rest out is (files option a {tree = t} ends spells (text, e, entries) unfolds appends) = let no : None ≡ Some _ = sym (nothing t) ∙ e in cc
+  not_contained words rest out is (files limit bound option a {tree = t} within ends spells (text, e, entries) unfolds appends) = let no : None ≡ Some _ = sym (nothing t) ∙ e in cc
 
 -- the objects of a reader, without rows
 abbrev pub Read : List ℕ → Objects → List Row → Type 0

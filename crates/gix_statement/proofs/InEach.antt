@@ -6,7 +6,7 @@ use Rattle.std.specs.Io.KnownBytes.{Appends}
 use Rattle.std.proofs.lemmas.List.Elements.{All-contains, All-nil}
 use Rattle.gix_hash.proofs.Ids.Membership.{no_member}
 use Rattle.gix_hash.specs.declared.ObjectId.{ObjectId}
-use Rattle.gix_statement.specs.WholeStatement.{Objects, Row, IsThere, IsHistory, InEach, Allows, AreTips, Begins, IsWhole, IsNext, breadth, newest, oldest, date, topo, parent, Follows, all, id_line, digits_in, Spells, Keeps, Lists, lists, Serves, ahead, contains, containing, bases, IsBase, by_bytes, files, Reaches, start, IsNumberShown, IsTree, Unfolds, Entry, entry_line, Choice, Chooses, Lines, chosen, commit_line, written}
+use Rattle.gix_statement.specs.WholeStatement.{IsLimit, allowed, Objects, Row, IsThere, IsHistory, InEach, Allows, AreTips, Begins, IsWhole, IsNext, breadth, newest, oldest, date, topo, parent, Follows, all, id_line, digits_in, Spells, Keeps, Lists, lists, Serves, ahead, contains, containing, bases, IsBase, by_bytes, files, Reaches, start, IsNumberShown, IsTree, Unfolds, Entry, entry_line, Choice, Chooses, Lines, chosen, commit_line, written}
 use Rattle.gix_statement.proofs.Heart.{IsSimple}
 use Rattle.gix_statement.proofs.EachHistory.{base_back, base_there, containing_there, counted_there, kept_there, moved, same_parents, same_time, filter_same}
 use Rattle.gix_statement.proofs.Descents.{IsDown, begins_down, whole_down}
@@ -134,7 +134,7 @@ module _ (objects : Objects) (rows : List Row) (parents : ObjectId → List Obje
       (λ i. (λ c. base_there objects rows parents other time times one another left others above beyond i ((exact i).0 c), λ b. (exact i).1 (base_back objects rows parents other time times one another left others above beyond i b)))
       rising written
 
-  pub files_each : (option : List (List ℕ)) (a : List ℕ) {ending : ℕ} {tree : ObjectId} {entries : List Entry} {placed : List (List ℕ × Entry)}
+  pub files_each : (limit : Option ℕ) (bound option : List (List ℕ)) (a : List ℕ) {ending : ℕ} {tree : ObjectId} {entries : List Entry} {placed : List (List ℕ × Entry)} → IsLimit bound limit
       → ((option ≡ []) × (ending ≡ 10)) ⊎ ((option ≡ codes "-z" ∷ []) × (ending ≡ 0)) → Spells (digits_in tree) a tree → IsTree objects tree entries → Unfolds objects [] entries placed
-      → Appends old new (flat_map (entry_line ending) placed) → Each (codes "files" ∷ (option ++ a ∷ []))
-  files_each option a ends spells is unfolds written other times another = files option a ends spells is unfolds written
+      → Appends old new (flat_map (entry_line ending) (allowed limit placed)) → Each (codes "files" ∷ (bound ++ (option ++ a ∷ [])))
+  files_each limit bound option a within ends spells is unfolds written other times another = files limit bound option a within ends spells is unfolds written

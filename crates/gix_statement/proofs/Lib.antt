@@ -23,6 +23,7 @@ pub mod Tests
 mod OrderExamples
 mod RunExamples
 mod LineExamples
+mod EntryExamples
 mod GraphExamples
 mod HoleExamples
 mod SinceExample

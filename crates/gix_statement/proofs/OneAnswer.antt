@@ -11,7 +11,7 @@ use Rattle.std.specs.Str.Parse.{AllDigits, digits_value}
 use Rattle.gix_hash.proofs.Ids.Membership.{Contains-here, Contains-there, Contains-cons_cases, no_member}
 use Rattle.gix_hash.specs.declared.ObjectId.{ObjectId}
 use Rattle.gix_hash.specs.declared.ObjectId.TheVariants.{Sha1, Sha256}
-use Rattle.gix_statement.specs.WholeStatement.{Objects, Row, IsPending, IsReady, IsFirst, IsBest, Keeps, empty, kept, passed, IsNext, breadth, newest, oldest, date, topo, AreMadeReady, by_time, Begins, IsWhole, Allows, AreTips, Follows, all, first, since, Spells, digits_in, bytes_in, Lists, lists, HasBegun, IsCutOff, OneAnswer, Serves, commits, ahead, contains, containing, bases, IsBase, by_bytes, files, Entry, Object, AreEntries, IsTree, Unfolds, whole, other, tree, Clash, Reaches, id_line, entry_line, IsNumberShown, Form, Choice, Chooses, everything, until, merges, no_merges, skip, at_most, reversed, counted, with_time, with_parents, zero_ended, chosen, commit_line, written, Lines, Reversed, Number}
+use Rattle.gix_statement.specs.WholeStatement.{IsLimit, allowed, Objects, Row, IsPending, IsReady, IsFirst, IsBest, Keeps, empty, kept, passed, IsNext, breadth, newest, oldest, date, topo, AreMadeReady, by_time, Begins, IsWhole, Allows, AreTips, Follows, all, first, since, Spells, digits_in, bytes_in, Lists, lists, HasBegun, IsCutOff, OneAnswer, Serves, commits, ahead, contains, containing, bases, IsBase, by_bytes, files, Entry, Object, AreEntries, IsTree, Unfolds, whole, other, tree, Clash, Reaches, id_line, entry_line, IsNumberShown, Form, Choice, Chooses, everything, until, merges, no_merges, skip, at_most, reversed, counted, with_time, with_parents, zero_ended, chosen, commit_line, written, Lines, Reversed, Number}
 use Rattle.gix_statement.proofs.OneCommit.{spelled_same, append_same, first_same, id_same}
 use Rattle.gix_statement.proofs.Carried.{same_object}
 use Rattle.gix_statement.proofs.Tests.{not_among, other_head}
@@ -454,6 +454,38 @@ module _ (read objects : Objects) (clash : Clash read objects → ⊥) where
       let two = unfolds_once u v in
       (λ k. (path, e) ∷ (one k ++ two k))
 
+-- THE WORDS OF `files`
+abbrev IsEndedBy : List (List ℕ) → ℕ → Type 0
+IsEndedBy option ending = ((option ≡ []) × (ending ≡ 10)) ⊎ ((option ≡ codes "-z" ∷ []) × (ending ≡ 0))
+
+ending_once : (option choice : List (List ℕ)) (x y : List ℕ) (ending end : ℕ) → IsEndedBy option ending → IsEndedBy choice end → option ++ x ∷ [] ≡ choice ++ y ∷ [] → (x ≡ y) × (ending ≡ end)
+ending_once option choice x y ending end (inl e) (inl f) is = let h : x ∷ [] ≡ y ∷ [] = ap (λ o. o ++ x ∷ []) (sym e.0) ∙ is ∙ ap (λ o. o ++ y ∷ []) f.0 in let g : x ≡ y = cc in (g, e.1 ∙ sym f.1)
+ending_once option choice x y ending end (inr e) (inr f) is = let h : codes "-z" ∷ x ∷ [] ≡ codes "-z" ∷ y ∷ [] = ap (λ o. o ++ x ∷ []) (sym e.0) ∙ is ∙ ap (λ o. o ++ y ∷ []) f.0 in let g : x ≡ y = cc in (g, e.1 ∙ sym f.1)
+ending_once option choice x y ending end (inl e) (inr f) is = let h : x ∷ [] ≡ codes "-z" ∷ y ∷ [] = ap (λ o. o ++ x ∷ []) (sym e.0) ∙ is ∙ ap (λ o. o ++ y ∷ []) f.0 in let l : 1 ≡ 2 = ap length h in absurd (omega (arith, l))
+ending_once option choice x y ending end (inr e) (inl f) is = let h : codes "-z" ∷ x ∷ [] ≡ y ∷ [] = ap (λ o. o ++ x ∷ []) (sym e.0) ∙ is ∙ ap (λ o. o ++ y ∷ []) f.0 in let l : 2 ≡ 1 = ap length h in absurd (omega (arith, l))
+
+-- behind a limit there are one or two words, and so the words without one are fewer
+abbrev AreFew : List (List ℕ) → Type 0
+AreFew words = (1 ≤ length words) × (length words ≤ 2)
+
+few_behind : (option : List (List ℕ)) (x : List ℕ) (ending : ℕ) → IsEndedBy option ending → AreFew (option ++ x ∷ [])
+few_behind option x ending (inl e) = subst (λ o. AreFew (o ++ x ∷ [])) (sym e.0) (omega arith, omega arith)
+few_behind option x ending (inr e) = subst (λ o. AreFew (o ++ x ∷ [])) (sym e.0) (omega arith, omega arith)
+
+limit_once : (a b : List (List ℕ)) (most least : Option ℕ) → IsLimit a most → IsLimit b least → (words others : List (List ℕ)) → AreFew words → AreFew others → a ++ words ≡ b ++ others → (most ≡ least) × (words ≡ others)
+limit_once a b None None e f words others few some is = (refl, ap (λ o. o ++ words) (sym e) ∙ is ∙ ap (λ o. o ++ others) f)
+limit_once a b (Some n) (Some m) (number, e, k) (text, f, l) words others few some is =
+    let h : codes "-n" ∷ number ∷ words ≡ codes "-n" ∷ text ∷ others = ap (λ o. o ++ words) (sym e) ∙ is ∙ ap (λ o. o ++ others) f in
+    let same : number ≡ text = cc in
+    let rest : words ≡ others = cc in
+    (ap Some (k.3 ∙ ap (digits_value 10) same ∙ sym l.3), rest)
+limit_once a b None (Some m) e (text, f, l) words others few some is =
+    let h : length words ≡ suc (suc (length others)) = ap length (ap (λ o. o ++ words) (sym e) ∙ is ∙ ap (λ o. o ++ others) f) in
+    absurd (omega (arith, h, few.1, some.0))
+limit_once a b (Some n) None (number, e, k) f words others few some is =
+    let h : suc (suc (length words)) ≡ length others = ap length (ap (λ o. o ++ words) (sym e) ∙ is ∙ ap (λ o. o ++ others) f) in
+    absurd (omega (arith, h, few.0, some.1))
+
 -- WHAT WAS WRITTEN
 other_size : (word by : List ℕ) → (length word ≡ 5 → ⊥) × (length word < 8) → (length by ≡ 5) ⊎ (8 ≤ length by) → word ≡ by → ⊥
 other_size word by n h e = let l : length word ≡ length by = ap length e in ⊎_elim (λ f. n.0 (l ∙ f)) (λ f. omega (arith, l, f, n.1)) h
@@ -485,32 +517,32 @@ module _ (read objects : Objects) (rows more : List Row) (parents : ObjectId →
   served_once asked words (commits ids l w) (contains are some there keeps v) is = absurd (not_listed (codes "contains") _ asked ids true read rows (inr (omega arith)) l is)
   served_once asked words (commits ids l w) (containing are some there keeps v) is = absurd (not_listed (codes "containing") _ asked ids true read rows (inr (omega arith)) l is)
   served_once asked words (commits ids l w) (bases those are some there exact rising v) is = absurd (not_listed (codes "merge-base") _ asked ids true read rows (inr (omega arith)) l is)
-  served_once asked words (commits ids l w) (files option x ends spells t u v) is = absurd (not_listed (codes "files") _ asked ids true read rows (inl refl) l is)
+  served_once asked words (commits ids l w) (files limit bound option x within ends spells t u v) is = absurd (not_listed (codes "files") _ asked ids true read rows (inl refl) l is)
   served_once asked words (ahead n m x y o p ns ms v) (commits ids l w) is = absurd (not_listed (codes "ahead") _ words ids true objects more (inl refl) l (sym is))
   served_once asked words (contains are some there keeps v) (commits ids l w) is = absurd (not_listed (codes "contains") _ words ids true objects more (inr (omega arith)) l (sym is))
   served_once asked words (containing are some there keeps v) (commits ids l w) is = absurd (not_listed (codes "containing") _ words ids true objects more (inr (omega arith)) l (sym is))
   served_once asked words (bases those are some there exact rising v) (commits ids l w) is = absurd (not_listed (codes "merge-base") _ words ids true objects more (inr (omega arith)) l (sym is))
-  served_once asked words (files option x ends spells t u v) (commits ids l w) is = absurd (not_listed (codes "files") _ words ids true objects more (inl refl) l (sym is))
+  served_once asked words (files limit bound option x within ends spells t u v) (commits ids l w) is = absurd (not_listed (codes "files") _ words ids true objects more (inl refl) l (sym is))
   served_once asked words (ahead n m x y o p ns ms w) (contains are some there keeps v) is = let h : codes "ahead" ≡ codes "contains" = cc in let l : 5 ≡ 8 = ap length h in absurd (omega (arith, l))
   served_once asked words (contains are some there keeps v) (ahead n m x y o p ns ms w) is = let h : codes "contains" ≡ codes "ahead" = cc in let l : 8 ≡ 5 = ap length h in absurd (omega (arith, l))
-  served_once asked words (files option x ends spells t u w) (contains are some there keeps v) is = let h : codes "files" ≡ codes "contains" = cc in let l : 5 ≡ 8 = ap length h in absurd (omega (arith, l))
-  served_once asked words (contains are some there keeps v) (files option x ends spells t u w) is = let h : codes "contains" ≡ codes "files" = cc in let l : 8 ≡ 5 = ap length h in absurd (omega (arith, l))
+  served_once asked words (files limit bound option x within ends spells t u w) (contains are some there keeps v) is = let h : codes "files" ≡ codes "contains" = cc in let l : 5 ≡ 8 = ap length h in absurd (omega (arith, l))
+  served_once asked words (contains are some there keeps v) (files limit bound option x within ends spells t u w) is = let h : codes "contains" ≡ codes "files" = cc in let l : 8 ≡ 5 = ap length h in absurd (omega (arith, l))
   served_once asked words (ahead n m x y o p ns ms w) (bases those are some there exact rising v) is = let h : codes "ahead" ≡ codes "merge-base" = cc in let l : 5 ≡ 10 = ap length h in absurd (omega (arith, l))
   served_once asked words (bases those are some there exact rising v) (ahead n m x y o p ns ms w) is = let h : codes "merge-base" ≡ codes "ahead" = cc in let l : 10 ≡ 5 = ap length h in absurd (omega (arith, l))
   served_once asked words (contains are some there keeps w) (bases those are_too any here exact rising v) is = let h : codes "contains" ≡ codes "merge-base" = cc in let l : 8 ≡ 10 = ap length h in absurd (omega (arith, l))
   served_once asked words (bases those are_too any here exact rising v) (contains are some there keeps w) is = let h : codes "merge-base" ≡ codes "contains" = cc in let l : 10 ≡ 8 = ap length h in absurd (omega (arith, l))
-  served_once asked words (files option x ends spells t u w) (bases those are some there exact rising v) is = let h : codes "files" ≡ codes "merge-base" = cc in let l : 5 ≡ 10 = ap length h in absurd (omega (arith, l))
-  served_once asked words (bases those are some there exact rising v) (files option x ends spells t u w) is = let h : codes "merge-base" ≡ codes "files" = cc in let l : 10 ≡ 5 = ap length h in absurd (omega (arith, l))
+  served_once asked words (files limit bound option x within ends spells t u w) (bases those are some there exact rising v) is = let h : codes "files" ≡ codes "merge-base" = cc in let l : 5 ≡ 10 = ap length h in absurd (omega (arith, l))
+  served_once asked words (bases those are some there exact rising v) (files limit bound option x within ends spells t u w) is = let h : codes "merge-base" ≡ codes "files" = cc in let l : 10 ≡ 5 = ap length h in absurd (omega (arith, l))
   served_once asked words (ahead n m x y o p ns ms w) (containing are some there keeps v) is = let h : codes "ahead" ≡ codes "containing" = cc in let l : 5 ≡ 10 = ap length h in absurd (omega (arith, l))
   served_once asked words (containing are some there keeps v) (ahead n m x y o p ns ms w) is = let h : codes "containing" ≡ codes "ahead" = cc in let l : 10 ≡ 5 = ap length h in absurd (omega (arith, l))
   served_once asked words (contains are some there keeps w) (containing are_too any here keeps_too v) is = let h : codes "contains" ≡ codes "containing" = cc in let l : 8 ≡ 10 = ap length h in absurd (omega (arith, l))
   served_once asked words (containing are_too any here keeps_too v) (contains are some there keeps w) is = let h : codes "containing" ≡ codes "contains" = cc in let l : 10 ≡ 8 = ap length h in absurd (omega (arith, l))
   served_once asked words (bases those are some there exact rising w) (containing are_too any here keeps_too v) is = let h : codes "merge-base" ≡ codes "containing" = cc in absurd (other_head 109 99 _ _ refl h)
   served_once asked words (containing are_too any here keeps_too v) (bases those are some there exact rising w) is = let h : codes "containing" ≡ codes "merge-base" = cc in absurd (other_head 99 109 _ _ refl h)
-  served_once asked words (files option x ends spells t u w) (containing are some there keeps v) is = let h : codes "files" ≡ codes "containing" = cc in let l : 5 ≡ 10 = ap length h in absurd (omega (arith, l))
-  served_once asked words (containing are some there keeps v) (files option x ends spells t u w) is = let h : codes "containing" ≡ codes "files" = cc in let l : 10 ≡ 5 = ap length h in absurd (omega (arith, l))
-  served_once asked words (ahead n m x y o p ns ms w) (files option z ends spells t u v) is = let h : codes "ahead" ≡ codes "files" = cc in absurd (other_head 97 102 _ _ refl h)
-  served_once asked words (files option z ends spells t u v) (ahead n m x y o p ns ms w) is = let h : codes "files" ≡ codes "ahead" = cc in absurd (other_head 102 97 _ _ refl h)
+  served_once asked words (files limit bound option x within ends spells t u w) (containing are some there keeps v) is = let h : codes "files" ≡ codes "containing" = cc in let l : 5 ≡ 10 = ap length h in absurd (omega (arith, l))
+  served_once asked words (containing are some there keeps v) (files limit bound option x within ends spells t u w) is = let h : codes "containing" ≡ codes "files" = cc in let l : 10 ≡ 5 = ap length h in absurd (omega (arith, l))
+  served_once asked words (ahead n m x y o p ns ms w) (files limit bound option z within ends spells t u v) is = let h : codes "ahead" ≡ codes "files" = cc in absurd (other_head 97 102 _ _ refl h)
+  served_once asked words (files limit bound option z within ends spells t u v) (ahead n m x y o p ns ms w) is = let h : codes "files" ≡ codes "ahead" = cc in absurd (other_head 102 97 _ _ refl h)
   served_once asked words (ahead {a = x} {b = y} {one = one} {other = another} n m s t o p ns ms w) (ahead {a = u} {b = v} {one = left} {other = right} i j q r c d is js z) is_same =
       let e : x ≡ u = cc in
       let f : y ≡ v = cc in
@@ -543,20 +575,13 @@ module _ (read objects : Objects) (rows more : List Row) (parents : ObjectId →
       (λ i c. (exact_too i).1 (subst (λ (T : Type 0). T) (same i) ((exact i).0 c)))
       (λ i c. (exact i).1 (subst (λ (T : Type 0). T) (sym (same i)) ((exact_too i).0 c))) in
       w ∙ ap (λ xs. old ++ flat_map id_line xs) k ∙ sym v
-  served_once asked words (files option x {ending = ending} {tree = t} {entries = entries} {placed = placed} ends spells is_tree u w) (files choice y {ending = end} {tree = s} {entries = others} {placed = those} finish spell too v z) is =
-      let e : option ++ x ∷ [] ≡ choice ++ y ∷ [] = cc in
-      let h = endings option choice x y ending end ends finish e in
+  served_once asked words (files most bound option x {ending = ending} {tree = t} {entries = entries} {placed = placed} within ends spells is_tree u w) (files least few choice y {ending = end} {tree = s} {entries = others} {placed = those} bounded finish spell too v z) is =
+      let l = limit_once bound few most least within bounded _ _ (few_behind option x ending ends) (few_behind choice y end finish) (let e : bound ++ (option ++ x ∷ []) ≡ few ++ (choice ++ y ∷ []) = cc in e) in
+      let h = ending_once option choice x y ending end ends finish l.1 in
       let g = spelled_once x t s spells (subst (λ k. Spells (digits_in s) k s) (sym h.0) spell) in
       let same : entries ≡ others = tree_once read objects clash t entries others is_tree (subst (λ i. IsTree objects i others) (sym g) too) in
       let p = unfolds_once read objects clash u (subst (λ xs. Unfolds objects [] xs those) (sym same) v) in
-      w ∙ (λ k. old ++ flat_map (entry_line (h.1 k)) (p k)) ∙ sym z
-    where
-      endings : (option choice : List (List ℕ)) (x y : List ℕ) (ending end : ℕ) → ((option ≡ []) × (ending ≡ 10)) ⊎ ((option ≡ codes "-z" ∷ []) × (ending ≡ 0)) → ((choice ≡ []) × (end ≡ 10)) ⊎ ((choice ≡ codes "-z" ∷ []) × (end ≡ 0))
-          → option ++ x ∷ [] ≡ choice ++ y ∷ [] → (x ≡ y) × (ending ≡ end)
-      endings option choice x y ending end (inl e) (inl f) is = let h : x ∷ [] ≡ y ∷ [] = ap (λ o. o ++ x ∷ []) (sym e.0) ∙ is ∙ ap (λ o. o ++ y ∷ []) f.0 in let g : x ≡ y = cc in (g, e.1 ∙ sym f.1)
-      endings option choice x y ending end (inr e) (inr f) is = let h : codes "-z" ∷ x ∷ [] ≡ codes "-z" ∷ y ∷ [] = ap (λ o. o ++ x ∷ []) (sym e.0) ∙ is ∙ ap (λ o. o ++ y ∷ []) f.0 in let g : x ≡ y = cc in (g, e.1 ∙ sym f.1)
-      endings option choice x y ending end (inl e) (inr f) is = let h : x ∷ [] ≡ codes "-z" ∷ y ∷ [] = ap (λ o. o ++ x ∷ []) (sym e.0) ∙ is ∙ ap (λ o. o ++ y ∷ []) f.0 in let l : 1 ≡ 2 = ap length h in absurd (omega (arith, l))
-      endings option choice x y ending end (inr e) (inl f) is = let h : codes "-z" ∷ x ∷ [] ≡ y ∷ [] = ap (λ o. o ++ x ∷ []) (sym e.0) ∙ is ∙ ap (λ o. o ++ y ∷ []) f.0 in let l : 2 ≡ 1 = ap length h in absurd (omega (arith, l))
+      w ∙ (λ k. old ++ flat_map (entry_line (h.1 k)) (allowed (l.0 k) (p k))) ∙ sym z
 
   pub begun_of : (asked words : List (List ℕ)) → HasBegun read rows parents time (Some old) (Some a) asked → Other words → asked ≡ words → (left : List ℕ) × (b ≡ a ++ left)
   begun_of asked words (ids, l, w) (commits others m v) is =
@@ -566,7 +591,7 @@ module _ (read objects : Objects) (rows more : List Row) (parents : ObjectId →
   begun_of asked words (ids, l, w) (contains are some there keeps v) is = absurd (not_listed (codes "contains") _ asked ids false read rows (inr (omega arith)) l is)
   begun_of asked words (ids, l, w) (containing are some there keeps v) is = absurd (not_listed (codes "containing") _ asked ids false read rows (inr (omega arith)) l is)
   begun_of asked words (ids, l, w) (bases those are some there exact rising v) is = absurd (not_listed (codes "merge-base") _ asked ids false read rows (inr (omega arith)) l is)
-  begun_of asked words (ids, l, w) (files option x ends spells t u v) is = absurd (not_listed (codes "files") _ asked ids false read rows (inl refl) l is)
+  begun_of asked words (ids, l, w) (files limit bound option x within ends spells t u v) is = absurd (not_listed (codes "files") _ asked ids false read rows (inl refl) l is)
 
 begun_or_cut : (read objects : Objects) (rows others : List Row) (parents : ObjectId → List ObjectId) (time : ObjectId → ℤ) (words : List (List ℕ)) (old a b : List ℕ) → (Clash read objects → ⊥)
     → Serves objects others parents time (Some old) (Some b) words → HasBegun read rows parents time (Some old) (Some a) words ⊎ IsCutOff read rows parents time (Some old) (Some a) words

@@ -27,7 +27,7 @@ module _ (objects : Objects) (rows : List Row) (words : List (List ℕ)) (old : 
   grown parents time b asked (contains are some there keeps w) = (_, w)
   grown parents time b asked (containing are some there keeps w) = (_, w)
   grown parents time b asked (bases those are some there exact rising w) = (_, w)
-  grown parents time b asked (files option x ends spells t u w) = (_, w)
+  grown parents time b asked (files limit bound option x within ends spells t u w) = (_, w)
 
 -- What is given is one thing: the objects, id by id, and the rows.
 abbrev pub IsOne : (Objects → List Row → Type 0) → Type 0

@@ -139,7 +139,7 @@ module _ (objects : Objects) (nothing : (i : ObjectId) → objects i ≡ None) w
   refused asked out is (contains are some there keeps w) = let h : codes "contains" ≡ codes "newest" = cc in let l : 8 ≡ 6 = ap length h in omega (arith, l)
   refused asked out is (containing are some there keeps w) = let h : codes "containing" ≡ codes "newest" = cc in let l : 10 ≡ 6 = ap length h in omega (arith, l)
   refused asked out is (bases those are some there exact rising w) = let h : codes "merge-base" ≡ codes "newest" = cc in let l : 10 ≡ 6 = ap length h in omega (arith, l)
-  refused asked out is (files option a ends spells tree unfolds w) = let h : codes "files" ≡ codes "newest" = cc in let l : 5 ≡ 6 = ap length h in omega (arith, l)
+  refused asked out is (files limit bound option a within ends spells tree unfolds w) = let h : codes "files" ≡ codes "newest" = cc in let l : 5 ≡ 6 = ap length h in omega (arith, l)
   refused asked out is (commits bytes (lists {by = by} option more c ids named chooses some follows there begins allows ended may is_written) w) =
       let name : by ≡ codes "newest" = cc in
       let rest : option ++ more ≡ codes "--since" ∷ codes "3" ∷ tip ∷ [] = cc in

@@ -112,12 +112,20 @@ module _ (by n word : List ℕ) (more : List (List ℕ)) (short : length word < 
     not_served old new asked is (bases {words = words} {one = one} {others = others} those are some there exact rising appends) =
         let rest : words ≡ codes "-n" ∷ n ∷ word ∷ more = cc in
         no_short_tip (codes "-n") (n ∷ word ∷ more) (one ∷ others) [] (omega arith) (subst (λ x. AreTips x (one ∷ others) []) rest are)
-    not_served old new asked is (files option a (inl (none, ends)) spells tree unfolds appends) =
-        let asked_too : codes "files" ∷ (a ∷ []) ≡ Asked = ap (λ o. codes "files" ∷ (o ++ a ∷ [])) (sym none) ∙ is in
+    not_served old new asked is (files None bound option a none (inl e) spells tree unfolds appends) =
+        let asked_too : codes "files" ∷ a ∷ [] ≡ Asked = (λ k. codes "files" ∷ (sym none k ++ (sym e.0 k ++ a ∷ []))) ∙ is in
         cc
-    not_served old new asked is (files option a (inr (zero_ends, ends)) spells tree unfolds appends) =
-        let asked_too : codes "files" ∷ codes "-z" ∷ a ∷ [] ≡ Asked = ap (λ o. codes "files" ∷ (o ++ a ∷ [])) (sym zero_ends) ∙ is in
+    not_served old new asked is (files None bound option a none (inr e) spells tree unfolds appends) =
+        let asked_too : codes "files" ∷ codes "-z" ∷ a ∷ [] ≡ Asked = (λ k. codes "files" ∷ (sym none k ++ (sym e.0 k ++ a ∷ []))) ∙ is in
         cc
+    not_served old new asked is (files (Some n) bound option a {tree = i} (number, within, counts) (inl e) spells tree unfolds appends) =
+        let asked_too : codes "files" ∷ codes "-n" ∷ number ∷ a ∷ [] ≡ Asked = (λ k. codes "files" ∷ (sym within k ++ (sym e.0 k ++ a ∷ []))) ∙ is in
+        let same : a ≡ word = cc in
+        omega (arith, short, wide i, spells.0, ap length same)
+    not_served old new asked is (files (Some n) bound option a (number, within, counts) (inr e) spells tree unfolds appends) =
+        let asked_too : codes "files" ∷ codes "-n" ∷ number ∷ codes "-z" ∷ a ∷ [] ≡ Asked = (λ k. codes "files" ∷ (sym within k ++ (sym e.0 k ++ a ∷ []))) ∙ is in
+        let head : codes "-z" ≡ word = cc in
+        newlines (sym head)
 
   nothing_behind_a_limit : {E : Type 0} (writer_failed : E) (AreGiven : Objects → List Row → Type 0) (old new : Option (List ℕ)) → Promises writer_failed Asked AreGiven old (Ok tt) new → ⊥
   nothing_behind_a_limit writer_failed AreGiven old new (objects, rows, given, agree, right) =

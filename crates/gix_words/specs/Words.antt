@@ -15,6 +15,7 @@ use Rattle.gix_words.specs.declared.fault.Fault.TheVariants as fault
 use Rattle.gix_words.specs.declared.words.Command.{Command}
 use Rattle.gix_words.specs.declared.words.Command.TheVariants as command
 use Rattle.gix_words.specs.declared.words.Chosen.{Chosen}
+use Rattle.gix_words.specs.declared.words.EntryLines.{EntryLines}
 use Rattle.gix_words.specs.declared.words.Form.{Form}
 use Rattle.gix_words.specs.declared.words.Form.TheVariants as form
 use Rattle.gix_words.specs.declared.words.Merges.{Merges}
@@ -27,8 +28,8 @@ use Rattle.gix_words.specs.declared.words.Shown.{Shown}
 pub data Request : Type 0 where
   -- the commits that the tips reach and the hidden ones don't, in an order, and what is written of them
   Commits : (order : Order) (shown : Shown) (tips hidden : List ObjectId) → Request
-  -- the entries of the tree of this id, and of the trees in it, each with this byte behind it
-  Files : (ending : ℕ) (tree : ObjectId) → Request
+  -- the entries of the tree of this id, and of the trees in it, and what is written of them
+  Files : (shown : EntryLines) (tree : ObjectId) → Request
   -- how many commits the one reaches and the other doesn't, and the other way round
   Ahead : (one other : ObjectId) → Request
   -- those of the ids that the tip reaches
@@ -40,7 +41,7 @@ pub data Request : Type 0 where
 
 abbrev pub request_of_command : Command → Request
 request_of_command (command.Commits order shown tips hidden) = Commits order shown tips.items hidden.items
-request_of_command (command.Files ending tree) = Files ending tree
+request_of_command (command.Files shown tree) = Files shown tree
 request_of_command (command.Ahead one other) = Ahead one other
 request_of_command (command.Contained tip ids) = Contained tip ids.items
 request_of_command (command.Containing target tips) = Containing target tips.items
@@ -135,9 +136,9 @@ by_cutoff seconds (Topo by) = None
 abbrev pub number_in : ℕ → List ℕ → Option ℕ
 number_in most digits = if nat_lt 0 (length digits) && nat_le (length digits) most then digits_behind 0 digits else None
 
-abbrev pub files_from : (ending n : ℕ) → Result ObjectId HexError → Result Request Fault
-files_from ending n (Ok tree) = Ok (Files ending tree)
-files_from ending n (Err e) = Err (fault.Id n)
+abbrev pub files_from : EntryLines → ℕ → Result ObjectId HexError → Result Request Fault
+files_from shown n (Ok tree) = Ok (Files shown tree)
+files_from shown n (Err e) = Err (fault.Id n)
 
 -- all that is listed, one a line
 abbrev pub all_lines : Shown
@@ -286,15 +287,30 @@ in_order_of by (option ∷ words) =
     else listed_of by 2 (option ∷ words)
 
 -- one id, which is word n
-abbrev pub file_of : (ending n : ℕ) → List ℕ → Result Request Fault
-file_of ending n id = if begins_with_sign id then Err fault.Usage else files_from ending n (id_from_hex id)
+abbrev pub file_of : EntryLines → ℕ → List ℕ → Result Request Fault
+file_of shown n id = if begins_with_sign id then Err fault.Usage else files_from shown n (id_from_hex id)
 
--- one id, and maybe `-z` before it
+-- one id, and maybe `-z` before it; the first of these words is word n
+abbrev pub ended_files_of : (limit : Option ℕ) (n : ℕ) → List (List ℕ) → Result Request Fault
+ended_files_of limit n [] = Err fault.Usage
+ended_files_of limit n (id ∷ []) = file_of (record { limit = limit; ending = 10 }) n id
+ended_files_of limit n (option ∷ id ∷ []) =
+    if bytes_eq option (codes "-z") then file_of (record { limit = limit; ending = 0 }) (n + 1) id else Err fault.Usage
+ended_files_of limit n (option ∷ id ∷ next ∷ ids) = Err fault.Usage
+
+abbrev pub files_by : Option ℕ → List (List ℕ) → Result Request Fault
+files_by (Some limit) words = ended_files_of (Some limit) 4 words
+files_by None words = Err fault.Usage
+
+-- behind `-n`
+abbrev pub limited_files_of : List (List ℕ) → Result Request Fault
+limited_files_of [] = Err fault.Usage
+limited_files_of (number ∷ words) = files_by (number_in 9 number) words
+
+-- one id, and before it maybe `-n` and a limit, and maybe `-z`
 abbrev pub files_of : List (List ℕ) → Result Request Fault
 files_of [] = Err fault.Usage
-files_of (id ∷ []) = file_of 10 2 id
-files_of (option ∷ id ∷ []) = if bytes_eq option (codes "-z") then file_of 0 3 id else Err fault.Usage
-files_of (option ∷ id ∷ next ∷ ids) = Err fault.Usage
+files_of (option ∷ words) = if bytes_eq option (codes "-n") then limited_files_of words else ended_files_of None 2 (option ∷ words)
 
 abbrev pub ahead_from : Result ObjectId HexError → Result ObjectId HexError → Result Request Fault
 ahead_from (Ok one) (Ok other) = Ok (Ahead one other)

@@ -7,4 +7,4 @@ mod fault;
 mod words;
 
 pub use fault::Fault;
-pub use words::{Command, Form, Line, Merges, Order, Shown, read_command};
+pub use words::{Command, EntryLines, Form, Line, Merges, Order, Shown, read_command};

@@ -1,7 +1,7 @@
 //! The words of a command.
 ghost use Rattle.std.specs.Prelude.{◌≡◌, ◌≤◌, IfSome, map, string_bytes};
 ghost use Rattle.std.specs.List.{list_all};
-ghost use Rattle.gix_words.specs.Words.{Bases, Contained, Containing, Gives, Tells, AddsId, begins_with_caret, begins_with_dash, begins_with_sign, number_in, request_of_command, request_of, order_named, by_first_parents, by_cutoff, ids_from, plain_of, ended_of, named_of, timed_of, asked_by, until_of, until_from, merges_of, no_merges_of, with_merges, with_time, skipped_of, skip_from, limited_of, limit_from, formed_of, listed_of, since_of, in_order_of, file_of, files_of, ahead_of, is_shown, several_among, several_of, several_in, asked};
+ghost use Rattle.gix_words.specs.Words.{Bases, Contained, Containing, Gives, Tells, AddsId, begins_with_caret, begins_with_dash, begins_with_sign, number_in, request_of_command, request_of, order_named, by_first_parents, by_cutoff, ids_from, plain_of, ended_of, named_of, timed_of, asked_by, until_of, until_from, merges_of, no_merges_of, with_merges, with_time, skipped_of, skip_from, limited_of, limit_from, formed_of, listed_of, since_of, in_order_of, file_of, ended_files_of, limited_files_of, files_of, ahead_of, is_shown, several_among, several_of, several_in, asked};
 
 use crate::fault::Fault;
 use gix_hash::ObjectId;
@@ -68,6 +68,15 @@ pub struct Shown {
     pub line: Line,
 }
 
+/// What is written of the entries of a tree.
+#[derive(Clone, Copy)]
+pub struct EntryLines {
+    /// How many lines at most.
+    pub limit: Option<u64>,
+    /// The byte at the end of each.
+    pub ending: u8,
+}
+
 /// What is written of a list of commits, and the ids of its tips and of the commits that are hidden.
 #[derive(Drop)]
 pub struct Chosen {
@@ -86,9 +95,9 @@ pub enum Command {
         tips: Vec<ObjectId>,
         hidden: Vec<ObjectId>,
     },
-    /// The entries of the tree of this id, and of the trees in it, each with a byte behind it.
+    /// The entries of the tree of this id, and of the trees in it, and what is written of them.
     Files {
-        ending: u8,
+        shown: EntryLines,
         tree: ObjectId,
     },
     /// How many commits the one reaches and the other doesn't, and how many the other reaches and the one doesn't.
@@ -114,7 +123,7 @@ pub enum Command {
 }
 
 /// The command that the words are: `breadth`, `newest`, `oldest`, `topo` or `date`, maybe options, ids of tips, one at least, and ids of
-/// commits to be hidden, each after a `^`; or `files` and one id; or `ahead` and two ids; or `contains`, `containing` or `merge-base` and two
+/// commits to be hidden, each after a `^`; or `files`, maybe `-n` and a limit, maybe `-z`, and one id; or `ahead` and two ids; or `contains`, `containing` or `merge-base` and two
 /// ids at least. The options come in this order, each at most once: `--first-parent` for `breadth` or `--since` and a time for `newest` and `oldest`,
 /// `--until` and a time, `--merges` or `--no-merges`, `--skip` and a number, `-n` and a limit, `--count` or `--reverse`,
 /// `--timestamp`, `--parents`, `-z`. An id is 40 or 64 hex digits, a time 1 to 10 decimal digits, another number 1 to 9.
@@ -526,26 +535,58 @@ fn chosen_ids(alloc: Global, ids: &[String], number: usize) -> Result<Chosen, Fa
     })
 }
 
-/// The tree of this id, which must be alone behind `-z`, or without it.
-fn files(ids: &[String]) -> Result<Command, Fault>
-    ensures { Tells request_of_command result (files_of (map string_bytes ids.now)) }
+/// The tree that the words behind `files` ask for: maybe `-n` and a limit, maybe `-z`, and an id.
+fn files(words: &[String]) -> Result<Command, Fault>
+    ensures { Tells request_of_command result (files_of (map string_bytes words.now)) }
+{
+    let [option, behind @ ..] = words else {
+        return Err(Fault::Usage);
+    };
+    if option.as_str() == "-n" {
+        return limited_files(behind);
+    }
+    ended_files(None, words, 2)
+}
+
+/// The tree that the words behind `files -n` ask for.
+fn limited_files(words: &[String]) -> Result<Command, Fault>
+    ensures { Tells request_of_command result (limited_files_of (map string_bytes words.now)) }
+{
+    let [number, behind @ ..] = words else {
+        return Err(Fault::Usage);
+    };
+    let Some(limit) = number_in(number, 9) else {
+        return Err(Fault::Usage);
+    };
+    ended_files(Some(limit), behind, 4)
+}
+
+/// The tree of this id, which must be alone behind `-z`, or without it. The first of these words is the word of this number.
+fn ended_files(limit: Option<u64>, ids: &[String], number: usize) -> Result<Command, Fault>
+    requires few { number ≤ 4 }
+    ensures { Tells request_of_command result (ended_files_of limit number (map string_bytes ids.now)) }
 {
     match ids {
-        [tree] => file(b'\n', tree, 2),
-        [option, tree] if option.as_str() == "-z" => file(0, tree, 3),
+        [tree] => {
+            let ending = b'\n';
+            file(EntryLines { limit, ending }, tree, number)
+        }
+        [option, tree] if option.as_str() == "-z" => {
+            file(EntryLines { limit, ending: 0 }, tree, number + 1)
+        }
         _ => Err(Fault::Usage),
     }
 }
 
 /// The tree of this id, which is the word of this number.
-fn file(ending: u8, tree: &String, number: usize) -> Result<Command, Fault>
-    ensures { Tells request_of_command result (file_of ending number (string_bytes tree.now)) }
+fn file(shown: EntryLines, tree: &String, number: usize) -> Result<Command, Fault>
+    ensures { Tells request_of_command result (file_of shown number (string_bytes tree.now)) }
 {
     if begins_with_sign(tree) {
         return Err(Fault::Usage);
     }
     match ObjectId::from_hex(tree.as_bytes()) {
-        Ok(tree) => Ok(Command::Files { ending, tree }),
+        Ok(tree) => Ok(Command::Files { shown, tree }),
         Err(_) => Err(Fault::Id(number)),
     }
 }
