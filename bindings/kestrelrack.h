@@ -65,8 +65,8 @@ struct kestrelrack_answer {
  *
  * words    The command and its ids. "breadth", "newest", "oldest", "topo" and "date" make a list. Ids of tips follow them, one at least,
  *          and ids of commits to be hidden, each after a ^. "ahead" has two ids, and "contains", "containing" and "merge-base" have two at
- *          least. "files" has the id of a tree. An id is 40 or 64 hex digits. One space or one newline is between two words, and none at
- *          either end.
+ *          least. "files" has the id of a tree, and before it maybe "-n" and a number of 1 to 9 digits, and maybe "-z". An id is 40 or 64
+ *          hex digits. One space or one newline is between two words, and none at either end.
  *          Options of lists come before the ids, in this order, each at most once. "breadth" may have "--first-parent". "newest" and
  *          "oldest" may have "--since" and a number of 1 to 10 digits. "--until" and such a number leaves out commits of a later time.
  *          "--merges" leaves out those of fewer than two parents, and "--no-merges" those of more than one. "--skip" and a number of 1 to 9

@@ -161,8 +161,8 @@ with a name that is empty or holds a slash.
   -C FOLDER    takes the repository of this folder, or of the nearest one above it that has one; no variable names another
   --git-dir FOLDER
                takes the folder that is called .git elsewhere
-  -n NUMBER    ends after so many lines, in the first five commands; a number has 1 to 9 digits. -n2, --max-count 2 and
-               --max-count=2 are the same as -n 2
+  -n NUMBER    ends after so many lines, in the first five commands and in files, which reads all trees; a number has 1 to 9
+               digits. -n2, --max-count 2 and --max-count=2 are the same as -n 2
   --skip NUMBER
                leaves out so many lines first, in the first five commands, and -n counts those behind them
   --merges     takes the commits of two parents and more alone, in the first five commands; --no-merges takes those of one and none

@@ -70,7 +70,8 @@ const CASES: &[(&str, &str)] = &[
         "--timestamp doesn't go with contains",
     ),
     ("-C . files --parents a", "--parents doesn't go with files"),
-    ("-C . files -n 1 HEAD", "-n doesn't go with files"),
+    ("-C . files -n 1 HEAD -z", ""),
+    ("-C . ahead -n 1 a b", "-n doesn't go with ahead"),
     (
         "-C . topo HEAD -- x",
         "paths aren't known: what follows the command are revisions",

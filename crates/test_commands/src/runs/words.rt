@@ -35,7 +35,12 @@ fn judges_the_words_first(rt: HostRuntime) -> Result<(), Fail> {
             (&["topo", "-n", "1", "#1", "zz"], "! bad id in word 5"),
             (&["topo", "-n"], "! usage"),
             (&["topo", "#1", "-n", "1"], "! bad id in word 3"),
-            (&["files", "-n", "1", "#1"], "! usage"),
+            (&["files", "-n", "#1"], "! usage"),
+            (&["files", "-n", "1"], "! usage"),
+            (&["files", "-n", "1000000000", "#1"], "! usage"),
+            (&["files", "-z", "-n", "1", "#1"], "! usage"),
+            (&["files", "-n", "1", "zz"], "! bad id in word 4"),
+            (&["files", "-n", "1", "-z", "zz"], "! bad id in word 5"),
             (&["breadth", "--first-parent"], "! usage"),
             (&["breadth", "--first-parent", "zz"], "! bad id in word 3"),
             (
