@@ -142,7 +142,7 @@ class Repository:
     def expected(self, words, input=""):
         """What git writes for these words of the program, and the status"""
         command, *rest = words
-        revisions = [word for word in rest if not word.startswith("-")] + input.split()
+        revisions = [word for before, word in zip(["", *rest], rest) if not word.startswith("-") and before != "-n"] + input.split()
         if command in WALKS:
             order = {"topo": ["--topo-order"], "date": ["--date-order"]}.get(command, [])
             rest = [{"--since": "--max-age", "--until": "--min-age"}.get(word, word) for word in rest if word != "--stdin"]
@@ -164,7 +164,8 @@ class Repository:
         if command == "resolve":
             return "\n".join(self.git("rev-parse", "--verify", "-q", f"{one}^{{commit}}") for one in revisions), 0
         listed = self.git("ls-tree", "-r", "-t", "-z", "--full-tree", *revisions, ends=False)
-        lines = re.sub(r"(?s)(\d+) \w+ ([0-9a-f]+)\t(.*?\0)", r"\1 \2 \3", listed)
+        most = int(rest[rest.index("-n") + 1]) if "-n" in rest else None
+        lines = "".join(f"{mode} {id} {path}" for mode, id, path in re.findall(r"(?s)(\d+) \w+ ([0-9a-f]+)\t(.*?\0)", listed)[:most])
         return lines if "-z" in rest else lines.replace("\0", "\n"), 0
 
     def case(self, line, *options, where=None, input="", label="", wanted=None, env=None, cwd=None):

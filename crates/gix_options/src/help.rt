@@ -161,8 +161,8 @@ with a name that is empty or holds a slash.
   -C FOLDER    takes the repository of this folder, or of the nearest one above it that has one; no variable names another
   --git-dir FOLDER
                takes the folder that is called .git elsewhere
-  -n NUMBER    ends after so many lines, in the first five commands; a number has 1 to 9 digits. -n2, --max-count 2 and
-               --max-count=2 are the same as -n 2
+  -n NUMBER    ends after so many lines, in the first five commands and in files, which reads all trees; a number has 1 to 9
+               digits. -n2, --max-count 2 and --max-count=2 are the same as -n 2
   --skip NUMBER
                leaves out so many lines first, in the first five commands, and -n counts those behind them
   --merges     takes the commits of two parents and more alone, in the first five commands; --no-merges takes those of one and none
@@ -174,7 +174,7 @@ with a name that is empty or holds a slash.
   --names      writes behind each id of contains and containing a space and the revision as it was given, or the name of
                the ref
   --first-parent
-               goes from each commit to its first parent alone, in breadth; what ^A excludes is reached by all parents
+               goes from each commit to its first parent alone, in breadth, topo and date; what ^A excludes is reached by all parents
   --since TIME leaves out the commits of an earlier time and what it would meet by them alone, in newest and oldest. The time
                is in seconds since 1970, of 1 to 10 digits, or a date, as 2024-05-01 for its midnight in UTC, or
                2024-05-01T12:00:00 with nothing or Z for UTC behind it or an offset as +02:00. --after TIME, --since=TIME

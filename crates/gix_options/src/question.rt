@@ -85,7 +85,6 @@ impl Options {
     /// An option that goes with lists of commits alone, if there is one.
     fn of_list(&self) -> Option<&'static str> {
         let given = [
-            (self.limit.is_some(), "-n"),
             (self.skip.is_some(), "--skip"),
             (self.until.is_some(), "--until"),
             (self.merges, "--merges"),
@@ -422,6 +421,10 @@ impl Arguments {
 
     /// Whether each option goes with the command.
     fn check_options(&self, name: Name) -> Result<(), Misuse> {
+        let is_list = name.is_list() || name == Name::Files;
+        if self.options.limit.is_some() && !is_list {
+            return Err(Misuse::option("-n", name));
+        }
         if !name.is_list() {
             if let Some(option) = self.options.of_list() {
                 return Err(Misuse::option(option, name));
@@ -433,13 +436,15 @@ impl Arguments {
         if self.options.counts && self.options.is_reversed {
             return Err(Misuse::Count);
         }
-        if self.options.by_first_parents && name != Name::Breadth {
+        if self.options.by_first_parents
+            && !matches!(name, Name::Breadth | Name::Topo | Name::Date)
+        {
             return Err(Misuse::option("--first-parent", name));
         }
         if self.options.since.is_some() && name != Name::Newest && name != Name::Oldest {
             return Err(Misuse::option("--since", name));
         }
-        if self.options.ends_in_zero && !name.is_list() && name != Name::Files {
+        if self.options.ends_in_zero && !is_list {
             return Err(Misuse::option("-z", name));
         }
         if self.options.gives_names && !matches!(name, Name::Contains | Name::Containing) {

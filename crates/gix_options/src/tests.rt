@@ -63,6 +63,8 @@ const CASES: &[(&str, &str)] = &[
         "-C . newest HEAD --first-parent",
         "--first-parent doesn't go with newest",
     ),
+    ("-C . topo HEAD --first-parent", ""),
+    ("-C . date --first-parent HEAD", ""),
     ("-C . topo -z --parents HEAD --timestamp", ""),
     ("-C . ahead -z a b", "-z doesn't go with ahead"),
     (
@@ -70,7 +72,8 @@ const CASES: &[(&str, &str)] = &[
         "--timestamp doesn't go with contains",
     ),
     ("-C . files --parents a", "--parents doesn't go with files"),
-    ("-C . files -n 1 HEAD", "-n doesn't go with files"),
+    ("-C . files -n 1 HEAD -z", ""),
+    ("-C . ahead -n 1 a b", "-n doesn't go with ahead"),
     (
         "-C . topo HEAD -- x",
         "paths aren't known: what follows the command are revisions",

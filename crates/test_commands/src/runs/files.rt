@@ -22,6 +22,16 @@ fn lists_the_files_of_a_tree(rt: HostRuntime) -> Result<(), Fail> {
                 &["files", "-z", "#a"],
                 "100644 #1 a\x00040000 #7 d\x00100644 #2 d/x\x00100644 #3 e\x00",
             ),
+            (&["files", "-n", "0", "#a"], ""),
+            (
+                &["files", "-n", "3", "#a"],
+                "100644 #1 a\n040000 #7 d\n100644 #2 d/x\n",
+            ),
+            (&["files", "-n", "1", "-z", "#a"], "100644 #1 a\x00"),
+            (
+                &["files", "-n", "5", "#a"],
+                "100644 #1 a\n040000 #7 d\n100644 #2 d/x\n100644 #3 e\n",
+            ),
         ],
     )
 }
@@ -72,7 +82,7 @@ fn a_tree_with_a_bad_name_has_no_lines(rt: HostRuntime) -> Result<(), Fail> {
         ],
         &[
             (&["files", "#a"], "! bad name in tree #a"),
-            (&["files", "-z", "#a"], "! bad name in tree #a"),
+            (&["files", "-n", "0", "-z", "#a"], "! bad name in tree #a"),
             (&["files", "#6"], "! bad name in tree #6"),
             (&["files", "#5"], "! bad name in tree #5"),
             (&["files", "#e"], "! bad name in tree #5"),
