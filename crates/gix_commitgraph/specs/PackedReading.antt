@@ -92,9 +92,9 @@ abbrev pub is_above : Option ObjectId → ObjectId → Bool
 is_above None i = true
 is_above (Some before) i = is_lt (id_cmp before i)
 
-abbrev pub with_row : GraphRow → Result (List GraphRow) Place → Result (List GraphRow) Place
+abbrev pub with_row : {E : Type 0} → GraphRow → Result (List GraphRow) E → Result (List GraphRow) E
 with_row row (Ok rows) = Ok (row ∷ rows)
-with_row row (Err p) = Err p
+with_row row (Err e) = Err e
 
 abbrev pub row_of_fields : Kind → List ℕ → List ParentPlace → GraphRow
 row_of_fields k bytes parents =

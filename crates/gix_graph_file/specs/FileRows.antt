@@ -6,7 +6,8 @@ use Rattle.gix_commitgraph.specs.declared.ParentPlace.{ParentPlace}
 use Rattle.gix_commitgraph.specs.declared.ParentPlace.TheVariants.{At, Fault}
 use Rattle.gix_hash.specs.Id.{id_len, id_of}
 use Rattle.gix_commitgraph.specs.Rows.{GraphRow}
-use Rattle.gix_commitgraph.specs.PackedReading.{word_at, words_of, is_above}
+use Rattle.gix_commitgraph.specs.Packed.{flag}
+use Rattle.gix_commitgraph.specs.PackedReading.{word_at, words_of, is_above, with_row}
 use Rattle.gix_graph_file.specs.declared.error.Error.{Error}
 use Rattle.gix_graph_file.specs.declared.error.Error.TheVariants as error
 use Rattle.gix_graph_file.specs.FileTable.{◌>>=◌, long_at, Parts, read_parts}
@@ -14,10 +15,6 @@ use Rattle.gix_graph_file.specs.FileTable.{◌>>=◌, long_at, Parts, read_parts
 -- the word where there is no parent
 abbrev pub no_parent : ℕ
 no_parent = 0x70000000
-
--- what is added to the last word of a list of parents, and to the number of its first word
-abbrev pub flag : ℕ
-flag = 0x80000000
 
 -- a parent among n rows: the row of this number, or none
 abbrev pub place_named : ℕ → ℕ → ParentPlace
@@ -62,10 +59,6 @@ parents_said n k first second words =
 abbrev pub row_said : Kind → List ℕ → List ℕ → List ℕ → List ParentPlace → GraphRow
 row_said k id tree numbers parents =
     record { id = id_of k id; tree = id_of k tree; parents = parents; generation = long_at 8 numbers / 2 ^ 34; time = pos (long_at 8 numbers % 2 ^ 34) }
-
-abbrev pub with_row : GraphRow → Result (List GraphRow) Error → Result (List GraphRow) Error
-with_row row (Ok rows) = Ok (row ∷ rows)
-with_row row (Err e) = Err e
 
 abbrev pub row_then : ℕ → (List ParentPlace → GraphRow) → Option Parents → (List ℕ → Result (List GraphRow) Error) → Result (List GraphRow) Error
 row_then r row None more = Err (error.Parents r)

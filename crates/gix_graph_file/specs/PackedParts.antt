@@ -8,14 +8,14 @@ use Rattle.gix_commitgraph.specs.declared.GraphError.{GraphError}
 use Rattle.gix_commitgraph.specs.declared.GraphError.TheVariants as refused
 use Rattle.gix_commitgraph.specs.declared.Place.TheVariants as place
 use Rattle.gix_hash.specs.Id.{id_len}
-use Rattle.gix_commitgraph.specs.Packed.{fault_word, layout_name, AreBytes}
+use Rattle.gix_commitgraph.specs.Packed.{fault_word, layout_name, AreBytes, flag}
 use Rattle.gix_commitgraph.specs.Packed as packed
 use Rattle.gix_commitgraph.specs.PackedReading.{word_at, words_of}
 use Rattle.gix_graph_file.specs.declared.error.Error.{Error}
 use Rattle.gix_graph_file.specs.declared.error.Error.TheVariants as error
 use Rattle.gix_graph_file.specs.declared.table.Layout.{Layout}
 use Rattle.gix_graph_file.specs.FileTable.{long_at, Parts, most_rows, most_words}
-use Rattle.gix_graph_file.specs.FileRows.{no_parent, flag}
+use Rattle.gix_graph_file.specs.FileRows.{no_parent}
 
 -- parts without where they lie in memory
 abbrev pub seen : Layout → Parts

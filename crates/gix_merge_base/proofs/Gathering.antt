@@ -10,7 +10,8 @@ use Rattle.gix_simple.specs.declared.Error.{Error as WalkError}
 use Rattle.gix_merge_base.specs.declared.Error.{Error}
 use Rattle.gix_merge_base.specs.declared.Error.TheVariants as error
 use Rattle.gix_merge_base.specs.Errors.{error_of_walk}
-use Rattle.gix_merge_base.specs.Inside.Steps.{given, Collects, named_by, GatherFails}
+use Rattle.gix_revwalk.specs.Infos.{given}
+use Rattle.gix_merge_base.specs.Inside.Steps.{Collects, named_by, GatherFails}
 use Rattle.gix_merge_base.proofs.NewAmong.{collects_one}
 use Rattle.gix_revwalk.specs.declared.Info.{Info}
 

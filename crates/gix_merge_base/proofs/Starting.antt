@@ -15,7 +15,7 @@ use Rattle.gix_object.specs.Object.{Objects}
 use Rattle.gix_commitgraph.specs.Rows.{GraphRow}
 use Rattle.gix_simple.specs.declared.Error.{Error as WalkError}
 use Rattle.gix_simple.specs.Building.{IsBuilt, made, hides, reads}
-use Rattle.gix_simple.specs.Laws.{IsNewWalk, GivesDifference, given_ids}
+use Rattle.gix_simple.specs.Laws.{IsNewWalk, GivesDifference}
 use Rattle.gix_simple.specs.Walk.{SimpleWalk, IsMade, Next}
 use Rattle.gix_simple.proofs.Difference.{faultless_difference, drawn_whole}
 use Rattle.gix_simple.proofs.MadeOfTips.{is_new_walk}
@@ -24,7 +24,8 @@ use Rattle.gix_merge_base.specs.declared.Error.{Error}
 use Rattle.gix_merge_base.specs.declared.Error.TheVariants as error
 use Rattle.gix_merge_base.specs.Bases.{FailsBy}
 use Rattle.gix_merge_base.specs.Errors.{error_of_walk}
-use Rattle.gix_merge_base.specs.Inside.Steps.{StartsFrom, Gathers, GatherFails, MeetsFirst, AreFirst, given}
+use Rattle.gix_revwalk.specs.Infos.{given, given_ids}
+use Rattle.gix_merge_base.specs.Inside.Steps.{StartsFrom, Gathers, GatherFails, MeetsFirst, AreFirst}
 use Rattle.gix_merge_base.proofs.FirstCommon.{are_first, given_by}
 use Rattle.gix_merge_base.proofs.Members.{new_from, new_within}
 use Rattle.gix_merge_base.proofs.Walked.{IsReady, IsFaultBelow, below_starts, have_parents, fault_below}
@@ -52,7 +53,7 @@ no_faults : (infos : List Info) (e : WalkError) → Contains (given infos) (Err 
 no_faults [] e c = no_member (Err e) c
 no_faults (info ∷ infos) e c = ⊎_elim (λ s. cc) (no_faults infos e) (Contains-cons_cases (Err e) (Ok info) (given infos) c)
 
-ids_are : (infos : List Info) → given_ids (given infos) ≡ given_by infos
+ids_are : (infos : List Info) → given_ids {E = WalkError} (given infos) ≡ given_by infos
 ids_are [] = refl
 ids_are (info ∷ infos) = ap (λ xs. info.id ∷ xs) (ids_are infos)
 

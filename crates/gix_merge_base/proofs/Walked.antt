@@ -30,7 +30,7 @@ use Rattle.gix_simple.proofs.Moves.{Asking, rests, asks, asking}
 use Rattle.gix_simple.proofs.Difference.{whole_from}
 use Rattle.gix_simple.proofs.Treated.{best_moved}
 use Rattle.gix_merge_base.specs.Errors.{error_of, error_of_walk}
-use Rattle.gix_merge_base.specs.Inside.Steps.{given as all_given}
+use Rattle.gix_revwalk.specs.Infos.{given as all_given}
 use Rattle.gix_revwalk.specs.declared.Info.{Info}
 use Rattle.gix_revwalk.specs.declared.Parents.TheVariants as mode
 use Rattle.gix_revwalk.specs.Agreeing.{IsAgreeing}

@@ -9,7 +9,8 @@ ghost use Rattle.std.specs.List.Sorted.{IsSorted};
 ghost use Rattle.gix_hash.specs.Id.{id_cmp};
 ghost use Rattle.gix_merge_base.specs.declared.Error.TheVariants as error;
 ghost use Rattle.gix_merge_base.specs.Bases.{FindsBases, FailsBy};
-ghost use Rattle.gix_merge_base.specs.Inside.Steps.{StartsFrom, Gathers, GatherFails, MeetsFirst, ReadsParents, ReadFails, OthersOf, ReadsOthers, ReadFailsAmong, Collects, accepts_all};
+ghost use Rattle.gix_revwalk.specs.Asking.{accepts_all};
+ghost use Rattle.gix_merge_base.specs.Inside.Steps.{StartsFrom, Gathers, GatherFails, MeetsFirst, ReadsParents, ReadFails, OthersOf, ReadsOthers, ReadFailsAmong, Collects};
 ghost use Rattle.gix_revwalk.specs.Agreeing.{rows_in, rows_of};
 ghost use Rattle.gix_revwalk.specs.Ids.{new_ids};
 

@@ -6,7 +6,8 @@ use Rattle.std.proofs.lemmas.Bool.{eqb-false, cond-false, cond-true}
 use Rattle.std.proofs.lemmas.Option.{some_pair_parts}
 use Rattle.std.proofs.lemmas.List.{get_or_at, drop_more}
 use Rattle.std.proofs.lemmas.List.Elements.{recursion_from_All, All-from_get_or}
-use Rattle.gix_records.specs.RecordFront.{with_byte, split_at_byte}
+use Rattle.gix_object.specs.CommitItems.{with_byte}
+use Rattle.gix_records.specs.RecordFront.{split_at_byte}
 
 -- the byte isn't before the place, and is there
 pub split_found : (byte : ℕ) (bytes : List ℕ) (r : List ℕ × List ℕ) → split_at_byte byte bytes ≡ Some r → AllByRecursion (λ b. b ≢ byte) r.0 × (bytes ≡ r.0 ++ byte ∷ r.1)

@@ -2,16 +2,13 @@
 use Rattle.std.specs.Prelude.{ℕ, ◌==◌, List, [], ◌∷◌, take, drop, Option, Some, None, if◌then◌else◌, codes}
 use Rattle.std.specs.Result.{result_ok}
 use Rattle.std.specs.Str.{bytes_eq}
+use Rattle.gix_object.specs.CommitItems.{with_byte}
 use Rattle.gix_object.specs.declared.Kind.{Kind}
 use Rattle.gix_object.specs.declared.Kind.TheVariants as kind
 use Rattle.gix_hash.specs.Id.{id_from_hex}
 use Rattle.gix_records.specs.Decimal.{decimal}
 use Rattle.gix_records.specs.Records.{Record}
 use Rattle.gix_records.specs.declared.front.Front.{Front}
-
-abbrev pub with_byte : ℕ → Option (List ℕ × List ℕ) → Option (List ℕ × List ℕ)
-with_byte b None = None
-with_byte b (Some r) = Some (b ∷ r.0, r.1)
 
 -- the text before the first such byte, and the text after it
 abbrev pub split_at_byte : ℕ → List ℕ → Option (List ℕ × List ℕ)

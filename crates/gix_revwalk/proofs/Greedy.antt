@@ -1,5 +1,5 @@
 -- Where it is decided which new id of finitely many comes next, there is a list to its end.
-use Rattle.std.proofs.Common.{◌≡◌, ◌≤◌, ◌<◌, ℕ, zero, suc, List, [], ◌∷◌, ◌++◌, length, false, true, ◌||◌, Option, Some, None, MatchOption, ap, ◌∙◌, arith, le_refl}
+use Rattle.std.proofs.Common.{◌≡◌, ◌<◌, ℕ, zero, suc, List, [], ◌∷◌, ◌++◌, length, false, true, ◌||◌, Option, Some, None, MatchOption, ap, ◌∙◌, arith, le_refl}
 use Rattle.std.proofs.Math.Bool.{or_comm}
 use Rattle.gix_revwalk.proofs.Common.{ObjectId, IsBeginningBy, IsListBy, is_same, is_among, among-append, among-one}
 use Rattle.gix_revwalk.proofs.Beginnings.{begins_empty, begins_more}

@@ -1,5 +1,5 @@
 -- The ids of a list that are new, each at its first place: what is pending of all that was named.
-use Rattle.std.proofs.Common.{ℕ, suc, ◌≡◌, ◌+◌, List, [], ◌∷◌, ◌++◌, Bool, true, false, not, cond, ◌&&◌, ◌||◌, filter, find, Some, None, IsPermutation, length, Contains, ◌≤◌, refl, sym, ap, subst, ◌∙◌, arith, append_assoc, append-nil}
+use Rattle.std.proofs.Common.{ℕ, suc, ◌≡◌, ◌+◌, List, [], ◌∷◌, ◌++◌, Bool, true, false, not, cond, ◌&&◌, ◌||◌, filter, find, Some, IsPermutation, length, Contains, ◌≤◌, refl, sym, ap, subst, ◌∙◌, arith, append_assoc, append-nil}
 use Rattle.std.proofs.Common.{⊎_elim, true≢false, flat_map, sum_by}
 use Rattle.std.proofs.lemmas.Bool.{false≢true, or_right, or_left, or_from, or_cases, true_from_ne_false, false_from_ne_true, not_from_false}
 use Rattle.std.proofs.lemmas.List.Concat.{flat_map-append}
@@ -73,14 +73,6 @@ fresh_head s (x ∷ xs) i rest e = go (fresh_head s xs i rest) (s x) refl e
     go : (fresh s xs ≡ i ∷ rest → IsHead s xs i rest) → (b : Bool) → s x ≡ b → cond b (fresh s xs) (x ∷ fresh (λ j. is_same j x || s j) xs) ≡ i ∷ rest → IsHead s (x ∷ xs) i rest
     go r true o e = old_case (r e) o
     go r false o e = new_case o (cc) (cc)
-
-pub fresh_none : (s : ObjectId → Bool) (xs : List ObjectId) → fresh s xs ≡ [] → find (λ j. not (s j)) xs ≡ None
-fresh_none s [] e = refl
-fresh_none s (x ∷ xs) e = go (fresh_none s xs) (s x) refl e
-  where
-    go : (fresh s xs ≡ [] → find (λ j. not (s j)) xs ≡ None) → (b : Bool) → s x ≡ b → cond b (fresh s xs) (x ∷ fresh (λ j. is_same j x || s j) xs) ≡ [] → find (λ j. not (s j)) (x ∷ xs) ≡ None
-    go r true o e = ap (λ b. cond (not b) (Some x) (find (λ j. not (s j)) xs)) o ∙ r e
-    go r false o e = cc
 
 pub times-append : (i : ObjectId) (xs ys : List ObjectId) → times i (xs ++ ys) ≡ times i xs + times i ys
 times-append i [] ys = let e : times i ys ≡ 0 + times i ys = omega arith in e

@@ -1,9 +1,9 @@
 -- Worked examples of the definitions.
-use Rattle.std.specs.Prelude.{◌≡◌, ℕ, ◌*◌, List, [], ◌∷◌, replicate, take, slice_get, refl, if◌then◌else◌}
+use Rattle.std.specs.Prelude.{◌≡◌, ℕ, ◌*◌, List, [], ◌∷◌, None, replicate, take, refl, if◌then◌else◌}
 use Rattle.gix_hash.specs.declared.ObjectId.{ObjectId}
 use Rattle.gix_hash.specs.declared.ObjectId.TheVariants as id
 use Rattle.gix_hash.specs.Id.{is_same}
-use Rattle.gix_revwalk.specs.BreadthOrder.{first_new, named_by}
+use Rattle.gix_revwalk.specs.BreadthOrder.{first_new, IsFirstNew, named_by}
 
 -- the id of one digit, forty times
 abbrev pub n : ℕ → ObjectId
@@ -23,8 +23,9 @@ sample_in (entry ∷ entries) i = if is_same i (n entry.0) then ids entry.1 else
 abbrev pub breadth : List ObjectId
 breadth = ids (8 ∷ 6 ∷ 7 ∷ 5 ∷ 4 ∷ 3 ∷ 2 ∷ 1 ∷ [])
 
-pub sample_breadth : slice_get breadth 4 ≡ first_new (named_by (sample_in history) (n 8 ∷ n 8 ∷ []) (take 4 breadth)) (take 4 breadth)
+pub sample_breadth : IsFirstNew (sample_in history) (n 8 ∷ n 8 ∷ []) (take 4 breadth) (n 4)
 sample_breadth = refl
 
-pub sample_end : slice_get breadth 8 ≡ first_new (named_by (sample_in history) (n 8 ∷ n 8 ∷ []) (take 8 breadth)) (take 8 breadth)
+-- behind all of them nothing comes next
+pub sample_end : first_new (named_by (sample_in history) (n 8 ∷ n 8 ∷ []) breadth) breadth ≡ None
 sample_end = refl

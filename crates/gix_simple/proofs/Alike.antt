@@ -1,6 +1,6 @@
 -- Two walks that were built by the same calls walk the same commits in the same order.
-use Rattle.std.proofs.Common.{◌≡◌, ◌↔◌, ℤ, List, [], filter, Bool, false, not, Option, Some, None, Result, Contains, refl, sym, ap, subst, ◌∙◌, true≢false}
-use Rattle.gix_simple.proofs.Common.{transport, AllZip, CommitTimeOrder, IsGiven, false_from_ne_true, ObjectId, Objects, Info, Error, parents_of, time_of, Reaches, Tells, SimpleWalk, time_order, cutoff, is_older, ids_of, AnswersBy, IsWholeRun, IsListBy, IsNextKept, IsNextOne, GivesInOrder}
+use Rattle.std.proofs.Common.{◌≡◌, ◌↔◌, ℤ, List, [], filter, Bool, false, not, Option, Result, Contains, refl, sym, ap, subst, ◌∙◌, true≢false}
+use Rattle.gix_simple.proofs.Common.{transport, AllZip, IsGiven, false_from_ne_true, ObjectId, Objects, Info, Error, parents_of, time_of, Reaches, Tells, SimpleWalk, time_order, cutoff, is_older, ids_of, AnswersBy, IsWholeRun, IsListBy, IsNextKept, IsNextOne, GivesInOrder}
 use Rattle.gix_simple.proofs.Common.{kept_parents, next_of, starts_of}
 use Rattle.gix_revwalk.specs.declared.Parents.TheVariants as mode
 use Rattle.gix_simple.specs.Runs.{AreAlike, GiveTheSame, GivesUnhidden, AreBuiltAlike, made, breadth_first, by_time, walks, hides, reads}

@@ -31,7 +31,7 @@ pub use Rattle.gix_revwalk.specs.declared.Parents.{Parents}
 pub use Rattle.gix_hash.proofs.Ids.Membership.{among-append, among-one, among_from, among_is, Contains-cons_cases, Contains-here, Contains-there, id_apart, id_total, no_member, same_from, same_is, same_itself}
 pub use Rattle.gix_hash.proofs.Lists.{filter_all, filter_within, only_member}
 pub use Rattle.gix_paint.proofs.Invariant.{own_history}
-pub use Rattle.gix_revwalk.proofs.NewIds.{among-filter, among_flat, among_times, fresh, fresh-append, fresh_agree, fresh_head, fresh_none, IsHead, named-push, new_less, times-append, times-fresh, times_among, times_is_among, times_moved}
+pub use Rattle.gix_revwalk.proofs.NewIds.{among-filter, among_flat, among_times, fresh, fresh-append, fresh_agree, fresh_head, IsHead, named-push, new_less, times-append, times-fresh, times_among, times_is_among, times_moved}
 pub use Rattle.gix_revwalk.proofs.NewIds.{times_none, times_once}
 pub use Rattle.gix_revwalk.proofs.ReadsWhole.{corrupt_row, no_fault, parent_has_row, row_parents, row_says_time, row_stands, scan_is, walked_within}
 pub use Rattle.gix_simple.specs.Building.{FailsAtTip, IsBuilt, IsSortedByTime, IsSortedIn, IsTipFault, IsUncut, outdated, recent, SortsAll, SortsIn, timed}

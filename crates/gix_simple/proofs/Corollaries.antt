@@ -1,10 +1,10 @@
 -- The laws that follow from the theorem over whole walks.
 use Rattle.std.proofs.Common.{◌≡◌, ◌↔◌, ◌≤ℤ◌, ℕ, ℤ, List, [], ◌∷◌, ◌++◌, filter, Bool, true, false, not, ◌&&◌, Option, Some, None, Result, Ok, Err, Contains, refl, sym, ap, subst, ⊎_elim}
 use Rattle.std.proofs.Common.{◌∙◌, arith, true≢false}
-use Rattle.gix_simple.proofs.Common.{AllZip, Contains-append_left, Contains-append_right, Contains-append_cases, false≢true, and_parts, and_from, not_from_false, not-true, false_from_ne_true, ObjectId, Objects, GraphRow, row_of, Parents}
+use Rattle.gix_simple.proofs.Common.{AllZip, Contains-append_left, Contains-append_cases, false≢true, and_parts, and_from, not_from_false, not-true, false_from_ne_true, ObjectId, Objects, GraphRow, row_of, Parents}
 use Rattle.gix_simple.proofs.Common.{Info, CommitTimeOrder, Error, named_by, Reaches, start, step, Tells, IsAgreeing, time_of, parents_of, walked_parents, SimpleWalk, time_order, cutoff, is_older, ids_of, AreDistinct}
 use Rattle.gix_simple.proofs.Common.{IsGiven, IsBeginningBy, IsListBy, IsFirstNew, IsNextOne, GivesInOrder, GivesBeginning, IsWholeRun, IsBegunRun, starts_of, next_of, is_kept, kept_parents, accepted_parents, recent_parents, IsPlain, IsPlainRun, filter_all}
-use Rattle.gix_simple.proofs.Common.{among_from, among_is, Contains-here, Contains-cons_cases, no_member, among-filter, named-push, transport, and-true, walked_within}
+use Rattle.gix_simple.proofs.Common.{among_from, among_is, no_member, among-filter, named-push, transport, and-true, walked_within}
 use Rattle.gix_revwalk.specs.declared.CommitTimeOrder.TheVariants.{NewestFirst}
 use Rattle.gix_revwalk.specs.TimeOrder.{IsPending, IsNextByTime}
 use Rattle.gix_revwalk.proofs.Beginnings.{on, once}

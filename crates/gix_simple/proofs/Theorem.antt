@@ -1,7 +1,7 @@
 -- The first step, which paints; and the theorem over a whole walk, and over one drawn as far as one likes.
-use Rattle.std.proofs.Common.{◌≡◌, ◌≢◌, ◌⊎◌, ℤ, List, [], ◌∷◌, ◌++◌, filter, Bool, true, false, not, ◌||◌, cond, Option, Some, None, Result, Err, Contains, All, refl, sym, ap, subst, inl}
+use Rattle.std.proofs.Common.{◌≡◌, ◌≢◌, ◌⊎◌, List, [], ◌∷◌, ◌++◌, filter, Bool, true, false, not, ◌||◌, cond, Option, Some, None, Result, Err, Contains, All, refl, sym, ap, subst, inl}
 use Rattle.std.proofs.Common.{inr, ⊎_elim, ◌∙◌, append-nil, arith, true≢false}
-use Rattle.gix_simple.proofs.Common.{All-head, false≢true, false_from_ne_true, and_parts, not-true, AllZip, Drains, Yields, ObjectId, id_cmp, is_same, is_among, kind_of, Objects, GraphRow, Info, CommitTimeOrder, Error}
+use Rattle.gix_simple.proofs.Common.{All-head, false≢true, false_from_ne_true, and_parts, not-true, AllZip, Drains, Yields, ObjectId, id_cmp, is_same, is_among, kind_of, Objects, GraphRow, Info, Error}
 use Rattle.gix_simple.proofs.Common.{IsHistory, IsHiddenFault, Paints, IsAtBoundary, Reaches, start, step, Tells, IsAgreeing, time_of, parents_of, commit_of_object, walked_parents, ReadsWhole, Pending, SimpleWalk, time_order, cutoff}
 use Rattle.gix_simple.proofs.Common.{Steps, painted, FirstStep, unhidden, Next, initial, later, ids_of, AreDistinct, itself, AnswersBy, IsFresh, IsNoRefusal, IsBeginningBy, IsListBy, IsNextOne, IsGivenBy, MeetsWhole, GivesInOrder, GivesBeginning}
 use Rattle.gix_simple.proofs.Common.{starts_of, next_of, kept_of, is_kept, commit_items, own_history, same_is, among_from, among_is, Contains-here, Contains-there, no_member, fresh, among-filter, walked_within, no_fault}

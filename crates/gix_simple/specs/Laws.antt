@@ -1,5 +1,5 @@
 -- What a simple walk gives, over the definitions alone: the words of its laws.
-use Rattle.std.specs.Prelude.{◌≡◌, ◌≢◌, ◌⊎◌, ◌↔◌, ℕ, ℤ, List, [], ◌∷◌, ◌++◌, filter, Bool, true, false, not, ◌&&◌, ◌+◌, map, length, Option, Some, None, Result, Ok, Err, Contains, All}
+use Rattle.std.specs.Prelude.{◌≡◌, ◌≢◌, ◌⊎◌, ◌↔◌, ℕ, ℤ, List, [], ◌++◌, filter, Bool, true, false, not, ◌&&◌, ◌+◌, map, length, Option, Some, None, Result, Ok, Err, Contains, All}
 use Rattle.std.specs.List.{AllZip, flat_map}
 use Rattle.std.specs.Iterator.{Drains, Yields}
 use Rattle.std.specs.FinMap as map_of
@@ -76,9 +76,11 @@ pub record ReadsParents (objects : Objects) (parents : Parents) (i : ObjectId) :
   pub unbroken : (scanned parents (commit_items (kind_of i) bytes)).1 ≡ None
 
 -- what comes next in a walk: in its order, of what is kept
-abbrev pub IsNextKept : {F P : Type 0} → (F → Objects) → SimpleWalk F P → (accepts hidden : ObjectId → Bool) → List ObjectId → ObjectId → Type 0
+abbrev pub IsNextKept : {F P : Type 0} → (F → Objects) → SimpleWalk F P → (accepts hidden : ObjectId → Bool) → List ObjectId → ObjectId
+    → Type 0
 IsNextKept objects walk accepts hidden =
-    IsNextOne (time_order walk.parents walk.sorting) (time_of (objects walk.store)) (next_of objects walk accepts hidden) (starts_of walk hidden)
+    IsNextOne (time_order walk.parents walk.sorting) (time_of (objects walk.store)) (next_of objects walk accepts hidden)
+    (starts_of walk hidden)
 
 -- the answer is this commit, with the parents that it names
 pub record IsCommitInfo (objects : Objects) (named : ObjectId → List ObjectId) (rows : List GraphRow) (parents : Parents)
@@ -219,7 +221,8 @@ next_by_text objects walk accepts =
 -- what comes next in a walk without hidden tips, by the parents that texts name
 abbrev pub IsNextByText : {F P : Type 0} → (F → Objects) → SimpleWalk F P → (ObjectId → Bool) → List ObjectId → ObjectId → Type 0
 IsNextByText objects walk accepts =
-    IsNextOne (time_order walk.parents walk.sorting) (time_of (objects walk.store)) (next_by_text objects walk accepts) (ids_of walk.pending)
+    IsNextOne (time_order walk.parents walk.sorting) (time_of (objects walk.store)) (next_by_text objects walk accepts)
+    (ids_of walk.pending)
 
 -- the answers are commits with the parents that their texts name, in order by these, each once, and exactly the ids that are reached by these
 pub record GivesTextOrder {F P : Type 0} (objects : F → Objects) (walk : SimpleWalk F P) (accepts : ObjectId → Bool)

@@ -35,7 +35,7 @@ pub use Rattle.gix_revwalk.specs.declared.Info.{Info}
 pub use Rattle.gix_revwalk.specs.declared.Parents.{Parents}
 pub use Rattle.gix_frontier.proofs.Results.{err_from, if_err, on_ok}
 pub use Rattle.gix_hash.proofs.Ids.Membership.{among-append, among-one, among_from, among_is, Contains-cons_cases, Contains-here, Contains-there, id_apart, id_total, no_member, same_back, same_is, same_itself}
-pub use Rattle.gix_hash.proofs.Lists.{filter_all, filter_within, only_member, past_end}
+pub use Rattle.gix_hash.proofs.Lists.{filter_all, filter_within, only_member}
 pub use Rattle.gix_revwalk.proofs.NewIds.{among-filter, among_flat, among_times, fresh, fresh_agree, new_less, times-append, times-fresh, times_is_among, times_moved, times_none, times_once}
 pub use Rattle.gix_revwalk.proofs.ReadsWhole.{corrupt_row, no_fault, parent_below, row_parents, row_says_time, row_stands, walked_within}
 pub use Rattle.gix_revwalk.proofs.TextParents.{text_whole}

@@ -7,7 +7,8 @@ use Rattle.gix_topo.specs.TopoOrder.{IsMadeReady}
 use Rattle.gix_topo.specs.WalkSet.{IsReady}
 
 -- what comes next: a ready commit of greatest time, and of these the one that became ready first
-abbrev pub IsBestMade : (ObjectId → ℤ) → (ObjectId → List ObjectId) → (ObjectId → Type 0) → List ObjectId → List ObjectId → ObjectId → Type 0
+abbrev pub IsBestMade :
+    (ObjectId → ℤ) → (ObjectId → List ObjectId) → (ObjectId → Type 0) → List ObjectId → List ObjectId → ObjectId → Type 0
 IsBestMade time walked In tips taken i =
     (ready : List ObjectId) × IsMadeReady time walked In tips (reverse taken) ready
     × IsFirstBest NewestFirst time (IsReady walked In (Contains taken)) ready taken i

@@ -24,7 +24,8 @@ use Rattle.gix_revwalk.specs.Ids.{AreDistinct, new_ids}
 use Rattle.gix_topo.specs.Walk.{TopoPlan, TopoWalk, Ready, walked_of, text_walked, IsMember, IsTextMember, IsSound, IsStarted, Next, ready_ids, was_ready, named_ids}
 
 -- what comes next in the order that was asked for
-abbrev pub IsNextBy : Sorting → (ObjectId → ℤ) → (ObjectId → List ObjectId) → (ObjectId → Type 0) → List ObjectId → List ObjectId → ObjectId → Type 0
+abbrev pub IsNextBy :
+    Sorting → (ObjectId → ℤ) → (ObjectId → List ObjectId) → (ObjectId → Type 0) → List ObjectId → List ObjectId → ObjectId → Type 0
 IsNextBy order.DateOrder = IsBestMade
 IsNextBy order.TopoOrder = IsLastMade
 
@@ -57,7 +58,8 @@ pub record BeginsInOrder {F : Type 0} (objects : F → Objects) (plan : TopoPlan
 
 -- the same by the parents that texts name
 abbrev pub IsNextByText : {F : Type 0} → (F → Objects) → TopoPlan F → List ObjectId → ObjectId → Type 0
-IsNextByText objects plan = IsNextBy plan.sorting (time_of (objects plan.store)) (text_walked objects plan) (IsTextMember objects plan) plan.tips
+IsNextByText objects plan =
+    IsNextBy plan.sorting (time_of (objects plan.store)) (text_walked objects plan) (IsTextMember objects plan) plan.tips
 
 -- the answer is this commit, with all the parents that its text names, and with its committer's time, or 0 where it has no committer
 pub record IsTextInfo {F : Type 0} (objects : F → Objects) (plan : TopoPlan F) (info : Info) (i : ObjectId) : Type 0 where

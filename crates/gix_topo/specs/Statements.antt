@@ -89,7 +89,10 @@ module _ {F : Type 0} (objects : F → Objects) where
       → IsBeginningBy (IsNextTaken objects plan) ids
       → AreDistinct ids
       × ((i : ObjectId) → Contains ids i → IsMember objects plan i)
-      × ((taken rest : List ObjectId) (d p : ObjectId) → ids ≡ taken ++ p ∷ rest → IsChild (walked_of objects plan) (IsMember objects plan) d p → Contains taken d)
+      × ((taken rest : List ObjectId) (child parent : ObjectId)
+      → ids ≡ taken ++ parent ∷ rest
+      → IsChild (walked_of objects plan) (IsMember objects plan) child parent
+      → Contains taken child)
 
   -- every child comes before its parents
   abbrev pub TakesChildrenFirst : Type 0

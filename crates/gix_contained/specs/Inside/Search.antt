@@ -1,5 +1,5 @@
 -- What the search reads, what it meets, and what it tells in the end.
-use Rattle.std.specs.Prelude.{◌≡◌, ◌≢◌, ◌⊎◌, ◌+◌, ◌-◌, ◌^◌, ◌<◌, ◌≤◌, ◌||◌, ℕ, List, [], ◌∷◌, length, Bool, true, false, cond, Option, Some, None, Contains, IsSome}
+use Rattle.std.specs.Prelude.{◌≡◌, ◌≢◌, ◌⊎◌, ◌+◌, ◌-◌, ◌^◌, ◌≤◌, ◌||◌, ℕ, List, length, Bool, true, false, cond, Option, Some, None, Contains, IsSome}
 use Rattle.std.specs.FinSet as set
 use Rattle.std.specs.Option.{option_map}
 use Rattle.std.specs.declared.cmp.Reverse.{Reverse}
@@ -9,7 +9,7 @@ use Rattle.gix_hash.specs.Reach.{Reaches}
 use Rattle.gix_object.specs.declared.find.existing_iter.Error.TheVariants as existing
 use Rattle.gix_object.specs.Object.{Objects}
 use Rattle.gix_commitgraph.specs.Rows.{GraphRow, row_of}
-use Rattle.gix_contained.specs.Contained.{DropsBy, IsContainedFault}
+use Rattle.gix_contained.specs.Contained.{IsContainedFault}
 use Rattle.gix_contained.specs.declared.search.Search.{Search}
 use Rattle.gix_contained.specs.declared.source.Key.{Key}
 use Rattle.gix_contained.specs.declared.source.Waiting.{Waiting}

@@ -1,6 +1,6 @@
 use Rattle.std.specs.Borrow.{Bor}
 use Rattle.std.proofs.lemmas.Result.{err_from_is_err_and}
-use Rattle.gix_merge_base.specs.Inside.Steps.{accepts_all}
+use Rattle.gix_revwalk.specs.Asking.{accepts_all}
 use Rattle.gix_merge_base.proofs.Starting.{failed_first}
 use Rattle.gix_merge_base.proofs.Whole.{fails_first}
 use Rattle.gix_revwalk.specs.Agreeing.{rows_in}

@@ -9,7 +9,7 @@ use Rattle.gix_hash.specs.Reach.{Reaches}
 use Rattle.gix_object.specs.Object.{Objects}
 use Rattle.gix_commitgraph.specs.Rows.{GraphRow}
 use Rattle.gix_containing.specs.Containing.{AreContaining}
-use Rattle.gix_merge_base.specs.Inside.Steps.{given}
+use Rattle.gix_revwalk.specs.Infos.{given}
 use Rattle.gix_revwalk.specs.declared.Info.{Info}
 use Rattle.gix_revwalk.specs.Agreeing.{IsAgreeing}
 use Rattle.gix_revwalk.specs.Commits.{ReadsWhole, parents_of}

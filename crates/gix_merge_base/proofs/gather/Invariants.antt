@@ -1,7 +1,8 @@
 use Rattle.std.proofs.Common.{◌≡◌, List, map, ◌++◌}
 use Rattle.std.specs.Iterator.{Yields}
 use Rattle.gix_revwalk.specs.declared.Info.{Info}
-use Rattle.gix_merge_base.specs.Inside.Steps.{given, Collects, named_by}
+use Rattle.gix_revwalk.specs.Infos.{given}
+use Rattle.gix_merge_base.specs.Inside.Steps.{Collects, named_by}
 use Rattle.gix_merge_base.proofs.gather.Given as goal
 
 -- the walk gave these commits

@@ -1,5 +1,5 @@
 -- What the parts of a call do.
-use Rattle.std.specs.Prelude.{◌≡◌, ◌≢◌, List, [], ◌∷◌, ◌++◌, map, filter, not, Bool, true, Option, Some, Result, Ok, Err, Contains}
+use Rattle.std.specs.Prelude.{◌≡◌, ◌≢◌, List, [], ◌∷◌, ◌++◌, map, filter, not, Bool, Option, Some, Result, Err, Contains}
 use Rattle.std.specs.List.{flat_map}
 use Rattle.std.specs.Iterator.{Drains, YieldsThen}
 use Rattle.std.specs.FinSet as set
@@ -16,13 +16,10 @@ use Rattle.gix_merge_base.specs.declared.Error.{Error}
 use Rattle.gix_merge_base.specs.Bases.{IsCommon}
 use Rattle.gix_merge_base.specs.Errors.{error_of, error_of_walk}
 use Rattle.gix_revwalk.specs.declared.Info.{Info}
-use Rattle.gix_revwalk.specs.declared.Unfiltered.{Unfiltered}
+use Rattle.gix_revwalk.specs.Infos.{given}
 use Rattle.gix_revwalk.specs.Agreeing.{IsAgreeing}
 use Rattle.gix_revwalk.specs.Commits.{ReadsWhole, parents_of}
 use Rattle.gix_revwalk.specs.Ids.{AreDistinct}
-
-abbrev pub accepts_all : Unfiltered → ObjectId → Bool → Unfiltered → Type 0
-accepts_all old i answer new = (answer ≡ true) × (new ≡ old)
 
 -- a walk over what others reach and one doesn't, before its first step
 pub record StartsFrom {F P : Type 0} (objects : F → Objects) (faulty : F → ObjectId → Type 0) (answers : P → ObjectId → Bool → P → Type 0) (store : F)
@@ -30,9 +27,6 @@ pub record StartsFrom {F P : Type 0} (objects : F → Objects) (faulty : F → O
   pub made : SimpleWalk F P
   pub makes : IsMade objects faulty answers store predicate others made
   pub is : walk ≡ record made { hidden_tips = one ∷ []; rows = rows }
-
-abbrev pub given : {E : Type 0} → List Info → List (Result Info E)
-given infos = map Ok infos
 
 -- the set has these ids
 abbrev pub Collects : List ObjectId → set.FinSet id_cmp → Type 0

@@ -1,5 +1,5 @@
 -- What a list in either order has, over parents that texts name: each once, members alone, children first, and all where no member is its own ancestor.
-use Rattle.std.proofs.Common.{◌≡◌, ◌⊎◌, ◌++◌, List, [], ◌∷◌, true, ℤ, Option, Some, None, Contains, refl, sym, subst, ◌∙◌, flat_map}
+use Rattle.std.proofs.Common.{◌≡◌, ◌⊎◌, ◌++◌, List, ◌∷◌, true, ℤ, Option, Some, None, Contains, refl, sym, subst, ◌∙◌, flat_map}
 use Rattle.gix_topo.proofs.Common.{Contains-append_left, Contains-append_right, ObjectId, is_among, Reaches, start, step, Object, Objects, Parents, Sorting, by_mode, AreDistinct, IsInWalk, IsAcyclicIn, IsChild, IsBeginningBy, IsListBy, IsNextBy}
 use Rattle.gix_topo.proofs.Common.{among_from, among_is, no_member, among_flat, walked_within}
 use Rattle.std.specs.FinMap as map_of

@@ -2,7 +2,7 @@
 -- In either order each is ready when it comes, and one at most comes next.
 use Rattle.std.proofs.Common.{◌≡◌, ◌↔◌, ◌⊎◌, ◌≤◌, ℕ, zero, suc, ℤ, List, [], ◌∷◌, ◌++◌, Bool, true, false, not, ◌&&◌, ◌||◌, filter, reverse, length, Option, Some, None, Contains, MatchOption, refl, sym, ap, subst, inl}
 use Rattle.std.proofs.Common.{inr, ⊎_elim, ◌∙◌, arith, append_assoc, append-nil, le_refl, true≢false}
-use Rattle.gix_topo.proofs.Common.{false_from_ne_true, true_from_ne_false, and_parts, and_from, not-true, list_any-IsPermutation, IsPermutation-reverse, Contains-append_left, Contains-push_cases, ObjectId, is_same}
+use Rattle.gix_topo.proofs.Common.{false_from_ne_true, true_from_ne_false, and_parts, and_from, not-true, list_any-IsPermutation, IsPermutation-reverse, Contains-push_cases, ObjectId, is_same}
 use Rattle.gix_topo.proofs.Common.{is_among, IsBeginningBy, IsListBy, NewestFirst, first_new, Reaches, start, step, IsAcyclicIn, IsBestMade, IsLastMade, IsNextBy, IsChild, IsChildless, IsReady, Keeps, passed, first_places, last_places, by_time, IsMadeReady, AreDistinct, Sorting}
 use Rattle.gix_topo.proofs.Common.{same_is, same_itself, among-append, among_from, among_is, Contains-here, Contains-there, Contains-cons_cases, no_member, fresh, among-filter, new_less}
 use Rattle.std.proofs.lemmas.List.{reverse-append}

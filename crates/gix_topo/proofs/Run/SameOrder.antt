@@ -1,5 +1,5 @@
 -- Two ways to say what the parents and the members are, which agree on the members, give the same orders.
-use Rattle.std.proofs.Common.{◌≡◌, ℤ, List, [], ◌∷◌, ◌++◌, reverse, Contains, sym, subst}
+use Rattle.std.proofs.Common.{◌≡◌, ℤ, List, [], ◌∷◌, reverse, Contains, sym, subst}
 use Rattle.gix_topo.proofs.Common.{Contains-append_left, ObjectId, Contains-here, Contains-there, Sorting, IsChild, IsChildless, IsReady, Keeps, last_places, IsMadeReady, IsBeginningBy, IsListBy, IsNextBy}
 use Rattle.gix_topo.specs.declared.Sorting.TheVariants as order
 use Rattle.gix_topo.proofs.Readiness.IsReady.{keeps_alike}

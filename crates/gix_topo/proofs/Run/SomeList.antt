@@ -1,5 +1,5 @@
 -- Each order has a list: over a finite history, a best ready commit is taken until none is ready.
-use Rattle.std.proofs.Common.{◌≡◌, ◌↔◌, ◌⊎◌, ℤ, List, [], ◌∷◌, ◌++◌, Bool, true, not, ◌&&◌, filter, reverse, Contains, refl, sym, ◌∙◌, true≢false}
+use Rattle.std.proofs.Common.{◌≡◌, ◌↔◌, ◌⊎◌, ℤ, List, ◌++◌, Bool, true, not, ◌&&◌, filter, reverse, Contains, refl, sym, ◌∙◌, true≢false}
 use Rattle.gix_topo.proofs.Common.{and_parts, and_from, not-true, not_from_false, false_from_ne_true, ObjectId, is_among, IsListBy, first_new, Reaches, among_from, among_is, Objects, IsBestMade, IsInWalk, IsLastMade, IsChild, IsMadeReady, among-filter}
 use Rattle.gix_topo.specs.declared.Sorting.TheVariants as order
 use Rattle.gix_revwalk.specs.Texts.{text_next}

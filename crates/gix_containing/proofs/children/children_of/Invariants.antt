@@ -1,7 +1,7 @@
 use Rattle.std.proofs.Common.{List}
 use Rattle.std.specs.Iterator.{Yields}
 use Rattle.gix_containing.specs.Inside.Steps.{AreChildren}
-use Rattle.gix_merge_base.specs.Inside.Steps.{given}
+use Rattle.gix_revwalk.specs.Infos.{given}
 use Rattle.gix_revwalk.specs.declared.Info.{Info}
 use Rattle.gix_containing.proofs.children.children_of.Given as goal
 
