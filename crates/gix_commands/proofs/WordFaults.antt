@@ -97,19 +97,7 @@ module _ (P : Result Request Fault → Type 0) (usage : P (Err fault.Usage)) (no
 abbrev pub IsOfWords : Fault → Type 0
 IsOfWords fault.Usage = Unit {0}
 IsOfWords (fault.Id n) = Unit {0}
-IsOfWords (fault.Record n) = ⊥
-IsOfWords (fault.Missing i) = ⊥
-IsOfWords (fault.WrongKind i) = ⊥
-IsOfWords fault.Broken = ⊥
-IsOfWords (fault.Cycle i) = ⊥
-IsOfWords (fault.Name i) = ⊥
-IsOfWords (fault.Graph e) = ⊥
-IsOfWords (fault.Row i) = ⊥
-IsOfWords (fault.Disagrees i) = ⊥
-IsOfWords fault.Memory = ⊥
-IsOfWords fault.Read = ⊥
-IsOfWords fault.Write = ⊥
-IsOfWords fault.Internal = ⊥
+IsOfWords e = ⊥
 
 abbrev pub OfWords : {X : Type 0} → Result X Fault → Type 0
 OfWords (Ok x) = Unit {0}
