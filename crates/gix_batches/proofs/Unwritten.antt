@@ -24,7 +24,7 @@ use Rattle.gix_commands.specs.Walked.{Answers, Ends, EndsBy, IsStartFault, IsWal
 use Rattle.gix_commands.proofs.CheckedWalks.{IsChecked, from_by, lacking, well}
 use Rattle.gix_commands.proofs.LostParents.{lost_so}
 use Rattle.gix_commands.proofs.MemoryFaults.{failed_so}
-use Rattle.gix_commands.proofs.WordFaults.{OfWords, request_words}
+use Rattle.gix_commands.proofs.SameWords.{OfWords, request_words}
 use Rattle.gix_batches.specs.Draws.{ids_given}
 use Rattle.gix_batches.specs.Walks.{IsItself}
 

@@ -1,5 +1,4 @@
 mod Common
-pub mod WordFaults
 pub mod WalkFaults
 pub mod MemoryFaults
 mod OutputFacts
