@@ -32,6 +32,7 @@ use Rattle.gix_commands.proofs.TopoInternalFacts.{drawn_sound, built_agreeing, b
 use Rattle.gix_commands.proofs.TreeFacts.{tree_sound}
 use Rattle.gix_commands.proofs.WalkFaults.{OfWalk, serves_of_walk}
 use Rattle.gix_commands.proofs.SameWords.{OfWords, request_words}
+use Rattle.gix_commands.proofs.ServedCalls.{nothing_written}
 
 pub err_same : {e f : Fault} → ◌≡◌ {A = Result (Unit {0}) Fault} (Err e) (Err f) → e ≡ f
 err_same same = cc
@@ -160,7 +161,7 @@ module _ (objects : Objects) (rows : List GraphRow) (old : Option (List ℕ)) (m
 
   -- the walk couldn't start
   pub serves_no_walk : (result : Result (Unit {0}) Fault) (e : Fault) → result ≡ Err e → IsStartFault objects by tips e → Serves objects rows old (Commits (Simple m by) shown tips hidden) result old
-  serves_no_walk result e same h = failed_so (λ r. Serves objects rows old (Commits (Simple m by) shown tips hidden) r old) unserved result e same (λ other. not_started e (h other))
+  serves_no_walk result e same h = nothing_written objects rows old (Commits (Simple m by) shown tips hidden) result e same (λ other. not_started e (h other))
 
 module _ (objects : Objects) (rows : List GraphRow) (old : Option (List ℕ)) (by : TopoSorting) (shown : Shown) (tips ends : List ObjectId) where
   pub serves_topo : (new : Option (List ℕ)) (walk : topo.Walk) (chooser : Choosing) → chooser ≡ fresh_choosing objects shown → topo.IsBuiltFrom objects rows by tips ends (Ok walk) → (result : Result (Unit {0}) Fault)
@@ -174,7 +175,7 @@ module _ (objects : Objects) (rows : List GraphRow) (old : Option (List ℕ)) (b
 
   -- the walk couldn't be built
   pub serves_no_topo : (result : Result (Unit {0}) Fault) (e : Fault) → result ≡ Err e → topo.IsStartFault objects rows by tips ends e → Serves objects rows old (Commits (Topo by) shown tips ends) result old
-  serves_no_topo result e same h = failed_so (λ r. Serves objects rows old (Commits (Topo by) shown tips ends) r old) unserved result e same (λ other. topo_not_built e (h other))
+  serves_no_topo result e same h = nothing_written objects rows old (Commits (Topo by) shown tips ends) result e same (λ other. topo_not_built e (h other))
 
 -- words that are a command aren't rejected
 pub no_rejection : {command : Result Request Fault} {request : Request} {A : Type 0} → command ≡ Ok request → (e : Fault) → command ≡ Err e → A
