@@ -23,7 +23,7 @@ mod listing;
 pub use commit::{Batch, Commit, CommitId, Ending};
 use fill::fill_from;
 use gix_commands::checked::Checked;
-use gix_commands::commits::{topo_walk_from, walk_from};
+use gix_commands::commits::{Ends, topo_walk_from, walk_from};
 use gix_hash::Keys;
 use gix_records::{LentStore, NamedObjects, records_in};
 use gix_simple::Sorting;
@@ -162,7 +162,8 @@ fn batch_of(
             parents: through,
             sorting,
         } => {
-            let walk = walk_from(alloc, through, sorting, tips, hidden, store, None)?;
+            let ends = Ends { tips, hidden };
+            let walk = walk_from(alloc, through, sorting, ends, store, None)?;
             if let Sorting::BreadthFirst = sorting {
                 return Ok(fill_from(walk, limit, skip, commits, parents));
             }

@@ -8,7 +8,7 @@ ghost use Rattle.gix_words.specs.Words.{Ahead};
 ghost use Rattle.gix_graph_store.specs.WithRows.{with_rows};
 ghost use Rattle.gix_revwalk.specs.Agreeing.{rows_in};
 
-use crate::commits::walk_from;
+use crate::commits::{Ends, walk_from};
 use crate::output::write_out;
 use gix_commitgraph::Graph;
 use gix_hash::ObjectId;
@@ -54,8 +54,9 @@ fn count(
 {
     let tips = alone(alloc, tip)?;
     let hidden = alone(alloc, hidden)?;
+    let ends = Ends { tips, hidden };
     let order = Sorting::BreadthFirst;
-    let walk = walk_from(alloc, Parents::All, order, tips, hidden, store, graph)?;
+    let walk = walk_from(alloc, Parents::All, order, ends, store, graph)?;
     number_of_commits(walk)
 }
 

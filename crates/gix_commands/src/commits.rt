@@ -83,7 +83,15 @@ fn copy_of(graph: Option<&Graph>) -> Result<Option<Graph>, AllocError>
     }
 }
 
-/// A walk in this order from these tips, through these parents, which hides what the hidden ones reach, over a store and rows.
+/// Where a walk starts, and what ends it: ids of commits.
+#[derive(Drop)]
+pub struct Ends {
+    pub tips: Vec<ObjectId>,
+    /// What these reach isn't given.
+    pub hidden: Vec<ObjectId>,
+}
+
+/// A walk in this order between these ends, through these parents, over a store and rows.
 ///
 /// # Errors
 /// The fault of the first tip whose time can't be read, in an order by time. `Memory`.
@@ -91,14 +99,14 @@ pub fn walk_from<'a>(
     alloc: Global,
     parents: Parents,
     sorting: Sorting,
-    tips: Vec<ObjectId>,
-    hidden: Vec<ObjectId>,
+    ends: Ends,
     store: &'a LentStore<'a>,
     graph: Option<&'a Graph>,
 ) -> Result<Simple<Lent<'a>, Unfiltered>, Fault>
-    ensures ok { IfOk result (StartsFrom (readable (is_first parents) (with_rows (rows_in graph.entry) store.now)) (rows_in graph.entry) parents sorting tips.items hidden.items) }
-    ensures err { IfErr result (IsStartFault (readable (is_first parents) (with_rows (rows_in graph.entry) store.now)) sorting tips.items) }
+    ensures ok { IfOk result (StartsFrom (readable (is_first parents) (with_rows (rows_in graph.entry) store.now)) (rows_in graph.entry) parents sorting ends.tips.items ends.hidden.items) }
+    ensures err { IfErr result (IsStartFault (readable (is_first parents) (with_rows (rows_in graph.entry) store.now)) sorting ends.tips.items) }
 {
+    let Ends { tips, hidden } = ends;
     let rows = copy_of(graph)?;
     let made = Simple::new(alloc, tips, Lent::over(store, graph, parents))?;
     let sorted = made.sorting(sorting)?;

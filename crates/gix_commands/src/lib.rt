@@ -36,7 +36,7 @@ use ahead::write_ahead;
 use bases::write_bases;
 use checked::Checked;
 use chosen::Chooser;
-use commits::{topo_walk_from, walk_from};
+use commits::{Ends, topo_walk_from, walk_from};
 use containing::write_containing;
 use contains::write_contained;
 use files::write_files;
@@ -119,7 +119,10 @@ fn serve<W: Write>(
             shown,
             tips,
             hidden,
-        } => serve_commits(alloc, order, shown, tips, hidden, store, graph, writer),
+        } => {
+            let ends = Ends { tips, hidden };
+            serve_commits(alloc, Listing { order, shown, ends }, store, graph, writer)
+        }
         Command::Files { ending, tree } => write_files(alloc, ending, tree, store, graph, writer),
         Command::Ahead { one, other } => write_ahead(alloc, one, other, store, graph, writer),
         Command::Contained { tip, ids } => write_contained(alloc, tip, ids, store, graph, writer),
@@ -130,23 +133,29 @@ fn serve<W: Write>(
     }
 }
 
+/// A list of commits that is asked for.
+#[derive(Drop)]
+struct Listing {
+    order: Order,
+    shown: Shown,
+    ends: Ends,
+}
+
 /// Writes what is chosen of the commits that the tips reach and the hidden tips don't. By time, each of them behind which more is asked for
 /// has to have its parents.
 fn serve_commits<W: Write>(
     alloc: Global,
-    order: Order,
-    shown: Shown,
-    tips: Vec<ObjectId>,
-    hidden: Vec<ObjectId>,
+    listing: Listing,
     store: &LentStore<'_>,
     graph: Option<&Graph>,
     writer: &mut W,
 ) -> Result<(), Fault>
-    ensures { Serves (readable (reads_all_lines (Commits order shown tips.items hidden.items)) (with_rows (rows_in graph.entry) store.now)) (rows_in graph.entry) (W.contents writer.old) (Commits order shown tips.items hidden.items) result (W.contents writer.new) }
+    ensures { Serves (readable (reads_all_lines (Commits listing.order listing.shown listing.ends.tips.items listing.ends.hidden.items)) (with_rows (rows_in graph.entry) store.now)) (rows_in graph.entry) (W.contents writer.old) (Commits listing.order listing.shown listing.ends.tips.items listing.ends.hidden.items) result (W.contents writer.new) }
 {
+    let Listing { order, shown, ends } = listing;
     match order {
         Order::Simple { parents, sorting } => {
-            let walk = walk_from(alloc, parents, sorting, tips, hidden, store, graph)?;
+            let walk = walk_from(alloc, parents, sorting, ends, store, graph)?;
             let chooser = Chooser::new(alloc, shown, parents, store, graph);
             if let Sorting::BreadthFirst = sorting {
                 return write_commits(alloc, walk, chooser, writer);
@@ -155,6 +164,7 @@ fn serve_commits<W: Write>(
             write_commits(alloc, checked, chooser, writer)
         }
         Order::Topo(sorting) => {
+            let Ends { tips, hidden } = ends;
             let walk = topo_walk_from(alloc, sorting, tips, hidden, store, graph)?;
             let chooser = Chooser::new(alloc, shown, Parents::All, store, graph);
             write_commits(alloc, walk, chooser, writer)
