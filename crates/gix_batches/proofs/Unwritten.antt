@@ -25,29 +25,22 @@ use Rattle.gix_commands.proofs.CheckedWalks.{IsChecked, from_by, lacking, well}
 use Rattle.gix_revwalk.specs.declared.Parents.{Parents}
 use Rattle.gix_commands.proofs.LostParents.{lost_so}
 use Rattle.gix_commands.proofs.MemoryFaults.{failed_so}
-use Rattle.gix_commands.proofs.WordFaults.{OfWords, request_words}
+use Rattle.gix_commands.proofs.SameWords.{OfWords, request_words}
 use Rattle.gix_batches.specs.Draws.{ids_given}
 use Rattle.gix_batches.specs.Walks.{IsItself}
 
 find_unwritten : (e : ExistingError) → fault_of_find e ≢ fault.Write
 find_unwritten existing.Store = λ e. cc
-find_unwritten (existing.NotFound oid) = λ e. cc
-find_unwritten (existing.ObjectKind oid wanted actual) = λ e. cc
-find_unwritten existing.Memory = λ e. cc
+find_unwritten other = λ e. cc
 
 walk_unwritten : (e : Error) → fault_of_walk e ≢ fault.Write
 walk_unwritten (error.Find e) = find_unwritten e
-walk_unwritten (error.ObjectDecode e) = λ e. cc
 walk_unwritten (error.HiddenGraph (hidden_by.Find e)) = find_unwritten e
-walk_unwritten (error.HiddenGraph (hidden_by.ObjectDecode e)) = λ e. cc
-walk_unwritten error.Memory = λ e. cc
+walk_unwritten other = λ e. cc
 
 topo_unwritten : (e : TopoError) → fault_of_topo_walk e ≢ fault.Write
-topo_unwritten topo_error.MissingIndegreeUnexpected = λ e. cc
-topo_unwritten topo_error.MissingStateUnexpected = λ e. cc
-topo_unwritten (topo_error.ObjectDecode e) = λ e. cc
 topo_unwritten (topo_error.Find e) = find_unwritten e
-topo_unwritten topo_error.Memory = λ e. cc
+topo_unwritten other = λ e. cc
 
 module _ {W E : Type 0} (Steps : W → Option (Result Info E) → W → Type 0) (Tells : E → Fault → Type 0) (tells : (e : E) (f : Fault) → Tells e f → f ≢ fault.Write) (walk : W) (infos : List Info) where
   ends_unwritten : {answer : Result (Unit {0}) Fault} → Ends Steps Tells walk infos answer → answer ≢ Err fault.Write

@@ -23,7 +23,7 @@ mod listing;
 pub use commit::{Batch, Commit, CommitId, Ending};
 use fill::fill_from;
 use gix_commands::checked::Checked;
-use gix_commands::commits::{topo_walk_from, walk_from};
+use gix_commands::commits::{Ends, topo_walk_from, walk_from};
 use gix_hash::Keys;
 use gix_records::{LentStore, NamedObjects, records_in};
 use gix_simple::Sorting;
@@ -52,7 +52,8 @@ pub fn batch_in(
     parents: &mut [CommitId],
 ) -> Batch
     // What the slices hold, from lists of bytes up.
-    ensures whole { Promises (map string_bytes words.now) (AreFed (Some records.now)) skip commits.old commits.new parents.old parents.new result }
+    ensures whole { Promises (map string_bytes words.now) (AreFed (Some records.now)) skip commits.old commits.new parents.old parents.new
+        result }
     ensures fails { IfFailed (Fails (map string_bytes words.now) records.now) result.ending }
 {
     match try_batch(alloc, words, records, skip, commits, parents) {
@@ -78,7 +79,8 @@ pub fn batch_named(
     parents: &mut [CommitId],
 ) -> Batch
     // What the slices hold, from lists of bytes up: it is right of these objects, each of whose ids is the hash of its object.
-    ensures whole { Promises (map string_bytes words.now) (λ (given : Objects). AreNamed given × (given ≡ page_objects objects.now)) skip commits.old commits.new parents.old parents.new result }
+    ensures whole { Promises (map string_bytes words.now) (λ (given : Objects). AreNamed given × (given ≡ page_objects objects.now)) skip
+        commits.old commits.new parents.old parents.new result }
     // The same in the words of the page alone.
     ensures named { Promises (map string_bytes words.now) AreNamed skip commits.old commits.new parents.old parents.new result }
     ensures fails { IfFailed (FailsOver (map string_bytes words.now) objects.now) result.ending }
@@ -102,7 +104,8 @@ fn try_batch(
     commits: &mut [Commit],
     parents: &mut [CommitId],
 ) -> Result<Batch, Fault>
-    ensures whole { IfOk result (Promises (map string_bytes words.now) (AreFed (Some records.now)) skip commits.old commits.new parents.old parents.new) }
+    ensures whole { IfOk result (Promises (map string_bytes words.now) (AreFed (Some records.now)) skip commits.old commits.new parents.old
+        parents.new) }
     ensures ending { IfOk result (λ batch. IfFailed (Fails (map string_bytes words.now) records.now) batch.ending) }
     ensures fails { IfErr result (Fails (map string_bytes words.now) records.now) }
     ensures commits_stay { IfErr result (λ e. commits.new ≡ commits.old) }
@@ -122,7 +125,8 @@ fn try_named(
     commits: &mut [Commit],
     parents: &mut [CommitId],
 ) -> Result<Batch, Fault>
-    ensures whole { IfOk result (Promises (map string_bytes words.now) (λ (given : Objects). AreNamed given × (given ≡ page_objects objects.now)) skip commits.old commits.new parents.old parents.new) }
+    ensures whole { IfOk result (Promises (map string_bytes words.now)
+        (λ (given : Objects). AreNamed given × (given ≡ page_objects objects.now)) skip commits.old commits.new parents.old parents.new) }
     ensures ending { IfOk result (λ batch. IfFailed (FailsOver (map string_bytes words.now) objects.now) batch.ending) }
     ensures fails { IfErr result (FailsOver (map string_bytes words.now) objects.now) }
     ensures commits_stay { IfErr result (λ e. commits.new ≡ commits.old) }
@@ -145,8 +149,14 @@ fn batch_of(
     commits: &mut [Commit],
     parents: &mut [CommitId],
 ) -> Result<Batch, Fault>
-    ensures ok { IfOk result (λ batch. FillsBy (readable (reads_all_lines (Commits listing.order (all_lines_to listing.limit) listing.tips.items listing.hidden.items)) (with_rows [] store.now)) listing.limit listing.tips.items listing.hidden.items skip commits.old commits.new parents.old parents.new batch listing.order) }
-    ensures err { IfErr result (λ e. Serves (readable (reads_all_lines (Commits listing.order (all_lines_to listing.limit) listing.tips.items listing.hidden.items)) (with_rows [] store.now)) [] (Some []) (Commits listing.order (all_lines_to listing.limit) listing.tips.items listing.hidden.items) (Err e) (Some [])) }
+    ensures ok { IfOk result (λ batch. FillsBy
+        (readable (reads_all_lines (Commits listing.order (all_lines_to listing.limit) listing.tips.items listing.hidden.items))
+        (with_rows [] store.now)) listing.limit listing.tips.items listing.hidden.items skip commits.old commits.new parents.old parents.new
+        batch listing.order) }
+    ensures err { IfErr result (λ e. Serves
+        (readable (reads_all_lines (Commits listing.order (all_lines_to listing.limit) listing.tips.items listing.hidden.items))
+        (with_rows [] store.now)) [] (Some []) (Commits listing.order (all_lines_to listing.limit) listing.tips.items listing.hidden.items)
+        (Err e) (Some [])) }
     ensures unwritten { IfErr result (λ e. e ≢ Fault.Write) }
     ensures commits_stay { IfErr result (λ e. commits.new ≡ commits.old) }
     ensures parents_stay { IfErr result (λ e. parents.new ≡ parents.old) }
@@ -157,12 +167,13 @@ fn batch_of(
         tips,
         hidden,
     } = listing;
+    let ends = Ends { tips, hidden };
     match order {
         Order::Simple {
             parents: through,
             sorting,
         } => {
-            let walk = walk_from(alloc, through, sorting, tips, hidden, store, None)?;
+            let walk = walk_from(alloc, through, sorting, ends, store, None)?;
             if let Sorting::BreadthFirst = sorting {
                 return Ok(fill_from(walk, limit, skip, commits, parents));
             }
@@ -173,7 +184,7 @@ fn batch_of(
             parents: through,
             sorting,
         } => {
-            let walk = topo_walk_from(alloc, through, sorting, tips, hidden, store, None)?;
+            let walk = topo_walk_from(alloc, through, sorting, ends, store, None)?;
             Ok(fill_from(walk, limit, skip, commits, parents))
         }
     }

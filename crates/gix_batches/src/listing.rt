@@ -22,7 +22,8 @@ impl Listing {
     /// # Errors
     /// `Usage` and `Id` where the words are no command, `Usage` where they are another or ask for some lines only, and `Memory`.
     pub(crate) fn read(alloc: Global, words: &[String]) -> Result<Listing, Fault>
-        ensures ok { IfOk result (λ listing. request_of (map string_bytes words.now) ≡ Ok (Commits listing.order (all_lines_to listing.limit) listing.tips.items listing.hidden.items)) }
+        ensures ok { IfOk result (λ listing. request_of (map string_bytes words.now) ≡ Ok
+            (Commits listing.order (all_lines_to listing.limit) listing.tips.items listing.hidden.items)) }
         ensures err { IfErr result (AsksForNone (map string_bytes words.now)) }
     {
         let command = read_command(alloc, words)?;

@@ -1,15 +1,11 @@
--- Counting the commits of a walk, and the line that two such numbers make.
-use Rattle.std.proofs.Common.{◌≡◌, ◌≢◌, ℕ, ◌+◌, List, [], ◌∷◌, ◌++◌, length, Option, Some, None, Result, Ok, Err, IfOk, IfErr, OnOk, sym, ap, subst, ◌∙◌, length-append}
-use Rattle.gix_commands.proofs.Common.{Appends, Yields, ObjectId, Objects, GraphRow, Info, Fault, counted, unserved, StartsFrom, finished, cut_short, Ahead}
+-- Counting the commits of a walk.
+use Rattle.std.proofs.Common.{◌≡◌, ◌≢◌, ℕ, ◌+◌, List, [], ◌∷◌, ◌++◌, length, Option, Some, None, Result, Ok, Err, IfOk, IfErr, sym, ap, subst, ◌∙◌, length-append}
+use Rattle.gix_commands.proofs.Common.{Yields, ObjectId, Objects, GraphRow, Info, Fault, StartsFrom, finished, cut_short}
 use Rattle.gix_revwalk.specs.declared.Parents.TheVariants as mode
 use Rattle.gix_simple.specs.declared.Sorting.TheVariants as sorting
 use Rattle.gix_words.specs.declared.fault.Fault.TheVariants as fault
-use Rattle.gix_commands.specs.Ahead.{Counts, FailsToCount, Numbers, ahead_line}
-use Rattle.gix_commands.specs.Output.{BreaksOff}
-use Rattle.gix_commands.specs.Run.{Serves}
+use Rattle.gix_commands.specs.Ahead.{Counts, FailsToCount, Numbers}
 use Rattle.gix_commands.specs.Walked.{Walk, Answers, IsWalkFault, given, failed}
-use Rattle.gix_commands.proofs.BrokenOff.{written_or_begun}
-use Rattle.gix_commands.proofs.MemoryFaults.{failed_so}
 
 module _ {W E : Type 0} (Steps : W → Option (Result Info E) → W → Type 0) (Tells : E → Fault → Type 0) (walk : W) (infos : List Info) where
   -- the walk's answer was a fault
@@ -39,13 +35,3 @@ module _ (objects : Objects) (rows : List GraphRow) (tip hidden : ObjectId) (wal
   pub fails_to_count : (result : Result ℕ Fault) → Numbers Answers IsWalkFault walk result → IfErr result (λ e. e ≢ fault.Memory → FailsToCount objects rows tip hidden e)
   fails_to_count (Ok n) h = tt
   fails_to_count (Err e) h = λ other. (h.0, record { walk = walk; starts = starts; ends = h.1 })
-
-module _ (objects : Objects) (rows : List GraphRow) (old : Option (List ℕ)) (one other : ObjectId) where
-  -- nothing was written
-  pub ahead_failed : (result : Result (Unit {0}) Fault) (e : Fault) → result ≡ Err e → (e ≢ fault.Memory → Serves objects rows old (Ahead one other) (Err e) old) → Serves objects rows old (Ahead one other) result old
-  ahead_failed result e same h = failed_so (λ r. Serves objects rows old (Ahead one other) r old) unserved result e same h
-
-  -- the line was written, or the writer failed
-  pub ahead_written : (new : Option (List ℕ)) (ahead behind : ℕ) (line : List ℕ) (result : Result (Unit {0}) Fault) → Counts objects rows one other ahead → Counts objects rows other one behind → line ≡ ahead_line ahead behind
-      → OnOk result (Appends old new line) → IfErr result (BreaksOff old new line) → Serves objects rows old (Ahead one other) result new
-  ahead_written new ahead behind line result a b is = written_or_begun objects rows old (Ahead one other) line (λ full h. counted ahead behind a b (subst (Appends old full) is h)) new result

@@ -1,6 +1,6 @@
 -- What a run of `breadth`, `newest` or `oldest` writes, by what commits reach.
 use Rattle.std.proofs.Common.{◌≡◌, ◌≢◌, ℕ, List, [], ◌∷◌, ◌++◌, map, Option, Some, Result, Ok, Err, refl, sym, ap, subst, ◌∙◌}
-use Rattle.gix_commands.proofs.Common.{ObjectId, Objects, GraphRow, IsAgreeing, Info, Parents, time_order}
+use Rattle.gix_commands.proofs.Common.{ObjectId, Objects, GraphRow, IsAgreeing, none_agree, Info, Parents, time_order}
 use Rattle.gix_commands.proofs.Common.{text_next, Fault, AreWhole, EndsWell}
 use Rattle.gix_commands.proofs.Common.{stored, Runs, without_memory, no_command, not_read, bad_record, served, Ends, StartsFrom, finished, lines_of, line_of, Request, request_of, only_reading}
 use Rattle.gix_commands.proofs.Common.{no_bad_record}
@@ -9,6 +9,7 @@ use Rattle.gix_records.specs.Records.{Record, AreRecords}
 use Rattle.gix_commands.specs.Readable.{readable, reads_all_lines}
 use Rattle.gix_commands.specs.Run.{Serves}
 use Rattle.gix_commands.specs.Walked.{Walk, Answers, IsWalkFault}
+use Rattle.gix_commands.proofs.ReadableObjects.{readable_whole}
 use Rattle.gix_commands.proofs.SimpleRuns.{all_read, listed_none, listed_text, listed_whole}
 use Rattle.gix_commands.proofs.OtherParents.{by_texts}
 use Rattle.gix_commands.proofs.ListedCommits.{IsSimpleBy, kept_tips, lines_of_ids}
@@ -32,6 +33,13 @@ ends_well words input records request answer old new asked are well (not_read ot
 ends_well words input records request answer old new asked are well (bad_record other there n t same b) = absurd (no_bad_record n records there b (subst (AreRecords records) (sym same) are))
 ends_well words input records request answer old new asked are well (served other there read t same is s) =
     well answer new (subst (λ r. Serves (readable (reads_all_lines r) (stored records)) [] old r answer new) (ok_same (sym t ∙ asked)) (subst (λ rs. Serves (readable (reads_all_lines other) (stored rs)) [] old other answer new) (only_reading read records input (subst (AreRecords read) same is) are) s))
+
+-- the same where that is so of all whole commits that are reached
+pub ends_whole : (words : List (List ℕ)) (input : List ℕ) (records : List Record) (request : Request) (ids : List ObjectId) (answer : Result (Unit {0}) Fault) (old new : Option (List ℕ)) → request_of words ≡ Ok request → AreRecords records input → AreWhole (stored records) ids
+    → ((objects : Objects) (rows : List GraphRow) → IsAgreeing objects rows → AreWhole objects ids → (given : Result (Unit {0}) Fault) (left : Option (List ℕ)) → Serves objects rows old request given left → EndsWell given) → Runs words (Some input) old answer new → EndsWell answer
+ends_whole words input records request ids answer old new asked are whole well =
+    let those : Objects = readable (reads_all_lines request) (stored records) in
+    ends_well words input records request answer old new asked are (well those [] (none_agree those [] refl) (readable_whole (reads_all_lines request) (stored records) ids whole))
 
 module _ (objects : Objects) (rows : List GraphRow) (agreeing : IsAgreeing objects rows) (m : Parents) (by : Sorting) (tips hidden : List ObjectId) where
   abbrev left : List ObjectId

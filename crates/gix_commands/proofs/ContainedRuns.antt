@@ -1,17 +1,15 @@
 -- What a run of `contains` writes, by what commits reach.
-use Rattle.std.proofs.Common.{◌≡◌, ◌≢◌, ℕ, List, [], ◌∷◌, ◌++◌, false, Option, Some, None, Result, Ok, Contains, IsSome, refl, sym, ap, subst, ⊎_elim, ◌∙◌}
+use Rattle.std.proofs.Common.{◌≡◌, ◌≢◌, ℕ, List, [], ◌∷◌, ◌++◌, Option, Some, None, Result, Ok, Contains, IsSome, refl, sym, ap, subst, ⊎_elim, ◌∙◌}
 use Rattle.gix_commands.proofs.Common.{Appends, Contains-append_left, Contains-append_right, Contains-append_cases, ObjectId, Contains-here, Contains-there, Contains-cons_cases, only_member, Objects, GraphRow}
-use Rattle.gix_commands.proofs.Common.{row_of, stored, IsAgreeing, RowAgrees, commit_at, parents_of, reach_more, row_stands, none_agree, whole_from, Fault, fault_of_contained, AreWhole, EndsWell}
-use Rattle.gix_commands.proofs.Common.{ContainsSucceeds, selected, not_selected, unserved, never_faulty, Contained}
+use Rattle.gix_commands.proofs.Common.{row_of, IsAgreeing, RowAgrees, commit_at, parents_of, reach_more, row_stands, whole_from, Fault, fault_of_contained, AreWhole, EndsWell}
+use Rattle.gix_commands.proofs.Common.{ContainsSucceeds, selected, not_selected, never_faulty, Contained}
 use Rattle.gix_contained.specs.Contained.{AreContained}
 use Rattle.gix_hash.specs.Reach.{Reaches}
 use Rattle.gix_contained.proofs.Faultless.{store_alone}
 use Rattle.gix_paint.specs.Painting.{IsHistory}
 use Rattle.gix_paint.proofs.Invariant.{own_history}
-use Rattle.gix_commands.specs.Readable.{readable}
-use Rattle.gix_commands.specs.Run.{Serves, cut_off}
-use Rattle.gix_commands.proofs.ReadableObjects.{readable_whole}
-use Rattle.gix_commands.proofs.CommitRuns.{ends_well}
+use Rattle.gix_commands.specs.Run.{Serves}
+use Rattle.gix_commands.proofs.CommitRuns.{ends_whole}
 use Rattle.gix_commands.proofs.InternalFacts.{contained_sound}
 use Rattle.gix_commands.proofs.ListedCommits.{lines_of_ids}
 
@@ -59,15 +57,13 @@ module _ (tip : ObjectId) (ids : List ObjectId) where
     }
 
     -- where all that is reached is whole no commit is a fault
-    selects_well : AreWhole objects (tip ∷ ids) → (answer : Result (Unit {0}) Fault) (new old : Option (List ℕ)) → Serves objects rows old (Contained tip ids) answer new → EndsWell answer
-    selects_well whole answer new old (selected those s written) = tt
-    selects_well whole answer new old (not_selected e f) =
+    selects_well : {old : Option (List ℕ)} → AreWhole objects (tip ∷ ids) → (answer : Result (Unit {0}) Fault) (new : Option (List ℕ)) → Serves objects rows old (Contained tip ids) answer new → EndsWell answer
+    selects_well whole answer new (not_selected e f) =
         absurd
         (contained_sound objects rows (tip ∷ []) ids e f
         (ap fault_of_contained (store_alone objects (never_faulty objects) rows (tip ∷ []) ids e agreeing (λ i r. whole_from objects i (whole i (reach_more (parents_of objects) (ids ++ tip ∷ []) (tip ∷ ids) among_back i r))) f)))
-    selects_well whole answer new old unserved = tt
-    selects_well whole answer new old (cut_off some more s a b) = tt
+    selects_well whole answer new s = tt
 
 pub contains_succeeds : ContainsSucceeds
-contains_succeeds words input records tip ids answer old new asked are whole runs =
-    ends_well words input records (Contained tip ids) answer old new asked are (λ given left s. selects_well tip ids (readable false (stored records)) [] (none_agree (readable false (stored records)) [] refl) (readable_whole false (stored records) (tip ∷ ids) whole) given left old s) runs
+contains_succeeds words input records tip ids answer old new asked are whole =
+    ends_whole words input records (Contained tip ids) (tip ∷ ids) answer old new asked are whole (λ objects rows agreeing all given left. selects_well tip ids objects rows agreeing all given left)

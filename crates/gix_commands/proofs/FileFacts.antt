@@ -1,6 +1,6 @@
 -- The lines of the entries of a tree.
 use Rattle.std.proofs.Common.{◌≡◌, ◌⊎◌, inl, inr, ℕ, ◌-◌, ◌^◌, List, [], ◌∷◌, ◌++◌, false, Option, Some, Result, Err, IfSome, IfErr, OnOk, sym, ap, subst, ◌∙◌, append_assoc, append-nil}
-use Rattle.gix_commands.proofs.Common.{digits, format_spec, ◌++?◌, Appends, ObjectId, hex_of, Objects, GraphRow, Fault, six_octal_digits, file_line, AreLinesOf, IsTreeFault, not_listed, unserved}
+use Rattle.gix_commands.proofs.Common.{digits, format_spec, ◌++?◌, Appends, ObjectId, hex_of, Objects, GraphRow, Fault, six_octal_digits, file_line, AreLinesOf, IsTreeFault, not_listed}
 use Rattle.gix_commands.proofs.Common.{EntryLines, Files}
 use Rattle.std.specs.Fmt.{padded_integral, char_count}
 use Rattle.std.proofs.Math.Nat.{sub-zero}
@@ -8,8 +8,7 @@ use Rattle.gix_tree.specs.Recorder.{Record}
 use Rattle.gix_commands.specs.Files.{IsWalkFaultOf, IsNameFaultOf}
 use Rattle.gix_commands.specs.Output.{BreaksOff}
 use Rattle.gix_commands.specs.Run.{Serves, listed, misnamed}
-use Rattle.gix_commands.proofs.BrokenOff.{written_or_begun}
-use Rattle.gix_commands.proofs.MemoryFaults.{failed_so}
+use Rattle.gix_commands.proofs.ServedCalls.{nothing_written, written_or_begun}
 
 -- six places, filled up with zeros
 abbrev pub in_octal : ℕ → List ℕ
@@ -40,7 +39,7 @@ module _ (objects : Objects) (rows : List GraphRow) (old : Option (List ℕ)) (s
 
   -- nothing was written
   pub files_failed : (store : Objects) → store ≡ objects → (result : Result (Unit {0}) Fault) (e : Fault) → result ≡ Err e → IsTreeFault store tree e → Serves objects rows old (Files shown tree) result old
-  files_failed store is result e same h = failed_so (λ r. Serves objects rows old (Files shown tree) r old) unserved result e same (λ other. tree_failed e (subst (λ o. IsTreeFault o tree e) is h other))
+  files_failed store is result e same h = nothing_written objects rows old (Files shown tree) result e same (λ other. tree_failed e (subst (λ o. IsTreeFault o tree e) is h other))
 
   -- the lines were written, or the writer failed
   pub files_written : (store : Objects) → store ≡ objects → (new : Option (List ℕ)) (lines : List ℕ) (result : Result (Unit {0}) Fault) → AreLinesOf shown store tree lines → OnOk result (Appends old new lines) → IfErr result (BreaksOff old new lines) → Serves objects rows old (Files shown tree) result new

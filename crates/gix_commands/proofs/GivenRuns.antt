@@ -7,7 +7,7 @@ use Rattle.gix_records.specs.Records.{no_memory}
 use Rattle.gix_words.specs.declared.fault.Fault.TheVariants as fault
 use Rattle.gix_commands.specs.Run.{Serves}
 use Rattle.gix_commands.proofs.WalkFaults.{OfWalk, serves_of_walk}
-use Rattle.gix_commands.proofs.WordFaults.{OfWords, request_words}
+use Rattle.gix_commands.proofs.SameWords.{OfWords, request_words}
 
 of_reader : (has : Option (List ℕ)) (input bytes other : List ℕ) → Tells has input → bytes ≡ input → other ≡ bytes → Tells has other
 of_reader has input bytes other told read same = subst (Tells has) (sym (same ∙ read)) told

@@ -1,12 +1,11 @@
 mod Common
-pub mod WordFaults
 pub mod WalkFaults
 pub mod MemoryFaults
 mod OutputFacts
 mod WrittenForms
 mod ChosenFacts
 mod LookedAt
-mod BrokenOff
+mod ServedCalls
 mod InternalFacts
 mod TreeFacts
 mod TopoInternalFacts
@@ -18,9 +17,6 @@ mod RowedParents
 pub mod CheckedWalks
 mod CheckedSteps
 mod AheadFacts
-mod ContainedFacts
-mod ContainingFacts
-mod BasesFacts
 mod StartFacts
 pub mod RunFacts
 pub mod GivenRuns
@@ -59,6 +55,7 @@ mod SameOrders
 mod SameDescents
 mod SameTrees
 pub mod SameWords
+mod SameReach
 mod SameContained
 mod SameContaining
 mod SameBases

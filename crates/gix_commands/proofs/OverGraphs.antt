@@ -19,7 +19,7 @@ use Rattle.gix_commands.proofs.MemoryFaults.{failed_so}
 use Rattle.gix_commands.proofs.ReadableObjects.{readable_agrees}
 use Rattle.gix_commands.proofs.RunFacts.{err_same, told_same, serves_sound}
 use Rattle.gix_commands.proofs.WalkFaults.{OfWalk, serves_of_walk}
-use Rattle.gix_commands.proofs.WordFaults.{OfWords, request_words}
+use Rattle.gix_commands.proofs.SameWords.{OfWords, request_words}
 
 -- rows that were opened agree with a store that has them beside what was stored, where that is as they say
 pub opened_agree : (layers : List (List ℕ)) (rows : List GraphRow) (objects : Objects) → Opens layers rows → StoredAgree rows objects → IsAgreeing (with_rows rows objects) rows

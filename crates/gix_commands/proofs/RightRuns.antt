@@ -1,7 +1,7 @@
 -- What a run over objects and rows that agree with them has written is right in each history that has these objects, where what is said to
 -- be a commit has the text of one.
 use Rattle.std.proofs.Common.{◌≡◌, ◌≢◌, ℕ, List, [], ◌∷◌, Option, Some, Result, Ok, Err, Contains, codes, refl, sym, ap, subst, inl, ◌∙◌}
-use Rattle.gix_commands.proofs.Common.{get, kind_of, Parents, ReadsParents, IsCommitRead, IsReached, objects_of, plan_from, IsBuiltFrom, Appends, Contains-get_or, Contains-here, Contains-there, ObjectId, Objects, GraphRow, IsAgreeing, text_next, time_of, Fault, Simple, Topo, AreWhole, whole_from, not_listed, not_ahead, not_behind, not_joined, not_reaching, not_selected, unserved, Request, Commits, EntryLines, Files, Ahead, Contained, Containing, Bases, request_of, Shown}
+use Rattle.gix_commands.proofs.Common.{get, kind_of, Parents, ReadsParents, IsCommitRead, IsReached, objects_of, plan_from, IsBuiltFrom, Appends, Contains-get_or, Contains-here, Contains-there, ObjectId, Objects, GraphRow, IsAgreeing, text_next, time_of, Fault, Simple, Topo, AreWhole, whole_from, not_listed, unserved, Request, Commits, EntryLines, Files, Ahead, Contained, Containing, Bases, request_of, Shown}
 use Rattle.gix_object.specs.CommitItems.{commit_items}
 use Rattle.gix_object.specs.declared.Kind.TheVariants as kind
 use Rattle.gix_revwalk.specs.declared.Parents.TheVariants as mode
@@ -56,8 +56,8 @@ module _ (objects : Objects) (rows : List GraphRow) (agrees : IsAgreeing objects
   files_right words shown tree w (Err e) new unserved = inl refl
   files_right words shown tree w (Err e) new (cut_off {answer = answer} {full = full} some more s a b) = cut_right (page_objects objects) words old answer full new some more (files_right words shown tree w answer full s) a b
 
-  ahead_right : (words : List (List ℕ)) (one other : ObjectId) → AreWordsOf words (Ok (Ahead one other)) → (answer : Result (Unit {0}) Fault) (new : Option (List ℕ)) → Serves objects rows old (Ahead one other) answer new → RightSo words answer new
-  ahead_right words one other (a, b, is, spells, spells_other) (Ok tt) new s =
+  ahead_right : (words : List (List ℕ)) (one other : ObjectId) → AreWordsOf words (Ok (Ahead one other)) → (new : Option (List ℕ)) → Serves objects rows old (Ahead one other) (Ok tt) new → RightSo words (Ok tt) new
+  ahead_right words one other (a, b, is, spells, spells_other) new s =
       let both : List ObjectId = one ∷ other ∷ [] in
       let n = counted_so objects rows agrees one other old new s in
       let whole : AreWhole objects both = counted_whole objects rows agrees one other old new s in
@@ -69,42 +69,29 @@ module _ (objects : Objects) (rows : List GraphRow) (agrees : IsAgreeing objects
       (number_shown objects (text_next objects) one other n.0 (number_by_texts objects both whole one other first second n.0 n.2))
       (number_shown objects (text_next objects) other one n.1 (number_by_texts objects both whole other one second first n.1 n.3))
       n.4)
-  ahead_right words one other w (Err e) new (not_ahead f) = inl refl
-  ahead_right words one other w (Err e) new (not_behind n a f) = inl refl
-  ahead_right words one other w (Err e) new unserved = inl refl
-  ahead_right words one other w (Err e) new (cut_off {answer = answer} {full = full} some more s a b) = cut_right (page_objects objects) words old answer full new some more (ahead_right words one other w answer full s) a b
 
-  contained_right : (words : List (List ℕ)) (tip : ObjectId) (ids : List ObjectId) → AreWordsOf words (Ok (Contained tip ids)) → (answer : Result (Unit {0}) Fault) (new : Option (List ℕ)) → Serves objects rows old (Contained tip ids) answer new → RightSo words answer new
-  contained_right words tip ids (rest, is, tips, some) (Ok tt) new s =
+  contained_right : (words : List (List ℕ)) (tip : ObjectId) (ids : List ObjectId) → AreWordsOf words (Ok (Contained tip ids)) → (new : Option (List ℕ)) → Serves objects rows old (Contained tip ids) (Ok tt) new → RightSo words (Ok tt) new
+  contained_right words tip ids (rest, is, tips, some) new s =
       let k = selected_so tip ids objects rows agrees old new some s in
       subst (EachSo new) (sym is) (λ other times another.
       contains tips some (λ n d below. whole_there objects _ (whole_from objects _ (k.there _ (Contains-get_or (tip ∷ ids) n d below))))
       (contained_kept objects other times another tip [] k.exact k.whole) (subst (Appends old new) (id_lines k.those) k.written))
-  contained_right words tip ids w (Err e) new (not_selected why f) = inl refl
-  contained_right words tip ids w (Err e) new unserved = inl refl
-  contained_right words tip ids w (Err e) new (cut_off {answer = answer} {full = full} some more s a b) = cut_right (page_objects objects) words old answer full new some more (contained_right words tip ids w answer full s) a b
 
-  containing_right : (words : List (List ℕ)) (target : ObjectId) (tips : List ObjectId) → AreWordsOf words (Ok (Containing target tips)) → (answer : Result (Unit {0}) Fault) (new : Option (List ℕ)) → Serves objects rows old (Containing target tips) answer new → RightSo words answer new
-  containing_right words target tips (rest, is, are, some) (Ok tt) new s =
-      let c = reaching_so target tips objects rows agrees old new some s in
+  containing_right : (words : List (List ℕ)) (target : ObjectId) (tips : List ObjectId) → AreWordsOf words (Ok (Containing target tips)) → (new : Option (List ℕ)) → Serves objects rows old (Containing target tips) (Ok tt) new → RightSo words (Ok tt) new
+  containing_right words target tips (rest, is, are, some) new s =
+      let c = reaching_so objects rows agrees target tips old new some s in
       subst (EachSo new) (sym is)
       (containing_each (page_objects objects) [] (text_next objects) (time_of objects) (fed_history objects) old new are some
       (tips_there objects target tips c.2) (all_there objects (target ∷ tips) c.2)
       (containing_so objects target tips c.2 c.0 c.1) (subst (Appends old new) (id_lines c.0) c.3))
-  containing_right words target tips w (Err e) new (not_reaching why f) = inl refl
-  containing_right words target tips w (Err e) new unserved = inl refl
-  containing_right words target tips w (Err e) new (cut_off {answer = answer} {full = full} some more s a b) = cut_right (page_objects objects) words old answer full new some more (containing_right words target tips w answer full s) a b
 
-  bases_right : (words : List (List ℕ)) (one : ObjectId) (others : List ObjectId) → AreWordsOf words (Ok (Bases one others)) → (answer : Result (Unit {0}) Fault) (new : Option (List ℕ)) → Serves objects rows old (Bases one others) answer new → RightSo words answer new
-  bases_right words one others (rest, is, tips, some) (Ok tt) new s =
-      let c = joined_so one others objects rows agrees old new some s in
+  bases_right : (words : List (List ℕ)) (one : ObjectId) (others : List ObjectId) → AreWordsOf words (Ok (Bases one others)) → (new : Option (List ℕ)) → Serves objects rows old (Bases one others) (Ok tt) new → RightSo words (Ok tt) new
+  bases_right words one others (rest, is, tips, some) new s =
+      let c = joined_so objects rows agrees one others old new some s in
       subst (EachSo new) (sym is)
       (bases_each (page_objects objects) [] (text_next objects) (time_of objects) (fed_history objects) old new c.0 tips some
       (one_there objects one others c.2) (others_there objects one others c.2) (all_there objects (one ∷ others) c.2)
       (bases_so objects one others c.2 c.0 c.1) (rising_so c.0 c.1.rising) (subst (Appends old new) (id_lines c.0) c.3))
-  bases_right words one others w (Err e) new (not_joined why f) = inl refl
-  bases_right words one others w (Err e) new unserved = inl refl
-  bases_right words one others w (Err e) new (cut_off {answer = answer} {full = full} some more s a b) = cut_right (page_objects objects) words old answer full new some more (bases_right words one others w answer full s) a b
 
   -- commits that are read have the text of one
   module _ (request : Request) (have : HaveTexts request (page_objects objects)) where
@@ -127,10 +114,12 @@ module _ (objects : Objects) (rows : List GraphRow) (agrees : IsAgreeing objects
       subst (λ asked. RightSo asked answer new) (sym is)
       (topo_right objects rows agrees m by tips ends some (down_there (Commits (Topo m by) shown tips ends) have) (read m by tips ends) old name option rest named chosen shown place chooses answer new s)
   right_of_words words (Files shown tree) w have answer new s = files_right words shown tree w answer new s
-  right_of_words words (Ahead one other) w have answer new s = ahead_right words one other w answer new s
-  right_of_words words (Contained tip ids) w have answer new s = contained_right words tip ids w answer new s
-  right_of_words words (Containing target tips) w have answer new s = containing_right words target tips w answer new s
-  right_of_words words (Bases one others) w have answer new s = bases_right words one others w answer new s
+  right_of_words words (Ahead one other) w have (Ok tt) new s = ahead_right words one other w new s
+  right_of_words words (Contained tip ids) w have (Ok tt) new s = contained_right words tip ids w new s
+  right_of_words words (Containing target tips) w have (Ok tt) new s = containing_right words target tips w new s
+  right_of_words words (Bases one others) w have (Ok tt) new s = bases_right words one others w new s
+  right_of_words words request w have (Err e) new (cut_off {answer = answer} {full = full} some more s a b) = cut_right (page_objects objects) words old answer full new some more (right_of_words words request w have answer full s) a b
+  right_of_words words request w have (Err e) new s = inl refl
 
   pub right : (words : List (List ℕ)) (request : Request) → request_of words ≡ Ok request → HaveTexts request (page_objects objects) → (answer : Result (Unit {0}) Fault) (new : Option (List ℕ)) → Serves objects rows old request answer new → RightSo words answer new
   right words request asked have answer new s = right_of_words words request (subst (AreWordsOf words) asked (are_words words)) have answer new s

@@ -1,6 +1,6 @@
 -- What a run may answer.
 use Rattle.std.proofs.Common.{◌≡◌, ◌≢◌, ℕ, List, [], ◌∷◌, Option, Some, None, Result, Ok, Err, refl, sym, subst, ap, ◌∙◌}
-use Rattle.gix_commands.proofs.Common.{get, same_map, ObjectId, Object, Objects, id_total, id_apart, with_rows, GraphRow, IsAgreeing, none_agree, Info, Parents, Fault, Order, Simple, Topo, fault_of_records, fault_of_walk, fault_of_topo_walk, WritesAll, stored, walked, not_walked, walked_down, not_built, not_listed, counted, not_ahead, not_behind, selected, not_selected, reaching, not_reaching, joined, not_joined, unserved, Runs, without_memory, no_command, Shown, Writes, kept_in}
+use Rattle.gix_commands.proofs.Common.{get, same_map, ObjectId, Object, Objects, id_total, id_apart, with_rows, GraphRow, IsAgreeing, none_agree, Info, Parents, Fault, Order, Simple, Topo, fault_of_records, fault_of_walk, fault_of_topo_walk, WritesAll, stored, walked, not_walked, walked_down, not_built, not_listed, not_ahead, not_behind, not_selected, not_reaching, not_joined, unserved, Runs, without_memory, no_command, Shown, Writes, kept_in}
 use Rattle.gix_commands.proofs.Common.{not_read, bad_record, served, StartsFrom, FailsAtStart, IsStartFault, Ends, EndsBy, finished, cut_short, enough, before, Request, Commits, request_of, no_bad_record}
 use Rattle.std.specs.Option.{option_or}
 use Rattle.gix_graph_store.proofs.ToldObjects.{get-with_rows}
@@ -21,7 +21,7 @@ use Rattle.gix_commands.specs.Output as output
 use Rattle.gix_commands.specs.Output.{WritesBegun, cut}
 use Rattle.gix_commands.specs.Readable.{readable, reads_all_lines}
 use Rattle.gix_commands.specs.Run as run
-use Rattle.gix_commands.specs.Run.{Serves, listed, misnamed, cut_off}
+use Rattle.gix_commands.specs.Run.{Serves, cut_off}
 use Rattle.gix_commands.specs.TopoWalked as topo
 use Rattle.gix_commands.specs.Walked.{Walk, Answers, IsWalkFault, failed}
 use Rattle.gix_commands.proofs.CheckedWalks.{IsChecked, IsItself, from_by, well, lacking}
@@ -31,7 +31,8 @@ use Rattle.gix_commands.proofs.InternalFacts.{IsSound, next_sound, start_sound, 
 use Rattle.gix_commands.proofs.TopoInternalFacts.{drawn_sound, built_agreeing, build_sound}
 use Rattle.gix_commands.proofs.TreeFacts.{tree_sound}
 use Rattle.gix_commands.proofs.WalkFaults.{OfWalk, serves_of_walk}
-use Rattle.gix_commands.proofs.WordFaults.{OfWords, request_words}
+use Rattle.gix_commands.proofs.SameWords.{OfWords, request_words}
+use Rattle.gix_commands.proofs.ServedCalls.{nothing_written}
 
 pub err_same : {e f : Fault} → ◌≡◌ {A = Result (Unit {0}) Fault} (Err e) (Err f) → e ≡ f
 err_same same = cc
@@ -76,20 +77,13 @@ serves_sound {objects} {rows} agreeing (run.lost walk at infos {why = why} by s 
 serves_sound agreeing (not_walked why f) = λ same. start_sound f (err_same same)
 serves_sound {objects} agreeing (walked_down {shown = shown} walk infos built ends a) = topo_by_sound (kept_in objects shown) shown.limit walk infos (built_agreeing built agreeing) ends
 serves_sound {objects} {rows} agreeing (not_built {parents = m} {by = by} {tips = tips} {ends = ends} why h) = λ same. build_sound objects rows agreeing m by tips ends why h (err_same same)
-serves_sound agreeing (listed recorder r n a) = λ e. cc
 serves_sound {objects} agreeing (not_listed recorder why r) = λ same. tree_sound objects r (err_same same)
-serves_sound agreeing (misnamed recorder r f) = λ e. cc
-serves_sound agreeing (counted ahead behind c d a) = λ e. cc
 serves_sound agreeing (not_ahead f) = ends_sound f.1.ends
 serves_sound agreeing (not_behind n a f) = ends_sound f.1.ends
-serves_sound agreeing (selected those s a) = λ e. cc
 serves_sound {objects} {rows} agreeing (not_selected {tip = tip} {ids = ids} why f) = λ same. contained_sound objects rows (tip ∷ []) ids why f (err_same same)
-serves_sound agreeing (reaching those f a) = λ e. cc
 serves_sound {objects} {rows} agreeing (not_reaching {target = target} {tips = tips} why f) = λ same. bases_sound objects rows agreeing target tips why f (err_same same)
-serves_sound agreeing (joined bases f a) = λ e. cc
 serves_sound {objects} {rows} agreeing (not_joined {one = one} {others = others} why f) = λ same. bases_sound objects rows agreeing one others why f (err_same same)
-serves_sound agreeing unserved = λ e. cc
-serves_sound agreeing (cut_off some more s a b) = λ e. cc
+serves_sound agreeing s = λ e. cc
 
 pub runs_sound : {words : List (List ℕ)} {has old : Option (List ℕ)} {answer : Result (Unit {0}) Fault} {new : Option (List ℕ)} → Runs words has old answer new → answer ≢ Err fault.Internal
 runs_sound without_memory = λ e. cc
@@ -167,7 +161,7 @@ module _ (objects : Objects) (rows : List GraphRow) (old : Option (List ℕ)) (m
 
   -- the walk couldn't start
   pub serves_no_walk : (result : Result (Unit {0}) Fault) (e : Fault) → result ≡ Err e → IsStartFault objects by tips e → Serves objects rows old (Commits (Simple m by) shown tips hidden) result old
-  serves_no_walk result e same h = failed_so (λ r. Serves objects rows old (Commits (Simple m by) shown tips hidden) r old) unserved result e same (λ other. not_started e (h other))
+  serves_no_walk result e same h = nothing_written objects rows old (Commits (Simple m by) shown tips hidden) result e same (λ other. not_started e (h other))
 
 module _ (objects : Objects) (rows : List GraphRow) (old : Option (List ℕ)) (m : Parents) (by : TopoSorting) (shown : Shown) (tips ends : List ObjectId) where
   pub serves_topo : (new : Option (List ℕ)) (walk : topo.Walk) (chooser : Choosing) → chooser ≡ fresh_choosing objects shown → topo.IsBuiltFrom objects rows m by tips ends (Ok walk) → (result : Result (Unit {0}) Fault)
@@ -181,7 +175,7 @@ module _ (objects : Objects) (rows : List GraphRow) (old : Option (List ℕ)) (m
 
   -- the walk couldn't be built
   pub serves_no_topo : (result : Result (Unit {0}) Fault) (e : Fault) → result ≡ Err e → topo.IsStartFault objects rows m by tips ends e → Serves objects rows old (Commits (Topo m by) shown tips ends) result old
-  serves_no_topo result e same h = failed_so (λ r. Serves objects rows old (Commits (Topo m by) shown tips ends) r old) unserved result e same (λ other. topo_not_built e (h other))
+  serves_no_topo result e same h = nothing_written objects rows old (Commits (Topo m by) shown tips ends) result e same (λ other. topo_not_built e (h other))
 
 -- words that are a command aren't rejected
 pub no_rejection : {command : Result Request Fault} {request : Request} {A : Type 0} → command ≡ Ok request → (e : Fault) → command ≡ Err e → A

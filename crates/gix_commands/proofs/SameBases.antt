@@ -1,13 +1,13 @@
 -- The best common ancestors, by the parents that texts name and in the words of the statement.
-use Rattle.std.proofs.Common.{◌≡◌, ◌↔◌, List, [], ◌∷◌, AllPairs, Contains, get_or, refl, sym, subst, Less}
-use Rattle.gix_commands.proofs.Common.{ObjectId, Objects, AreWhole, Contains-here, Contains-there, by_bytes, only_member, parents_of, reaches_from, step, text_next, text_whole, whole_from}
+use Rattle.std.proofs.Common.{◌≡◌, ◌↔◌, List, [], ◌∷◌, AllPairs, Contains, get_or, refl, subst, Less}
+use Rattle.gix_commands.proofs.Common.{ObjectId, Objects, AreWhole, Contains-here, Contains-there, by_bytes, only_member, parents_of, text_next}
 use Rattle.gix_hash.specs.Id.{id_cmp}
 use Rattle.gix_hash.specs.Reach.{Reaches, start}
 use Rattle.gix_hash.specs.declared.ObjectId.TheVariants.{Sha1, Sha256}
 use Rattle.gix_merge_base.specs.Bases.{IsBest, IsCommon, AreBases}
 use Rattle.gix_statement.specs.WholeStatement as page
 use Rattle.gix_commands.specs.Pages.{page_objects}
-use Rattle.gix_commands.proofs.PageCommits.{whole_there}
+use Rattle.gix_commands.proofs.SameReach.{all_met, back, is_there, there}
 
 -- the order of ids
 same_order : (i j : ObjectId) → id_cmp i j ≡ by_bytes i j
@@ -24,24 +24,6 @@ module _ (objects : Objects) (one : ObjectId) (others : List ObjectId) (whole : 
   abbrev Met : ObjectId → Type 0
   Met = Reaches (parents_of objects) (one ∷ others)
 
-  module _ (starts : List ObjectId) (met : (j : ObjectId) → Contains starts j → Met j) where
-    all_met : (i : ObjectId) → Reaches (parents_of objects) starts i → Met i
-    all_met i r = reaches_from (parents_of objects) starts (one ∷ others) met i r
-
-    same_at : (i : ObjectId) → Reaches (parents_of objects) starts i → parents_of objects i ≡ text_next objects i
-    same_at i r = text_whole objects i (whole_from objects i (whole i (all_met i r)))
-
-    there : (i : ObjectId) → Reaches (parents_of objects) starts i → page.Reaches (text_next objects) starts i
-    there i (start s) = page.start s
-    there i (step {c = c} r n) = page.parent (there c r) (subst (λ xs. Contains xs i) (same_at c r) n)
-
-    back : (i : ObjectId) → page.Reaches (text_next objects) starts i → Reaches (parents_of objects) starts i
-    back i (page.start s) = start s
-    back i (page.parent {child = c} r n) = let p : Reaches (parents_of objects) starts c = back c r in step p (subst (λ xs. Contains xs i) (sym (same_at c p)) n)
-
-    is_there : (i : ObjectId) → page.Reaches (text_next objects) starts i → page.IsThere (page_objects objects) [] i
-    is_there i r = whole_there objects i (whole_from objects i (whole i (all_met i (back i r))))
-
   by_one : (j : ObjectId) → Contains (one ∷ []) j → Met j
   by_one j m = start (subst (Contains (one ∷ others)) (only_member one j m) (Contains-here one others))
 
@@ -49,10 +31,10 @@ module _ (objects : Objects) (one : ObjectId) (others : List ObjectId) (whole : 
   by_others j m = start (Contains-there j one others m)
 
   pub one_there : (i : ObjectId) → page.Reaches (text_next objects) (one ∷ []) i → page.IsThere (page_objects objects) [] i
-  one_there = is_there (one ∷ []) by_one
+  one_there = is_there objects (one ∷ others) whole (one ∷ []) by_one
 
   pub others_there : (i : ObjectId) → page.Reaches (text_next objects) others i → page.IsThere (page_objects objects) [] i
-  others_there = is_there others by_others
+  others_there = is_there objects (one ∷ others) whole others by_others
 
   abbrev Common : ObjectId → Type 0
   Common = IsCommon (parents_of objects) one others
@@ -61,19 +43,19 @@ module _ (objects : Objects) (one : ObjectId) (others : List ObjectId) (whole : 
   Also i = page.Reaches (text_next objects) (one ∷ []) i × page.Reaches (text_next objects) others i
 
   common_there : (i : ObjectId) → Common i → Also i
-  common_there i k = (there (one ∷ []) by_one i k.of_one, there others by_others i k.of_others)
+  common_there i k = (there objects (one ∷ others) whole (one ∷ []) by_one i k.of_one, there objects (one ∷ others) whole others by_others i k.of_others)
 
   common_back : (i : ObjectId) → Also i → Common i
-  common_back i k = record { of_one = back (one ∷ []) by_one i k.0; of_others = back others by_others i k.1 }
+  common_back i k = record { of_one = back objects (one ∷ others) whole (one ∷ []) by_one i k.0; of_others = back objects (one ∷ others) whole others by_others i k.1 }
 
   by_common : (j : ObjectId) → Common j → (i : ObjectId) → Contains (j ∷ []) i → Met i
-  by_common j k i m = subst Met (only_member j i m) (all_met (one ∷ []) by_one j k.of_one)
+  by_common j k i m = subst Met (only_member j i m) (all_met objects (one ∷ others) whole (one ∷ []) by_one j k.of_one)
 
   base_there : (i : ObjectId) → IsBest (parents_of objects) one others i → page.IsBase (text_next objects) one others i
-  base_there i b = (common_there i b.common, λ j k r. let c = common_back j k in b.alone j c (back (j ∷ []) (by_common j c) i r))
+  base_there i b = (common_there i b.common, λ j k r. let c = common_back j k in b.alone j c (back objects (one ∷ others) whole (j ∷ []) (by_common j c) i r))
 
   base_back : (i : ObjectId) → page.IsBase (text_next objects) one others i → IsBest (parents_of objects) one others i
-  base_back i b = record { common = common_back i b.0; alone = λ j k r. b.1 j (common_there j k) (there (j ∷ []) (by_common j k) i r) }
+  base_back i b = record { common = common_back i b.0; alone = λ j k r. b.1 j (common_there j k) (there objects (one ∷ others) whole (j ∷ []) (by_common j k) i r) }
 
   pub bases_so : (bases : List ObjectId) → AreBases (parents_of objects) one others bases → (i : ObjectId) → Contains bases i ↔ page.IsBase (text_next objects) one others i
   bases_so bases are i = (λ c. base_there i ((are.exact i).0 c), λ b. (are.exact i).1 (base_back i b))

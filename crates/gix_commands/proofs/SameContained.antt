@@ -2,13 +2,14 @@
 use Rattle.std.proofs.Common.{◌≡◌, ℤ, List, [], ◌∷◌, Option, Some, None, Contains, IsSome, refl, sym, ap, subst, ◌∙◌}
 use Rattle.gix_commands.proofs.Common.{ObjectId, Contains-here, Contains-there, no_member, Objects, commit_at, parents_of, text_next, text_whole, time_of, whole_from, AreWhole}
 use Rattle.gix_contained.specs.Contained.{AreContained, empty, reached, passed}
-use Rattle.gix_hash.specs.Reach.{Reaches, start, step}
+use Rattle.gix_hash.specs.Reach.{Reaches}
 use Rattle.gix_object.specs.CommitText.{Commit}
 use Rattle.gix_revwalk.specs.Commits.{parents_in}
 use Rattle.gix_statement.specs.WholeStatement as page
 use Rattle.gix_statement.proofs.EachHistory.{same_parents}
 use Rattle.gix_commands.specs.Pages.{page_objects}
 use Rattle.gix_commands.proofs.PageCommits.{fed_history, whole_there}
+use Rattle.gix_commands.proofs.SameReach.{reach_back, reach_there}
 
 -- what names a parent was read
 names_there : (objects : Objects) (c i : ObjectId) → Contains (parents_of objects c) i → IsSome (commit_at objects c)
@@ -26,13 +27,11 @@ module _ (objects : Objects) (other : ObjectId → List ObjectId) (times : Objec
 
   -- what is reached by the commits at hand is reached in each history
   forward : (i : ObjectId) → Reaches (parents_of objects) (tip ∷ []) i → page.Reaches other (tip ∷ []) i
-  forward i (start s) = page.start s
-  forward i (step {c = c} r m) = page.parent (forward c r) (subst (λ xs. Contains xs i) (same c (names_there objects c i m)) m)
+  forward = reach_there (parents_of objects) other (tip ∷ []) (λ c i r m. subst (λ xs. Contains xs i) (same c (names_there objects c i m)) m)
 
   -- and no more, where all of that is whole
   backward : AreWhole objects (tip ∷ []) → (i : ObjectId) → page.Reaches other (tip ∷ []) i → Reaches (parents_of objects) (tip ∷ []) i
-  backward whole i (page.start s) = start s
-  backward whole i (page.parent {child = c} r m) = let before = backward whole c r in step before (subst (λ xs. Contains xs i) (sym (same c (whole c before))) m)
+  backward whole = reach_back (parents_of objects) other (tip ∷ []) (λ c i r m. subst (λ xs. Contains xs i) (sym (same c (whole c r))) m)
 
   pub contained_kept : (before : List ObjectId) {ids those : List ObjectId} → AreContained (parents_of objects) (tip ∷ []) ids those
       → ((a : ObjectId) → Contains ids a → (Reaches (parents_of objects) (tip ∷ []) a → ⊥) → AreWhole objects (tip ∷ []))

@@ -2,7 +2,8 @@
 use Rattle.std.proofs.Common.{arith, int_le, ◌<◌, ◌≤◌, ◌≡◌, ◌≢◌, ◌⊎◌, ◌+◌, ◌==◌, ◌||◌, ◌&&◌, nat_lt, nat_le, length, ℕ, ℤ, pos, List, [], ◌∷◌, ◌++◌, Bool, true, false, cond, Option, Some, None, Result, Ok, Err, codes, bytes_eq, refl, sym, ap, subst, ◌∙◌, inl}
 use Rattle.std.proofs.Common.{inr, eqb-true, ltb-true, leb-true}
 use Rattle.std.specs.List.{list_all}
-use Rattle.gix_commands.proofs.Common.{false≢true, ObjectId, HexError, id_from_hex, Fault, Order, Simple, Topo, Request, Commits, Files, Ahead, Contained, Containing, Bases, Ranked, Ids, begins_with_caret, begins_with_sign, without_caret, is_shown, with_id, with_word, ids_from, number_in, order_named, limited_of, listed_of, chosen_of, since_of, by_first_parents, in_order_of, ended_files_of, file_of, files_by, files_from, files_of, limited_files_of, ahead_from, ahead_of, asked, several_among, several_from, several_of, request_named, request_of, recent_of, by_cutoff, IsLimit, IsNumber, Spells, AreTips, digits_in, Asked, Shown, chosen_from, commits_in, formed_of, limit_by, merges_of, plain_of, skip_by, until_by, until_of, with_form, with_limit, with_merges, with_skip, with_until, page_choice}
+use Rattle.std.specs.Option.{option_map}
+use Rattle.gix_commands.proofs.Common.{false≢true, ObjectId, HexError, id_from_hex, Fault, Order, Simple, Topo, Request, Commits, Files, Ahead, Contained, Containing, Bases, Ranked, Ids, begins_with_caret, begins_with_sign, without_caret, is_shown, with_id, with_word, ids_from, number_in, order_named, listed_of, chosen_of, since_of, by_first_parents, in_order_of, ended_files_of, file_of, files_by, files_from, files_of, limited_files_of, ahead_from, ahead_of, asked, several_among, several_from, several_of, request_named, request_of, recent_of, by_cutoff, IsLimit, IsNumber, Spells, AreTips, digits_in, Asked, Shown, chosen_from, commits_in, plain_of, page_choice}
 use Rattle.std.proofs.lemmas.Slice.Eq.{bytes_eq-Decides}
 use Rattle.gix_records.specs.Decimal.{digits_behind}
 use Rattle.gix_revwalk.specs.declared.CommitTimeOrder.TheVariants as order
@@ -11,13 +12,30 @@ use Rattle.gix_simple.specs.declared.Sorting.TheVariants as sorting
 use Rattle.gix_topo.specs.declared.Sorting.TheVariants as topo
 use Rattle.gix_statement.specs.WholeStatement as page
 use Rattle.gix_statement.specs.WholeStatement.{Chooses}
-use Rattle.gix_words.specs.Words.{ended_of, limit_from, named_of, skip_from, skipped_of, timed_of, until_from, with_parents, with_time, with_zeros}
+use Rattle.gix_words.specs.Words.{Reader, changed_by, changed_by_number, either_of, ended_of, first_number, formed_of, limited_of, merges_of, named_of, number_option_of, numbered_of, option_of, skipped_of, timed_of, until_of}
 use Rattle.gix_words.specs.declared.fault.Fault.TheVariants as fault
-use Rattle.gix_words.specs.declared.words.Form.TheVariants as form
 use Rattle.gix_words.specs.declared.words.Merges.{Merges}
 use Rattle.gix_words.specs.declared.words.Merges.TheVariants as merges
 use Rattle.gix_commands.specs.Chosen.{kept_of, kept_until, page_form, page_line}
 use Rattle.gix_commands.proofs.SameNumbers.{decimal_digits, hex_spelled}
+
+-- which faults words may have
+abbrev pub IsOfWords : Fault → Type 0
+IsOfWords fault.Usage = Unit {0}
+IsOfWords (fault.Id n) = Unit {0}
+IsOfWords e = ⊥
+
+abbrev pub OfWords : Result Request Fault → Type 0
+OfWords (Ok request) = Unit {0}
+OfWords (Err e) = IsOfWords e
+
+-- what is so of a word that is a name, and of any other, is so by whether it is
+by_name : {R : Type 0} (P : List ℕ → R → Type 0) (word name : List ℕ) {named other : R} → P name named → P word other → P word (cond (bytes_eq word name) named other)
+by_name {R} P word name {named} {other} h k = go (bytes_eq word name) refl
+  where
+    go : (t : Bool) → bytes_eq word name ≡ t → P word (cond t named other)
+    go true e = subst (λ w. P w named) (sym ((bytes_eq-Decides word name).0 e)) h
+    go false e = k
 
 -- the name of an order
 abbrev pub IsNameOf : List ℕ → Order → Type 0
@@ -97,14 +115,14 @@ order_is name = first (bytes_eq name (codes "breadth")) refl
 
 -- what is so of the ids that words spell
 abbrev AreIdsOf : List (List ℕ) → Result Ids Fault → Type 0
-AreIdsOf words (Err e) = Unit {0}
+AreIdsOf words (Err e) = IsOfWords e
 AreIdsOf words (Ok ids) = AreTips words ids.0 ids.1
 
 one_word : (word : List ℕ) (words : List (List ℕ)) (n : ℕ) (rest : Result Ids Fault) → AreIdsOf words rest → AreIdsOf (word ∷ words) (with_word (begins_with_caret word) n (id_from_hex (without_caret word)) rest)
 one_word word words n (Err e) h = go (id_from_hex (without_caret word))
   where
     go : (r : Result ObjectId HexError) → AreIdsOf (word ∷ words) (with_word (begins_with_caret word) n r (Err e))
-    go (Ok i) = tt
+    go (Ok i) = h
     go (Err why) = tt
 one_word [] words n (Ok ids) h = go (id_from_hex []) refl
   where
@@ -145,7 +163,7 @@ IsEndedBy option ending = ((option ≡ []) × (ending ≡ 10)) ⊎ ((option ≡ 
 
 -- what the words of a request are
 abbrev pub AreWordsOf : List (List ℕ) → Result Request Fault → Type 0
-AreWordsOf words (Err e) = Unit {0}
+AreWordsOf words (Err e) = IsOfWords e
 AreWordsOf words (Ok (Commits by shown tips hidden)) =
     (name : List ℕ) × (option rest : List (List ℕ)) × (words ≡ name ∷ (option ++ rest)) × IsNameOf name by × IsOptionOf option by
     × (place : ℕ) × Chooses tips hidden place rest (page_choice shown) × (tips ≢ [])
@@ -158,128 +176,120 @@ AreWordsOf words (Ok (Containing target tips)) = (rest : List (List ℕ)) × (wo
 AreWordsOf words (Ok (Bases one others)) = (rest : List (List ℕ)) × (words ≡ codes "merge-base" ∷ rest) × AreTips rest (one ∷ others) [] × (others ≢ [])
 
 -- what words choose, from a place on: nothing that has its place before
+record IsChosen (lowest : ℕ) (words : List (List ℕ)) (a : Asked) : Type 0 where
+  place : ℕ
+  chooses : Chooses a.tips a.hidden place words (page_choice a.shown)
+  late : lowest ≤ place
+  some : a.tips ≢ []
+  ever : 0 < lowest → a.shown.until ≡ None
+  all : 1 < lowest → a.shown.merges ≡ merges.Any
+
 abbrev AreChosen : ℕ → List (List ℕ) → Result Asked Fault → Type 0
-AreChosen lowest words (Err e) = Unit {0}
-AreChosen lowest words (Ok a) =
-    (place : ℕ) × Chooses a.tips a.hidden place words (page_choice a.shown) × (lowest ≤ place) × (a.tips ≢ [])
-    × (0 < lowest → a.shown.until ≡ None) × (1 < lowest → a.shown.merges ≡ merges.Any)
+AreChosen lowest words (Err e) = IsOfWords e
+AreChosen lowest words (Ok a) = IsChosen lowest words a
 
-from_lower : (lowest lower : ℕ) → lower ≤ lowest → (words : List (List ℕ)) (r : Result Asked Fault) → AreChosen lowest words r → AreChosen lower words r
-from_lower lowest lower l words (Err e) h = tt
-from_lower lowest lower l words (Ok a) (place, chooses, late, some, ever, all) = (place, chooses, omega (arith, l, late), some, (λ k. ever (omega (arith, k, l))), λ k. all (omega (arith, k, l)))
+-- a reader of words
+abbrev Reads : ℕ → Reader → Type 0
+Reads lowest read = (n : ℕ) (words : List (List ℕ)) → AreChosen lowest words (read n words)
 
-is_word : (word other : List ℕ) → bytes_eq word other ≡ true → word ≡ other
-is_word word other e = (bytes_eq-Decides word other).0 e
-
-plain_are : (n : ℕ) (words : List (List ℕ)) → AreChosen 8 words (plain_of n words)
-plain_are n words = go (list_all begins_with_caret words) refl
+plain_reads : Reads 8 plain_of
+plain_reads n words = go (list_all begins_with_caret words) refl
   where
     from : (r : Result Ids Fault) → list_all begins_with_caret words ≡ false → AreIdsOf words r → AreChosen 8 words (chosen_from r)
-    from (Err e) some h = tt
-    from (Ok ids) some h = (8, page.everything h, omega arith, (λ e. false≢true (sym some ∙ all_hidden words ids.0 ids.1 h e)), (λ k. refl), λ k. refl)
+    from (Err e) some h = h
+    from (Ok ids) some h = record {
+      place = 8;
+      chooses = page.everything h;
+      late = omega arith;
+      some = λ e. false≢true (sym some ∙ all_hidden words ids.0 ids.1 h e);
+      ever = λ k. refl;
+      all = λ k. refl;
+    }
 
     go : (t : Bool) → list_all begins_with_caret words ≡ t → AreChosen 8 words (cond t (Err fault.Usage) (chosen_from (ids_from n words)))
     go true e = tt
     go false e = from (ids_from n words) e (ids_are n words)
 
--- an option, or words without it
-module _ (place next : ℕ) (rises : place ≤ next) (name : List ℕ) (add : Result Asked Fault → Result Asked Fault) (adds : (words : List (List ℕ)) (r : Result Asked Fault) → AreChosen next words r → AreChosen place (name ∷ words) (add r)) where
-  option_are : (option : List ℕ) (words : List (List ℕ)) (behind whole : Result Asked Fault) → AreChosen next words behind → AreChosen next (option ∷ words) whole → AreChosen place (option ∷ words) (cond (bytes_eq option name) (add behind) whole)
-  option_are option words behind whole h k = go (bytes_eq option name) refl
+-- an option of a place, before words that choose by options of higher places
+module _ (place : ℕ) where
+  higher : (read : Reader) → Reads (place + 1) read → Reads place read
+  higher read reads n words = go (read n words) (reads n words)
     where
-      go : (t : Bool) → bytes_eq option name ≡ t → AreChosen place (option ∷ words) (cond t (add behind) whole)
-      go true e = subst (λ w. AreChosen place (w ∷ words) (add behind)) (sym (is_word option name e)) (adds words behind h)
-      go false e = from_lower next place rises (option ∷ words) whole k
+      go : (r : Result Asked Fault) → AreChosen (place + 1) words r → AreChosen place words r
+      go (Err e) h = h
+      go (Ok a) h = record { place = h.place; chooses = h.chooses; late = omega (arith, h.late); some = h.some; ever = λ k. h.ever (omega arith); all = λ k. h.all (omega (arith, k)) }
 
-ended_are : (n : ℕ) (words : List (List ℕ)) → AreChosen 7 words (ended_of n words)
-ended_are n [] = tt
-ended_are n (option ∷ words) = option_are 7 8 (omega arith) (codes "-z") with_zeros adds option words (plain_of (n + 1) words) (plain_of n (option ∷ words)) (plain_are (n + 1) words) (plain_are n (option ∷ words))
-  where
-    adds : (words : List (List ℕ)) (r : Result Asked Fault) → AreChosen 8 words r → AreChosen 7 (codes "-z" ∷ words) (with_zeros r)
-    adds words (Err e) h = tt
-    adds words (Ok a) (place, chooses, late, some, ever, all) = (7, page.zero_ended (omega (arith, late)) chooses, omega arith, some, (λ k. ever (omega arith)), λ k. all (omega arith))
+  -- what such an option, and a number behind it where it has one, changes
+  abbrev Adds : List (List ℕ) → (Shown → Shown) → Type 0
+  Adds option change = (words : List (List ℕ)) (a : Asked) → IsChosen (place + 1) words a → IsChosen place (option ++ words) (record a { shown = change a.shown })
 
-parents_are : (n : ℕ) (words : List (List ℕ)) → AreChosen 6 words (named_of n words)
+  -- an option of a late place chooses nothing by the time or the parents of a commit
+  late_adds : 1 < place → (option : List (List ℕ)) (change : Shown → Shown) → ((shown : Shown) → (change shown).until ≡ shown.until) → ((shown : Shown) → (change shown).merges ≡ shown.merges)
+      → ((words : List (List ℕ)) (a : Asked) (p : ℕ) → place < p → Chooses a.tips a.hidden p words (page_choice a.shown) → Chooses a.tips a.hidden place (option ++ words) (page_choice (change a.shown)))
+      → Adds option change
+  late_adds late option change ever all rule words a h = record {
+    place = place;
+    chooses = rule words a h.place (omega (arith, h.late)) h.chooses;
+    late = omega arith;
+    some = h.some;
+    ever = λ k. ever a.shown ∙ h.ever (omega arith);
+    all = λ k. all a.shown ∙ h.all (omega (arith, late));
+  }
+
+  changed_are : (option : List (List ℕ)) (change : Shown → Shown) → Adds option change → (words : List (List ℕ)) (r : Result Asked Fault) → AreChosen (place + 1) words r → AreChosen place (option ++ words) (changed_by change r)
+  changed_are option change adds words (Err e) h = h
+  changed_are option change adds words (Ok a) h = adds words a h
+
+  module _ (name : List ℕ) where
+    option_reads : (change : Shown → Shown) (next other : Reader) → Adds (name ∷ []) change → Reads (place + 1) next → Reads place other → Reads place (option_of name change next other)
+    option_reads change next other adds reads others n [] = others n []
+    option_reads change next other adds reads others n (option ∷ words) =
+        by_name (λ w o. AreChosen place (w ∷ words) (either_of change next other n (w ∷ words) o)) option name
+        (changed_are (name ∷ []) change adds words (next (n + 1) words) (reads (n + 1) words)) (others n (option ∷ words))
+
+    number_option_reads : (digits : ℕ) (change : ℕ → Shown → Shown) (next : Reader) → ((number : List ℕ) (m : ℕ) → IsNumber 10 digits number m → Adds (name ∷ number ∷ []) (change m))
+        → Reads (place + 1) next → Reads place (number_option_of name digits change next)
+    number_option_reads digits change next adds reads n [] = higher next reads n []
+    number_option_reads digits change next adds reads n (option ∷ words) =
+        by_name (λ w o. AreChosen place (w ∷ words) (numbered_of digits change next n (w ∷ words) o)) option name (behind words) (higher next reads n (option ∷ words))
+      where
+        behind : (words : List (List ℕ)) → AreChosen place (name ∷ words) (changed_by_number change next n (first_number digits words))
+        behind [] = tt
+        behind (number ∷ rest) = go (number_in digits number) refl
+          where
+            go : (o : Option ℕ) → number_in digits number ≡ o → AreChosen place (name ∷ number ∷ rest) (changed_by_number change next n (option_map (λ m. (m, rest)) o))
+            go None e = tt
+            go (Some m) e = changed_are (name ∷ number ∷ []) (change m) (adds number m (is_number digits number m e)) rest (next (n + 2) rest) (reads (n + 2) rest)
+
+ended_reads : Reads 7 ended_of
+unfolding ended_of
+ended_reads = option_reads 7 (codes "-z") _ plain_of plain_of (late_adds 7 (omega arith) (codes "-z" ∷ []) _ (λ shown. refl) (λ shown. refl) (λ words a p late chooses. page.zero_ended late chooses)) plain_reads (higher 7 plain_of plain_reads)
+
+named_reads : Reads 6 named_of
 unfolding named_of
-parents_are n [] = tt
-parents_are n (option ∷ words) = option_are 6 7 (omega arith) (codes "--parents") with_parents adds option words (ended_of (n + 1) words) (ended_of n (option ∷ words)) (ended_are (n + 1) words) (ended_are n (option ∷ words))
-  where
-    adds : (words : List (List ℕ)) (r : Result Asked Fault) → AreChosen 7 words r → AreChosen 6 (codes "--parents" ∷ words) (with_parents r)
-    adds words (Err e) h = tt
-    adds words (Ok a) (place, chooses, late, some, ever, all) = (6, page.with_parents (omega (arith, late)) chooses, omega arith, some, (λ k. ever (omega arith)), λ k. all (omega arith))
+named_reads = option_reads 6 (codes "--parents") _ ended_of ended_of (late_adds 6 (omega arith) (codes "--parents" ∷ []) _ (λ shown. refl) (λ shown. refl) (λ words a p late chooses. page.with_parents late chooses)) ended_reads (higher 6 ended_of ended_reads)
 
-timed_are : (n : ℕ) (words : List (List ℕ)) → AreChosen 5 words (timed_of n words)
-timed_are n [] = tt
-timed_are n (option ∷ words) = option_are 5 6 (omega arith) (codes "--timestamp") with_time adds option words (named_of (n + 1) words) (named_of n (option ∷ words)) (parents_are (n + 1) words) (parents_are n (option ∷ words))
-  where
-    adds : (words : List (List ℕ)) (r : Result Asked Fault) → AreChosen 6 words r → AreChosen 5 (codes "--timestamp" ∷ words) (with_time r)
-    adds words (Err e) h = tt
-    adds words (Ok a) (place, chooses, late, some, ever, all) = (5, page.with_time (omega (arith, late)) chooses, omega arith, some, (λ k. ever (omega arith)), λ k. all (omega arith))
+timed_reads : Reads 5 timed_of
+unfolding timed_of
+timed_reads = option_reads 5 (codes "--timestamp") _ named_of named_of (late_adds 5 (omega arith) (codes "--timestamp" ∷ []) _ (λ shown. refl) (λ shown. refl) (λ words a p late chooses. page.with_time late chooses)) named_reads (higher 5 named_of named_reads)
 
-formed_are : (n : ℕ) (words : List (List ℕ)) → AreChosen 4 words (formed_of n words)
-formed_are n [] = tt
-formed_are n (option ∷ words) = first (bytes_eq option (codes "--count")) refl
-  where
-    counts : (r : Result Asked Fault) → AreChosen 5 words r → AreChosen 4 (codes "--count" ∷ words) (with_form form.Count r)
-    counts (Err e) h = tt
-    counts (Ok a) (place, chooses, late, some, ever, all) = (4, page.counted (omega (arith, late)) chooses, omega arith, some, (λ k. ever (omega arith)), λ k. all (omega arith))
+formed_reads : Reads 4 formed_of
+unfolding formed_of
+formed_reads =
+    option_reads 4 (codes "--count") _ timed_of _ (late_adds 4 (omega arith) (codes "--count" ∷ []) _ (λ shown. refl) (λ shown. refl) (λ words a p late chooses. page.counted late chooses)) timed_reads
+    (option_reads 4 (codes "--reverse") _ timed_of timed_of (late_adds 4 (omega arith) (codes "--reverse" ∷ []) _ (λ shown. refl) (λ shown. refl) (λ words a p late chooses. page.reversed late chooses)) timed_reads (higher 4 timed_of timed_reads))
 
-    turns : (r : Result Asked Fault) → AreChosen 5 words r → AreChosen 4 (codes "--reverse" ∷ words) (with_form form.Reverse r)
-    turns (Err e) h = tt
-    turns (Ok a) (place, chooses, late, some, ever, all) = (4, page.reversed (omega (arith, late)) chooses, omega arith, some, (λ k. ever (omega arith)), λ k. all (omega arith))
+limited_reads : Reads 3 limited_of
+unfolding limited_of
+limited_reads = number_option_reads 3 (codes "-n") 9 _ formed_of (λ number m is. late_adds 3 (omega arith) (codes "-n" ∷ number ∷ []) _ (λ shown. refl) (λ shown. refl) (λ words a p late chooses. page.at_most m is late chooses)) formed_reads
 
-    second : (t : Bool) → bytes_eq option (codes "--reverse") ≡ t → AreChosen 4 (option ∷ words) (cond t (with_form form.Reverse (timed_of (n + 1) words)) (timed_of n (option ∷ words)))
-    second true e = subst (λ w. AreChosen 4 (w ∷ words) (with_form form.Reverse (timed_of (n + 1) words))) (sym (is_word option (codes "--reverse") e)) (turns (timed_of (n + 1) words) (timed_are (n + 1) words))
-    second false e = from_lower 5 4 (omega arith) (option ∷ words) (timed_of n (option ∷ words)) (timed_are n (option ∷ words))
-
-    first : (t : Bool) → bytes_eq option (codes "--count") ≡ t → AreChosen 4 (option ∷ words) (cond t (with_form form.Count (timed_of (n + 1) words)) (cond (bytes_eq option (codes "--reverse")) (with_form form.Reverse (timed_of (n + 1) words)) (timed_of n (option ∷ words))))
-    first true e = subst (λ w. AreChosen 4 (w ∷ words) (with_form form.Count (timed_of (n + 1) words))) (sym (is_word option (codes "--count") e)) (counts (timed_of (n + 1) words) (timed_are (n + 1) words))
-    first false e = second (bytes_eq option (codes "--reverse")) refl
-
-limited_are : (n : ℕ) (words : List (List ℕ)) → AreChosen 3 words (limited_of n words)
-limited_are n [] = tt
-limited_are n (option ∷ words) = first (bytes_eq option (codes "-n")) refl
-  where
-    one_more : (number : List ℕ) (rest : List (List ℕ)) (most : ℕ) → IsNumber 10 9 number most → (r : Result Asked Fault) → AreChosen 4 rest r → AreChosen 3 (codes "-n" ∷ number ∷ rest) (with_limit most r)
-    one_more number rest most is (Err e) h = tt
-    one_more number rest most is (Ok a) (place, chooses, late, some, ever, all) = (3, page.at_most most is (omega (arith, late)) chooses, omega arith, some, (λ k. ever (omega arith)), λ k. all (omega arith))
-
-    by_number : (number : List ℕ) (rest : List (List ℕ)) (o : Option ℕ) → number_in 9 number ≡ o → AreChosen 3 (codes "-n" ∷ number ∷ rest) (limit_by o (n + 2) rest)
-    by_number number rest None e = tt
-    by_number number rest (Some most) e = one_more number rest most (is_number 9 number most e) (formed_of (n + 2) rest) (formed_are (n + 2) rest)
-
-    behind : (words : List (List ℕ)) → AreChosen 3 (codes "-n" ∷ words) (limit_from n words)
-    behind [] = tt
-    behind (number ∷ rest) = by_number number rest (number_in 9 number) refl
-
-    first : (t : Bool) → bytes_eq option (codes "-n") ≡ t → AreChosen 3 (option ∷ words) (cond t (limit_from n words) (formed_of n (option ∷ words)))
-    first true e = subst (λ w. AreChosen 3 (w ∷ words) (limit_from n words)) (sym (is_word option (codes "-n") e)) (behind words)
-    first false e = from_lower 4 3 (omega arith) (option ∷ words) (formed_of n (option ∷ words)) (formed_are n (option ∷ words))
-
-skipped_are : (n : ℕ) (words : List (List ℕ)) → AreChosen 2 words (skipped_of n words)
+skipped_reads : Reads 2 skipped_of
 unfolding skipped_of
-skipped_are n [] = tt
-skipped_are n (option ∷ words) = first (bytes_eq option (codes "--skip")) refl
-  where
-    one_more : (number : List ℕ) (rest : List (List ℕ)) (least : ℕ) → IsNumber 10 9 number least → (r : Result Asked Fault) → AreChosen 3 rest r → AreChosen 2 (codes "--skip" ∷ number ∷ rest) (with_skip least r)
-    one_more number rest least is (Err e) h = tt
-    one_more number rest least is (Ok a) (place, chooses, late, some, ever, all) = (2, page.skip least is (omega (arith, late)) chooses, omega arith, some, (λ k. ever (omega arith)), λ k. all (omega arith))
+skipped_reads = number_option_reads 2 (codes "--skip") 9 _ limited_of (λ number m is. late_adds 2 (omega arith) (codes "--skip" ∷ number ∷ []) _ (λ shown. refl) (λ shown. refl) (λ words a p late chooses. page.skip m is late chooses)) limited_reads
 
-    by_number : (number : List ℕ) (rest : List (List ℕ)) (o : Option ℕ) → number_in 9 number ≡ o → AreChosen 2 (codes "--skip" ∷ number ∷ rest) (skip_by o (n + 2) rest)
-    by_number number rest None e = tt
-    by_number number rest (Some least) e = one_more number rest least (is_number 9 number least e) (limited_of (n + 2) rest) (limited_are (n + 2) rest)
-
-    behind : (words : List (List ℕ)) → AreChosen 2 (codes "--skip" ∷ words) (skip_from n words)
-    behind [] = tt
-    behind (number ∷ rest) = by_number number rest (number_in 9 number) refl
-
-    first : (t : Bool) → bytes_eq option (codes "--skip") ≡ t → AreChosen 2 (option ∷ words) (cond t (skip_from n words) (limited_of n (option ∷ words)))
-    first true e = subst (λ w. AreChosen 2 (w ∷ words) (skip_from n words)) (sym (is_word option (codes "--skip") e)) (behind words)
-    first false e = from_lower 3 2 (omega arith) (option ∷ words) (limited_of n (option ∷ words)) (limited_are n (option ∷ words))
-
-merges_are : (n : ℕ) (words : List (List ℕ)) → AreChosen 1 words (merges_of n words)
-merges_are n [] = tt
-merges_are n (option ∷ words) = first (bytes_eq option (codes "--merges")) refl
+merges_reads : Reads 1 merges_of
+unfolding merges_of
+merges_reads = option_reads 1 (codes "--merges") _ skipped_of _ only skipped_reads (option_reads 1 (codes "--no-merges") _ skipped_of skipped_of none skipped_reads (higher 1 skipped_of skipped_reads))
   where
     kept_by : Shown → (ℕ → Bool) → Option ℤ → Merges → page.Choice
     kept_by shown test ever all = record { keeps = λ parents time. test parents && kept_until ever time (kept_of all parents true); skip = shown.skip; limit = shown.limit; form = page_form shown.form; line = page_line shown.line }
@@ -290,65 +300,42 @@ merges_are n (option ∷ words) = first (bytes_eq option (codes "--merges")) ref
     same : (shown : Shown) (test : ℕ → Bool) → shown.until ≡ None → shown.merges ≡ merges.Any → kept_by shown test shown.until shown.merges ≡ kept_so shown test shown.until
     same shown test ever all = (λ k. kept_by shown test (ever k) (all k)) ∙ sym (λ k. kept_so shown test (ever k))
 
-    only : (r : Result Asked Fault) → AreChosen 2 words r → AreChosen 1 (codes "--merges" ∷ words) (with_merges merges.Only r)
-    only (Err e) h = tt
-    only (Ok a) (place, chooses, late, some, ever, all) = (
-      1,
-      subst (Chooses a.tips a.hidden 1 (codes "--merges" ∷ words)) (same a.shown (λ parents. nat_lt 1 parents) (ever (omega arith)) (all (omega arith))) (page.merges (omega (arith, late)) chooses),
-      omega arith,
-      some,
-      (λ k. ever (omega arith)),
-      λ k. absurd (omega (arith, k)),
-    )
+    only : Adds 1 (codes "--merges" ∷ []) (λ shown. record shown { merges = merges.Only })
+    only words a h = record {
+      place = 1;
+      chooses = subst (Chooses a.tips a.hidden 1 (codes "--merges" ∷ words)) (same a.shown (λ parents. nat_lt 1 parents) (h.ever (omega arith)) (h.all (omega arith))) (page.merges (omega (arith, h.late)) h.chooses);
+      late = omega arith;
+      some = h.some;
+      ever = λ k. h.ever (omega arith);
+      all = λ k. absurd (omega (arith, k));
+    }
 
-    none : (r : Result Asked Fault) → AreChosen 2 words r → AreChosen 1 (codes "--no-merges" ∷ words) (with_merges merges.No r)
-    none (Err e) h = tt
-    none (Ok a) (place, chooses, late, some, ever, all) = (
-      1,
-      subst (Chooses a.tips a.hidden 1 (codes "--no-merges" ∷ words)) (same a.shown (λ parents. nat_le parents 1) (ever (omega arith)) (all (omega arith))) (page.no_merges (omega (arith, late)) chooses),
-      omega arith,
-      some,
-      (λ k. ever (omega arith)),
-      λ k. absurd (omega (arith, k)),
-    )
+    none : Adds 1 (codes "--no-merges" ∷ []) (λ shown. record shown { merges = merges.No })
+    none words a h = record {
+      place = 1;
+      chooses = subst (Chooses a.tips a.hidden 1 (codes "--no-merges" ∷ words)) (same a.shown (λ parents. nat_le parents 1) (h.ever (omega arith)) (h.all (omega arith))) (page.no_merges (omega (arith, h.late)) h.chooses);
+      late = omega arith;
+      some = h.some;
+      ever = λ k. h.ever (omega arith);
+      all = λ k. absurd (omega (arith, k));
+    }
 
-    second : (t : Bool) → bytes_eq option (codes "--no-merges") ≡ t → AreChosen 1 (option ∷ words) (cond t (with_merges merges.No (skipped_of (n + 1) words)) (skipped_of n (option ∷ words)))
-    second true e = subst (λ w. AreChosen 1 (w ∷ words) (with_merges merges.No (skipped_of (n + 1) words))) (sym (is_word option (codes "--no-merges") e)) (none (skipped_of (n + 1) words) (skipped_are (n + 1) words))
-    second false e = from_lower 2 1 (omega arith) (option ∷ words) (skipped_of n (option ∷ words)) (skipped_are n (option ∷ words))
-
-    first : (t : Bool) → bytes_eq option (codes "--merges") ≡ t → AreChosen 1 (option ∷ words) (cond t (with_merges merges.Only (skipped_of (n + 1) words)) (cond (bytes_eq option (codes "--no-merges")) (with_merges merges.No (skipped_of (n + 1) words)) (skipped_of n (option ∷ words))))
-    first true e = subst (λ w. AreChosen 1 (w ∷ words) (with_merges merges.Only (skipped_of (n + 1) words))) (sym (is_word option (codes "--merges") e)) (only (skipped_of (n + 1) words) (skipped_are (n + 1) words))
-    first false e = second (bytes_eq option (codes "--no-merges")) refl
-
-until_are : (n : ℕ) (words : List (List ℕ)) → AreChosen 0 words (until_of n words)
-until_are n [] = tt
-until_are n (option ∷ words) = first (bytes_eq option (codes "--until")) refl
+until_reads : Reads 0 until_of
+unfolding until_of
+until_reads = number_option_reads 0 (codes "--until") 10 _ merges_of adds merges_reads
   where
     kept_by : Shown → ℕ → Option ℤ → page.Choice
     kept_by shown seconds ever = record { keeps = λ parents time. int_le time (pos seconds) && kept_until ever time (kept_of shown.merges parents true); skip = shown.skip; limit = shown.limit; form = page_form shown.form; line = page_line shown.line }
 
-    one_more : (number : List ℕ) (rest : List (List ℕ)) (seconds : ℕ) → IsNumber 10 10 number seconds → (r : Result Asked Fault) → AreChosen 1 rest r → AreChosen 0 (codes "--until" ∷ number ∷ rest) (with_until (pos seconds) r)
-    one_more number rest seconds is (Err e) h = tt
-    one_more number rest seconds is (Ok a) (place, chooses, late, some, ever, all) = (
-      0,
-      subst (Chooses a.tips a.hidden 0 (codes "--until" ∷ number ∷ rest)) (λ k. kept_by a.shown seconds (ever (omega arith) k)) (page.until seconds is (omega (arith, late)) chooses),
-      omega arith,
-      some,
-      (λ k. absurd (omega (arith, k))),
-      λ k. absurd (omega (arith, k)),
-    )
-
-    by_number : (number : List ℕ) (rest : List (List ℕ)) (o : Option ℕ) → number_in 10 number ≡ o → AreChosen 0 (codes "--until" ∷ number ∷ rest) (until_by o (n + 2) rest)
-    by_number number rest None e = tt
-    by_number number rest (Some seconds) e = one_more number rest seconds (is_number 10 number seconds e) (merges_of (n + 2) rest) (merges_are (n + 2) rest)
-
-    behind : (words : List (List ℕ)) → AreChosen 0 (codes "--until" ∷ words) (until_from n words)
-    behind [] = tt
-    behind (number ∷ rest) = by_number number rest (number_in 10 number) refl
-
-    first : (t : Bool) → bytes_eq option (codes "--until") ≡ t → AreChosen 0 (option ∷ words) (cond t (until_from n words) (merges_of n (option ∷ words)))
-    first true e = subst (λ w. AreChosen 0 (w ∷ words) (until_from n words)) (sym (is_word option (codes "--until") e)) (behind words)
-    first false e = from_lower 1 0 (omega arith) (option ∷ words) (merges_of n (option ∷ words)) (merges_are n (option ∷ words))
+    adds : (number : List ℕ) (seconds : ℕ) → IsNumber 10 10 number seconds → Adds 0 (codes "--until" ∷ number ∷ []) (λ shown. record shown { until = Some (pos seconds) })
+    adds number seconds is words a h = record {
+      place = 0;
+      chooses = subst (Chooses a.tips a.hidden 0 (codes "--until" ∷ number ∷ words)) (λ k. kept_by a.shown seconds (h.ever (omega arith) k)) (page.until seconds is (omega (arith, h.late)) h.chooses);
+      late = omega arith;
+      some = h.some;
+      ever = λ k. absurd (omega (arith, k));
+      all = λ k. absurd (omega (arith, k));
+    }
 
 -- what is so of words behind a name and an option
 module _ (name : List ℕ) (option : List (List ℕ)) where
@@ -356,11 +343,11 @@ module _ (name : List ℕ) (option : List (List ℕ)) where
   AreWordsBehind words = AreWordsOf (name ∷ (option ++ words))
 
   listed_are : (by : Order) (n : ℕ) (words : List (List ℕ)) → IsNameOf name by → IsOptionOf option by → AreWordsBehind words (listed_of by n words)
-  listed_are by n words named chosen = go (until_of n words) (until_are n words)
+  listed_are by n words named chosen = go (until_of n words) (until_reads n words)
     where
       go : (r : Result Asked Fault) → AreChosen 0 words r → AreWordsBehind words (commits_in by r)
-      go (Err e) h = tt
-      go (Ok a) (place, chooses, late, some, ever, all) = (name, option, words, refl, named, chosen, place, chooses, some)
+      go (Err e) h = h
+      go (Ok a) h = (name, option, words, refl, named, chosen, h.place, h.chooses, h.some)
 
   chosen_are : (o : Option Order) (n : ℕ) (words : List (List ℕ)) → IsChosenWith name option o → AreWordsBehind words (chosen_of o n words)
   chosen_are (Some by) n words h = listed_are by n words h.0 h.1
@@ -464,7 +451,7 @@ some_behind word next words tip ids (inr (j, more, none, id, begins, s, h)) e = 
 
 -- what is so of ids that are asked about
 abbrev AreSeveral : List (List ℕ) → Result Ranked Fault → Type 0
-AreSeveral words (Err e) = Unit {0}
+AreSeveral words (Err e) = IsOfWords e
 AreSeveral words (Ok ids) = AreTips words (ids.0 ∷ ids.1) [] × (ids.1 ≢ [])
 
 several_are : (rest : List (List ℕ)) → AreSeveral rest (several_of rest)
@@ -479,7 +466,7 @@ several_are (word ∷ next ∷ rest) = go (list_all is_shown (word ∷ next ∷ 
         (k, some_behind word next rest tip ids k)
 
     from : (r : Result Ids Fault) → list_all is_shown (word ∷ next ∷ rest) ≡ true → AreIdsOf (word ∷ next ∷ rest) r → AreSeveral (word ∷ next ∷ rest) (several_from r)
-    from (Err e) all h = tt
+    from (Err e) all h = h
     from (Ok ids) all h = among ids.0 ids.1 h (none_hidden (word ∷ next ∷ rest) ids.0 ids.1 h all)
 
     go : (t : Bool) → list_all is_shown (word ∷ next ∷ rest) ≡ t → AreSeveral (word ∷ next ∷ rest) (cond t (several_from (ids_from 2 (word ∷ next ∷ rest))) (Err fault.Usage))
@@ -489,7 +476,7 @@ several_are (word ∷ next ∷ rest) = go (list_all is_shown (word ∷ next ∷ 
 asked_are : (words rest : List (List ℕ)) (asks : ObjectId → List ObjectId → Request) → ((i : ObjectId) (ids : List ObjectId) → AreTips rest (i ∷ ids) [] → ids ≢ [] → AreWordsOf words (Ok (asks i ids)))
     → (r : Result Ranked Fault) → AreSeveral rest r → AreWordsOf words (asked asks r)
 asked_are words rest asks each (Ok ids) h = each ids.0 ids.1 h.0 h.1
-asked_are words rest asks each (Err e) h = tt
+asked_are words rest asks each (Err e) h = h
 
 contained_are : (rest : List (List ℕ)) → AreWordsOf (codes "contains" ∷ rest) (asked Contained (several_of rest))
 contained_are rest = asked_are (codes "contains" ∷ rest) rest Contained (λ i ids are some. (rest, refl, are, some)) (several_of rest) (several_are rest)
@@ -500,41 +487,22 @@ containing_are rest = asked_are (codes "containing" ∷ rest) rest Containing (�
 bases_are : (rest : List (List ℕ)) → AreWordsOf (codes "merge-base" ∷ rest) (asked Bases (several_of rest))
 bases_are rest = asked_are (codes "merge-base" ∷ rest) rest Bases (λ i ids are some. (rest, refl, are, some)) (several_of rest) (several_are rest)
 
--- what is asked of several ids, by its name
-abbrev asked_jointly : List ℕ → List (List ℕ) → Result Request Fault
-asked_jointly name rest = cond (bytes_eq name (codes "merge-base")) (asked Bases (several_of rest)) (Err fault.Usage)
-
-abbrev asked_above : List ℕ → List (List ℕ) → Result Request Fault
-asked_above name rest = cond (bytes_eq name (codes "containing")) (asked Containing (several_of rest)) (asked_jointly name rest)
-
-abbrev asked_about : List ℕ → List (List ℕ) → Result Request Fault
-asked_about name rest = cond (bytes_eq name (codes "contains")) (asked Contained (several_of rest)) (asked_above name rest)
-
 named_are : (name : List ℕ) (o : Option Order) (rest : List (List ℕ)) → IsChosenBy name o → AreWordsOf (name ∷ rest) (request_named name o rest)
 named_are name (Some by) rest h = in_order_are name by rest h.0 h.1
-named_are name None rest h = files (bytes_eq name (codes "files")) refl
-  where
-    bases : (t : Bool) → bytes_eq name (codes "merge-base") ≡ t → AreWordsOf (name ∷ rest) (cond t (asked Bases (several_of rest)) (Err fault.Usage))
-    bases true e = subst (λ word. AreWordsOf (word ∷ rest) (asked Bases (several_of rest))) (sym ((bytes_eq-Decides name (codes "merge-base")).0 e)) (bases_are rest)
-    bases false e = tt
-
-    containing : (t : Bool) → bytes_eq name (codes "containing") ≡ t → AreWordsOf (name ∷ rest) (cond t (asked Containing (several_of rest)) (asked_jointly name rest))
-    containing true e = subst (λ word. AreWordsOf (word ∷ rest) (asked Containing (several_of rest))) (sym ((bytes_eq-Decides name (codes "containing")).0 e)) (containing_are rest)
-    containing false e = bases (bytes_eq name (codes "merge-base")) refl
-
-    contained : (t : Bool) → bytes_eq name (codes "contains") ≡ t → AreWordsOf (name ∷ rest) (cond t (asked Contained (several_of rest)) (asked_above name rest))
-    contained true e = subst (λ word. AreWordsOf (word ∷ rest) (asked Contained (several_of rest))) (sym ((bytes_eq-Decides name (codes "contains")).0 e)) (contained_are rest)
-    contained false e = containing (bytes_eq name (codes "containing")) refl
-
-    ahead : (t : Bool) → bytes_eq name (codes "ahead") ≡ t → AreWordsOf (name ∷ rest) (cond t (ahead_of rest) (asked_about name rest))
-    ahead true e = subst (λ word. AreWordsOf (word ∷ rest) (ahead_of rest)) (sym ((bytes_eq-Decides name (codes "ahead")).0 e)) (ahead_are rest)
-    ahead false e = contained (bytes_eq name (codes "contains")) refl
-
-    files : (t : Bool) → bytes_eq name (codes "files") ≡ t → AreWordsOf (name ∷ rest) (cond t (files_of rest) (cond (bytes_eq name (codes "ahead")) (ahead_of rest) (asked_about name rest)))
-    files true e = subst (λ word. AreWordsOf (word ∷ rest) (files_of rest)) (sym ((bytes_eq-Decides name (codes "files")).0 e)) (files_are rest)
-    files false e = ahead (bytes_eq name (codes "ahead")) refl
+named_are name None rest h =
+    let so : List ℕ → Result Request Fault → Type 0 = λ word. AreWordsOf (word ∷ rest) in
+    by_name so name (codes "files") (files_are rest) (by_name so name (codes "ahead") (ahead_are rest) (by_name so name (codes "contains") (contained_are rest)
+    (by_name so name (codes "containing") (containing_are rest) (by_name so name (codes "merge-base") (bases_are rest) tt))))
 
 -- words are those of what they ask for
 pub are_words : (words : List (List ℕ)) → AreWordsOf words (request_of words)
 are_words [] = tt
 are_words (name ∷ rest) = named_are name (order_named name) rest (order_is name)
+
+-- and their faults are those of words
+pub request_words : (words : List (List ℕ)) → OfWords (request_of words)
+request_words words = go (request_of words) (are_words words)
+  where
+    go : (r : Result Request Fault) → AreWordsOf words r → OfWords r
+    go (Ok request) h = tt
+    go (Err e) h = h

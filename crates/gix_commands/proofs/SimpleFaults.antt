@@ -1,10 +1,10 @@
 -- A simple walk that reaches whole commits alone fails for memory alone.
-use Rattle.std.proofs.Common.{◌≡◌, ◌≢◌, ℕ, ℤ, List, [], ◌∷◌, ◌++◌, ◌⊎◌, Bool, false, true, Option, Some, None, Result, Ok, Err, Contains, refl, sym, ap, subst, ◌∙◌, ⊎_elim}
+use Rattle.std.proofs.Common.{◌≡◌, ◌≢◌, ℕ, ℤ, List, [], ◌∷◌, ◌++◌, ◌⊎◌, Bool, true, Option, Some, None, Result, Ok, Err, Contains, refl, sym, ap, subst, ◌∙◌, ⊎_elim}
 use Rattle.gix_commands.proofs.Common.{kept_in, Shown, EndsBy, Yields, Contains-append_left, Contains-append_right, Contains-append_cases, ObjectId, read_commit, IsExistingFault, kind_of, Objects, GraphRow, row_of, IsAgreeing, among_is, Contains-here}
 use Rattle.gix_commands.proofs.Common.{by_mode, Contains-there, Contains-cons_cases, no_member, Info, Parents, Pending, ReadsWhole, commit_at, commit_of_object, parents_in, parents_of, step, Treated, Enqueues, dropped, enqueued}
 use Rattle.gix_commands.proofs.Common.{Treats, hidden, known, accepted, store_fails, no_memory_after, TreatsAll, none, more, stops, Concludes, broken, Takes, by_row, by_store, Chooses, Steps, took, FirstStep, unhidden, paints}
 use Rattle.gix_commands.proofs.Common.{faulty_history, initial, later, unrowed, ids_of, scan_is, no_fault, row_parents, walked_within, none_agree, kept_either, Fault, Simple, fault_of_walk, AreWhole, EndsWell, IsOutside, SimpleSucceeds}
-use Rattle.gix_commands.proofs.Common.{AheadSucceeds, stored, walked, not_walked, counted, not_ahead, not_behind, unserved, StartsFrom, FailsAtStart, Ends, finished, cut_short, enough, before, objects_of, never_faulty, accepts_all}
+use Rattle.gix_commands.proofs.Common.{AheadSucceeds, walked, not_walked, not_ahead, not_behind, StartsFrom, FailsAtStart, Ends, finished, cut_short, enough, before, objects_of, never_faulty, accepts_all}
 use Rattle.gix_commands.proofs.Common.{Commits, Ahead, whole_from, filter_within, only_member, reaches_from, reach_more}
 use Rattle.std.proofs.lemmas.List.Sorted.{Contains-permutation, IsPermutation-sym}
 use Rattle.gix_object.specs.declared.Kind.TheVariants as object
@@ -27,12 +27,10 @@ use Rattle.gix_simple.proofs.MadeOfTips.{is_new_walk, pending_is}
 use Rattle.gix_words.specs.declared.fault.Fault.TheVariants as fault
 use Rattle.gix_revwalk.specs.Texts.{scanned}
 use Rattle.gix_commands.specs.Checked.{first_lost}
-use Rattle.gix_commands.specs.Readable.{readable, is_first}
 use Rattle.gix_commands.specs.Run as run
-use Rattle.gix_commands.specs.Run.{Serves, cut_off}
+use Rattle.gix_commands.specs.Run.{Serves}
 use Rattle.gix_commands.specs.Walked.{Walk, Answers, IsWalkFault, failed, given as all_given}
-use Rattle.gix_commands.proofs.ReadableObjects.{readable_whole}
-use Rattle.gix_commands.proofs.CommitRuns.{ends_well}
+use Rattle.gix_commands.proofs.CommitRuns.{ends_whole}
 use Rattle.gix_commands.proofs.InternalFacts.{next_sound}
 use Rattle.gix_commands.proofs.LostParents.{all_there}
 use Rattle.gix_commands.proofs.MemoryFaults.{failed_so}
@@ -214,22 +212,20 @@ module _ (objects : Objects) (rows : List GraphRow) (agreeing : IsAgreeing objec
       let last : Contains infos l.last = subst (λ xs. Contains xs l.last) (sym l.place) (Contains-append_right l.before (l.last ∷ []) l.last (Contains-here l.last [])) in
       failed_so EndsWell tt (Err why) why refl (λ not_memory. let no : None ≡ Some why = sym (none_lost objects tips hiders whole rows agreeing ms by walk starts infos at h l.last last) ∙ l.lacks not_memory in cc)
   well ms by shown tips hiders whole answer new (not_walked e f) = started_well objects tips hiders whole by e f
-  well ms by shown tips hiders whole answer new unserved = tt
-  well ms by shown tips hiders whole answer new (cut_off some behind s a b) = tt
+  well ms by shown tips hiders whole answer new s = tt
 
   pub ahead_well : (one other : ObjectId) → AreWhole objects (one ∷ other ∷ []) → (answer : Result (Unit {0}) Fault) (new : Option (List ℕ)) → Serves objects rows old (Ahead one other) answer new → EndsWell answer
-  ahead_well one other whole answer new (counted ahead behind a b written) = tt
   ahead_well one other whole answer new (not_ahead f) = drawn_well objects (one ∷ []) (other ∷ []) whole rows agreeing mode.All sorting.BreadthFirst f.1.walk f.1.starts f.0 answer f.1.ends
   ahead_well one other whole answer new (not_behind n a f) = drawn_well objects (other ∷ []) (one ∷ []) turned rows agreeing mode.All sorting.BreadthFirst f.1.walk f.1.starts f.0 answer f.1.ends
     where
       turned : AreWhole objects (other ∷ one ∷ [])
       turned i r = whole i (reach_more (parents_of objects) (other ∷ one ∷ []) (one ∷ other ∷ []) (λ j c. ⊎_elim (λ e. Contains-there j one (other ∷ []) (subst (λ k. Contains (other ∷ []) k) e (Contains-here other []))) (λ m. ⊎_elim (λ e. subst (λ k. Contains (one ∷ other ∷ []) k) e (Contains-here one (other ∷ []))) (λ n. absurd (no_member j n)) (Contains-cons_cases j one [] m)) (Contains-cons_cases j other (one ∷ []) c)) i r)
-  ahead_well one other whole answer new unserved = tt
-  ahead_well one other whole answer new (cut_off some behind s a b) = tt
+  ahead_well one other whole answer new s = tt
 
 pub simple_succeeds : SimpleSucceeds
-simple_succeeds words input records ms by shown tips hiders answer old new asked are whole runs =
-    ends_well words input records (Commits (Simple ms by) shown tips hiders) answer old new asked are (well (readable (is_first ms) (stored records)) [] (none_agree (readable (is_first ms) (stored records)) [] refl) old ms by shown tips hiders (readable_whole (is_first ms) (stored records) (tips ++ hiders) whole)) runs
+simple_succeeds words input records ms by shown tips hiders answer old new asked are whole =
+    ends_whole words input records (Commits (Simple ms by) shown tips hiders) (tips ++ hiders) answer old new asked are whole (λ objects rows agreeing all. well objects rows agreeing old ms by shown tips hiders all)
 
 pub ahead_succeeds : AheadSucceeds
-ahead_succeeds words input records one other answer old new asked are whole runs = ends_well words input records (Ahead one other) answer old new asked are (ahead_well (readable false (stored records)) [] (none_agree (readable false (stored records)) [] refl) old one other (readable_whole false (stored records) (one ∷ other ∷ []) whole)) runs
+ahead_succeeds words input records one other answer old new asked are whole =
+    ends_whole words input records (Ahead one other) (one ∷ other ∷ []) answer old new asked are whole (λ objects rows agreeing. ahead_well objects rows agreeing old one other)

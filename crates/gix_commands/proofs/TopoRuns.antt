@@ -1,8 +1,8 @@
 -- What a run of `topo` or `date` writes, by what commits reach.
 use Rattle.std.proofs.Common.{◌≡◌, ℕ, List, [], ◌∷◌, ◌++◌, map, filter, false, true, Option, Some, None, Result, Ok, Err, Contains, IsSome, refl, sym, ap, subst, ⊎_elim, ◌∙◌}
 use Rattle.gix_commands.proofs.Common.{kept_in, Shown, EndsBy, Yields, Contains-append_left, Contains-append_right, ObjectId, IsExistingFault, id_cmp, Objects, GraphRow, Info, Parents, Commit, commit_at}
-use Rattle.gix_commands.proofs.Common.{parents_in, parents_of, text_next, step, walked_within, no_member, Contains-cons_cases, TopoPlan, IsCommitRead, IsReached, IsFault, IsFirstReady, IsNextReady, IsAgreeing, none_agree, Fault, Topo}
-use Rattle.gix_commands.proofs.Common.{fault_of_topo_walk, AreWhole, TopoSucceeds, EndsWell, IsOutside, stored, walked_down, not_built, unserved, IsBuiltFrom}
+use Rattle.gix_commands.proofs.Common.{parents_in, parents_of, text_next, step, walked_within, no_member, Contains-cons_cases, TopoPlan, IsCommitRead, IsReached, IsFault, IsFirstReady, IsNextReady, IsAgreeing, Fault, Topo}
+use Rattle.gix_commands.proofs.Common.{fault_of_topo_walk, AreWhole, TopoSucceeds, EndsWell, IsOutside, walked_down, not_built, IsBuiltFrom}
 use Rattle.gix_commands.proofs.Common.{plan_from, Ends, finished, cut_short, enough, before, objects_of, never_faulty, accepts_all, Commits, whole_from, reach_more}
 use Rattle.std.specs.List.{AllZip}
 use Rattle.gix_hash.specs.Reach.{Reaches, start}
@@ -17,12 +17,10 @@ use Rattle.gix_topo.specs.Laws.{IsTakenByText, IsTextGiven, GivesTextOrder}
 use Rattle.gix_topo.specs.Walk.{IsSound, ended, given, refused, failed}
 use Rattle.gix_topo.proofs.Run.Corollaries.{each_by_text}
 use Rattle.gix_topo.proofs.Run.Theorem.{gives_text}
-use Rattle.gix_commands.specs.Readable.{readable}
-use Rattle.gix_commands.specs.Run.{Serves, cut_off}
+use Rattle.gix_commands.specs.Run.{Serves}
 use Rattle.gix_commands.specs.TopoWalked.{Walk, Answers, IsWalkFault}
 use Rattle.gix_commands.specs.Walked.{failed as fell, given as all_given}
-use Rattle.gix_commands.proofs.ReadableObjects.{readable_whole}
-use Rattle.gix_commands.proofs.CommitRuns.{ends_well}
+use Rattle.gix_commands.proofs.CommitRuns.{ends_whole}
 use Rattle.gix_commands.proofs.ListedCommits.{ListsDown, followed_down}
 
 -- the plan stays
@@ -116,8 +114,7 @@ module _ (objects : Objects) (rows : List GraphRow) (agree : IsAgreeing objects 
         go (Some n) answer (enough at h e) = tt
         go (Some n) answer (before drawn less) = drawn_outside walk built infos answer drawn
     well shown answer new (not_built e h) = outside (IsFirstReady objects_of (plan_from objects rows m by tips ends)) e h.1
-    well shown answer new unserved = tt
-    well shown answer new (cut_off some more s a b) = tt
+    well shown answer new s = tt
 
 pub named_whole : (objects : Objects) (c i : ObjectId) → Contains (parents_of objects c) i → IsSome (commit_at objects c)
 named_whole objects c i n = go (commit_at objects c) n
@@ -132,5 +129,5 @@ module _ (objects : Objects) (m : Parents) (by : Sorting) (tips ends : List Obje
   was_read walk built = subst (λ plan. plan.rows ≡ [] → (i : ObjectId) → IsReached objects_of plan i → IsCommitRead plan.store i) built.0.plan built.1.read refl
 
 pub topo_succeeds : TopoSucceeds
-topo_succeeds words input records m by shown tips ends answer old new asked are whole runs =
-    ends_well words input records (Commits (Topo m by) shown tips ends) answer old new asked are (well (readable false (stored records)) [] (none_agree (readable false (stored records)) [] refl) m by tips ends (readable_whole false (stored records) (tips ++ ends) whole) old shown) runs
+topo_succeeds words input records m by shown tips ends answer old new asked are whole =
+    ends_whole words input records (Commits (Topo m by) shown tips ends) (tips ++ ends) answer old new asked are whole (λ objects rows agreeing all. well objects rows agreeing m by tips ends all old shown)

@@ -1,6 +1,6 @@
 -- Which faults walks may have, and commands that are served.
 use Rattle.std.proofs.Common.{◌≡◌, ◌≢◌, ℕ, List, Option, None, Some, Result, Ok, Err, refl, sym, ap, subst, inl, inr, ◌∙◌}
-use Rattle.gix_commands.proofs.Common.{ObjectId, GraphRow, Objects, Info, Fault, fault_of_find, fault_of_walk, fault_of_topo_walk, fault_of_bases, fault_of_contained, fault_of_tree_walk, walked, not_walked, walked_down, not_built, not_listed, counted, not_ahead, not_behind, selected, not_selected, reaching, not_reaching, joined, not_joined, unserved, Ends, EndsBy, finished, cut_short, enough, before, Request, kept_in}
+use Rattle.gix_commands.proofs.Common.{ObjectId, GraphRow, Objects, Info, Fault, fault_of_find, fault_of_walk, fault_of_topo_walk, fault_of_bases, fault_of_contained, fault_of_tree_walk, walked, not_walked, walked_down, not_built, not_listed, not_ahead, not_behind, not_selected, not_reaching, not_joined, Ends, EndsBy, finished, cut_short, enough, before, Request, kept_in}
 use Rattle.gix_contained.specs.declared.Error.{Error as ContainedError}
 use Rattle.gix_contained.specs.declared.Error.TheVariants as contained_error
 use Rattle.gix_merge_base.specs.declared.Error.{Error as BasesError}
@@ -18,7 +18,7 @@ use Rattle.gix_words.specs.declared.fault.Fault.TheVariants as fault
 use Rattle.gix_commands.specs.Checked.{first_lost}
 use Rattle.gix_commands.specs.Opening.{IsOpeningFault}
 use Rattle.gix_commands.specs.Run as run
-use Rattle.gix_commands.specs.Run.{Serves, listed, misnamed, cut_off}
+use Rattle.gix_commands.specs.Run.{Serves}
 use Rattle.gix_commands.specs.TopoWalked as topo
 use Rattle.gix_commands.specs.Walked.{Answers, IsWalkFault, failed}
 use Rattle.gix_commands.proofs.LostParents.{lost_so}
@@ -29,18 +29,11 @@ abbrev pub IsOfWalk : Fault → Type 0
 IsOfWalk fault.Usage = ⊥
 IsOfWalk (fault.Id n) = ⊥
 IsOfWalk (fault.Record n) = ⊥
-IsOfWalk (fault.Missing i) = Unit {0}
-IsOfWalk (fault.WrongKind i) = Unit {0}
-IsOfWalk fault.Broken = Unit {0}
-IsOfWalk (fault.Cycle i) = Unit {0}
-IsOfWalk (fault.Name i) = Unit {0}
 IsOfWalk (fault.Graph e) = ⊥
 IsOfWalk (fault.Row i) = ⊥
 IsOfWalk (fault.Disagrees i) = ⊥
-IsOfWalk fault.Memory = Unit {0}
 IsOfWalk fault.Read = ⊥
-IsOfWalk fault.Write = Unit {0}
-IsOfWalk fault.Internal = Unit {0}
+IsOfWalk e = Unit {0}
 
 abbrev pub OfWalk : Result (Unit {0}) Fault → Type 0
 OfWalk (Ok done) = Unit {0}
@@ -48,40 +41,28 @@ OfWalk (Err e) = IsOfWalk e
 
 find_of_walk : (e : ExistingError) → IsOfWalk (fault_of_find e)
 find_of_walk existing.Store = tt
-find_of_walk (existing.NotFound oid) = tt
-find_of_walk (existing.ObjectKind oid wanted actual) = tt
-find_of_walk existing.Memory = tt
+find_of_walk e = tt
 
 simple_of_walk : (e : Error) → IsOfWalk (fault_of_walk e)
 simple_of_walk (error.Find e) = find_of_walk e
-simple_of_walk (error.ObjectDecode e) = tt
 simple_of_walk (error.HiddenGraph (hidden_by.Find e)) = find_of_walk e
-simple_of_walk (error.HiddenGraph (hidden_by.ObjectDecode e)) = tt
-simple_of_walk error.Memory = tt
+simple_of_walk e = tt
 
 topo_of_walk : (e : TopoError) → IsOfWalk (fault_of_topo_walk e)
-topo_of_walk topo_error.MissingIndegreeUnexpected = tt
-topo_of_walk topo_error.MissingStateUnexpected = tt
-topo_of_walk (topo_error.ObjectDecode e) = tt
 topo_of_walk (topo_error.Find e) = find_of_walk e
-topo_of_walk topo_error.Memory = tt
+topo_of_walk e = tt
 
 contained_of_walk : (e : ContainedError) → IsOfWalk (fault_of_contained e)
 contained_of_walk (contained_error.Find e) = find_of_walk e
-contained_of_walk (contained_error.ObjectDecode e) = tt
-contained_of_walk contained_error.Memory = tt
+contained_of_walk e = tt
 
 bases_of_walk : (e : BasesError) → IsOfWalk (fault_of_bases e)
 bases_of_walk (bases_error.Find e) = find_of_walk e
-bases_of_walk (bases_error.ObjectDecode e) = tt
-bases_of_walk bases_error.Memory = tt
+bases_of_walk e = tt
 
 tree_of_walk : (e : TreeError) → IsOfWalk (fault_of_tree_walk e)
 tree_of_walk (tree_error.Find e) = find_of_walk e
-tree_of_walk tree_error.Cancelled = tt
-tree_of_walk (tree_error.ObjectDecode e) = tt
-tree_of_walk (tree_error.Cycle oid) = tt
-tree_of_walk tree_error.Memory = tt
+tree_of_walk e = tt
 
 ends_of_walk : {W E : Type 0} {Steps : W → Option (Result Info E) → W → Type 0} {Tells : E → Fault → Type 0} {walk : W} {infos : List Info} {answer : Result (Unit {0}) Fault}
     → ((e : E) (f : Fault) → Tells e f → IsOfWalk f) → Ends Steps Tells walk infos answer → OfWalk answer
@@ -110,20 +91,13 @@ serves_of_walk {objects} {rows} (run.lost walk at infos {why = why} by s h more 
 serves_of_walk (not_walked why f) = simple_of_walk why
 serves_of_walk {objects} (walked_down {shown = shown} walk infos built ends a) = by_of_walk topo.Answers topo.IsWalkFault (kept_in objects shown) shown.limit walk infos _ topo_tells ends
 serves_of_walk (not_built why h) = topo_of_walk why
-serves_of_walk (listed recorder r n a) = tt
 serves_of_walk (not_listed recorder why r) = tree_of_walk why
-serves_of_walk (misnamed recorder r f) = tt
-serves_of_walk (counted ahead behind c d a) = tt
 serves_of_walk (not_ahead f) = ends_of_walk simple_tells f.1.ends
 serves_of_walk (not_behind n a f) = ends_of_walk simple_tells f.1.ends
-serves_of_walk (selected those s a) = tt
 serves_of_walk (not_selected why f) = contained_of_walk why
-serves_of_walk (reaching those f a) = tt
 serves_of_walk (not_reaching why f) = bases_of_walk why
-serves_of_walk (joined bases f a) = tt
 serves_of_walk (not_joined why f) = bases_of_walk why
-serves_of_walk unserved = tt
-serves_of_walk (cut_off some more s a b) = tt
+serves_of_walk s = tt
 
 -- a walk has no fault of layers that aren't opened
 pub walk_opened : {answer : Result (Unit {0}) Fault} (e : Fault) → OfWalk answer → answer ≡ Err e → IsOpeningFault e → ⊥

@@ -24,18 +24,7 @@ abbrev pub IsOutside : Fault → Type 0
 IsOutside fault.Memory = Unit {0}
 IsOutside fault.Read = Unit {0}
 IsOutside fault.Write = Unit {0}
-IsOutside fault.Usage = ⊥
-IsOutside (fault.Id n) = ⊥
-IsOutside (fault.Record n) = ⊥
-IsOutside (fault.Missing i) = ⊥
-IsOutside (fault.WrongKind i) = ⊥
-IsOutside fault.Broken = ⊥
-IsOutside (fault.Cycle i) = ⊥
-IsOutside (fault.Name i) = ⊥
-IsOutside (fault.Graph e) = ⊥
-IsOutside (fault.Row i) = ⊥
-IsOutside (fault.Disagrees i) = ⊥
-IsOutside fault.Internal = ⊥
+IsOutside e = ⊥
 
 -- nothing in the words and the input was at fault
 abbrev pub EndsWell : Result (Unit {0}) Fault → Type 0

@@ -25,18 +25,7 @@ abbrev pub FailsToOpen : List (List ℕ) → Fault → Type 0
 FailsToOpen layers (fault.Graph e) = (e ≢ chain.Memory) × RefusesChain layers e
 FailsToOpen layers (fault.Row i) = (rows : List GraphRow) × HasChain layers rows × IsFirstUnsound rows i
 FailsToOpen layers fault.Memory = Unit {0}
-FailsToOpen layers fault.Usage = ⊥
-FailsToOpen layers (fault.Id n) = ⊥
-FailsToOpen layers (fault.Record n) = ⊥
-FailsToOpen layers (fault.Missing i) = ⊥
-FailsToOpen layers (fault.WrongKind i) = ⊥
-FailsToOpen layers fault.Broken = ⊥
-FailsToOpen layers (fault.Cycle i) = ⊥
-FailsToOpen layers (fault.Name i) = ⊥
-FailsToOpen layers (fault.Disagrees i) = ⊥
-FailsToOpen layers fault.Read = ⊥
-FailsToOpen layers fault.Write = ⊥
-FailsToOpen layers fault.Internal = ⊥
+FailsToOpen layers e = ⊥
 
 -- a fault that only layers have that aren't opened
 abbrev pub IsOpeningFault : Fault → Type 0

@@ -8,7 +8,7 @@ ghost use Rattle.gix_words.specs.Words.{Ahead};
 ghost use Rattle.gix_graph_store.specs.WithRows.{with_rows};
 ghost use Rattle.gix_revwalk.specs.Agreeing.{rows_in};
 
-use crate::commits::walk_from;
+use crate::commits::{Ends, walk_from};
 use crate::output::write_out;
 use gix_commitgraph::Graph;
 use gix_hash::ObjectId;
@@ -33,7 +33,8 @@ pub fn write_ahead<W: Write>(
     graph: Option<&Graph>,
     writer: &mut W,
 ) -> Result<(), Fault>
-    ensures { Serves (readable false (with_rows (rows_in graph.entry) store.now)) (rows_in graph.entry) (W.contents writer.old) (Ahead one other) result (W.contents writer.new) }
+    ensures { Serves (readable false (with_rows (rows_in graph.entry) store.now)) (rows_in graph.entry) (W.contents writer.old)
+        (Ahead one other) result (W.contents writer.new) }
 {
     let ahead = count(alloc, one, other, store, graph)?;
     let behind = count(alloc, other, one, store, graph)?;
@@ -50,12 +51,14 @@ fn count(
     graph: Option<&Graph>,
 ) -> Result<usize, Fault>
     ensures ok { IfOk result (Counts (readable false (with_rows (rows_in graph.entry) store.now)) (rows_in graph.entry) tip hidden) }
-    ensures err { IfErr result (λ e. e ≢ Fault.Memory → FailsToCount (readable false (with_rows (rows_in graph.entry) store.now)) (rows_in graph.entry) tip hidden e) }
+    ensures err { IfErr result (λ e. e ≢ Fault.Memory
+        → FailsToCount (readable false (with_rows (rows_in graph.entry) store.now)) (rows_in graph.entry) tip hidden e) }
 {
     let tips = alone(alloc, tip)?;
     let hidden = alone(alloc, hidden)?;
+    let ends = Ends { tips, hidden };
     let order = Sorting::BreadthFirst;
-    let walk = walk_from(alloc, Parents::All, order, tips, hidden, store, graph)?;
+    let walk = walk_from(alloc, Parents::All, order, ends, store, graph)?;
     number_of_commits(walk)
 }
 

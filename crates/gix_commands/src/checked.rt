@@ -62,7 +62,12 @@ impl<'a> Checked<'a> {
         graph: Option<&'a Graph>,
     ) -> Checked<'a>
         requires { walk.rows ≡ rows_in graph }
-        ensures { result ≡ record { walk = walk.entry; objects = readable (is_first parents) (with_rows (rows_in graph.entry) store.now); rows = rows_in graph.entry; lost = None } }
+        ensures { result ≡ record {
+          walk = walk.entry;
+          objects = readable (is_first parents) (with_rows (rows_in graph.entry) store.now);
+          rows = rows_in graph.entry;
+          lost = None;
+        } }
     {
         Checked {
             walk,

@@ -186,7 +186,8 @@ fn no_header(alloc: Global, why: existing_iter::Error) -> Result<Header, Fault>
 
 /// The line of a commit that has this header.
 fn line_of(alloc: Global, has: Line, id: &ObjectId, header: &Header) -> Result<Vec<u8>, AllocError>
-    ensures { IfOk result (λ line. line.items ≡ commit_line (λ i. header.now.parent_ids.items) (λ i. seconds_or_zero header.now.time) (page_line has) id.now) }
+    ensures { IfOk result (λ line. line.items ≡ commit_line (λ i. header.now.parent_ids.items) (λ i. seconds_or_zero header.now.time)
+        (page_line has) id.now) }
 {
     let mut line = time_before(alloc, has.time, header)?;
     if has.parents {
@@ -216,7 +217,8 @@ fn add_ids(
     others: &[ObjectId],
     ending: u8,
 ) -> Result<(), AllocError>
-    ensures { OnOk result (line.new.items ≡ line.old.items ++ (hex_of id.now ++ (flat_map (λ p. 32 ∷ hex_of p) others.now ++ ending ∷ []))) }
+    ensures { OnOk result (line.new.items ≡ line.old.items
+        ++ (hex_of id.now ++ (flat_map (λ p. 32 ∷ hex_of p) others.now ++ ending ∷ []))) }
 {
     let mut last = *id;
     for other in others {

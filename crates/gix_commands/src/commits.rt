@@ -83,7 +83,15 @@ fn copy_of(graph: Option<&Graph>) -> Result<Option<Graph>, AllocError>
     }
 }
 
-/// A walk in this order from these tips, through these parents, which hides what the hidden ones reach, over a store and rows.
+/// Where a walk starts, and what ends it: ids of commits.
+#[derive(Drop)]
+pub struct Ends {
+    pub tips: Vec<ObjectId>,
+    /// What these reach isn't given.
+    pub hidden: Vec<ObjectId>,
+}
+
+/// A walk in this order between these ends, through these parents, over a store and rows.
 ///
 /// # Errors
 /// The fault of the first tip whose time can't be read, in an order by time. `Memory`.
@@ -91,14 +99,16 @@ pub fn walk_from<'a>(
     alloc: Global,
     parents: Parents,
     sorting: Sorting,
-    tips: Vec<ObjectId>,
-    hidden: Vec<ObjectId>,
+    ends: Ends,
     store: &'a LentStore<'a>,
     graph: Option<&'a Graph>,
 ) -> Result<Simple<Lent<'a>, Unfiltered>, Fault>
-    ensures ok { IfOk result (StartsFrom (readable (is_first parents) (with_rows (rows_in graph.entry) store.now)) (rows_in graph.entry) parents sorting tips.items hidden.items) }
-    ensures err { IfErr result (IsStartFault (readable (is_first parents) (with_rows (rows_in graph.entry) store.now)) sorting tips.items) }
+    ensures ok { IfOk result (StartsFrom (readable (is_first parents) (with_rows (rows_in graph.entry) store.now)) (rows_in graph.entry)
+        parents sorting ends.tips.items ends.hidden.items) }
+    ensures err { IfErr result (IsStartFault (readable (is_first parents) (with_rows (rows_in graph.entry) store.now)) sorting
+        ends.tips.items) }
 {
+    let Ends { tips, hidden } = ends;
     let rows = copy_of(graph)?;
     let made = Simple::new(alloc, tips, Lent::over(store, graph, parents))?;
     let sorted = made.sorting(sorting)?;
@@ -106,8 +116,8 @@ pub fn walk_from<'a>(
     Ok(walk.parents(parents).commit_graph(rows))
 }
 
-/// A walk from these tips in which no commit comes before its children, through these parents, without what the ends reach, over a store and
-/// rows. It reads all lines of a commit, so the store need not look at them.
+/// A walk between these ends in which no commit comes before its children, through these parents, over a store and rows. It reads all lines
+/// of a commit, so the store need not look at them.
 ///
 /// # Errors
 /// The fault of the first object that can't be read of what tips or ends reach. `Memory`.
@@ -115,17 +125,19 @@ pub fn topo_walk_from<'a>(
     alloc: Global,
     parents: Parents,
     sorting: gix_topo::Sorting,
-    tips: Vec<ObjectId>,
-    ends: Vec<ObjectId>,
+    ends: Ends,
     store: &'a LentStore<'a>,
     graph: Option<&'a Graph>,
 ) -> Result<Topo<Lent<'a>, Unfiltered>, Fault>
-    ensures ok { IfOk result (λ walk. topo_walk.IsBuiltFrom (readable false (with_rows (rows_in graph.entry) store.now)) (rows_in graph.entry) parents sorting tips.items ends.items (Ok walk)) }
-    ensures err { IfErr result (topo_walk.IsStartFault (readable false (with_rows (rows_in graph.entry) store.now)) (rows_in graph.entry) parents sorting tips.items ends.items) }
+    ensures ok { IfOk result (λ walk. topo_walk.IsBuiltFrom (readable false (with_rows (rows_in graph.entry) store.now))
+        (rows_in graph.entry) parents sorting ends.tips.items ends.hidden.items (Ok walk)) }
+    ensures err { IfErr result (topo_walk.IsStartFault (readable false (with_rows (rows_in graph.entry) store.now)) (rows_in graph.entry)
+        parents sorting ends.tips.items ends.hidden.items) }
 {
+    let Ends { tips, hidden } = ends;
     let rows = copy_of(graph)?;
     let from_tips = Builder::new(alloc, Lent::over(store, graph, Parents::All)).with_tips(tips)?;
-    let builder = from_tips.with_ends(ends)?;
+    let builder = from_tips.with_ends(hidden)?;
     let ordered = builder.parents(parents).sorting(sorting);
     let walk = ordered.with_commit_graph(rows).build()?;
     Ok(walk)

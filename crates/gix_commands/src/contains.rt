@@ -33,7 +33,8 @@ pub fn write_contained<W: Write>(
     graph: Option<&Graph>,
     writer: &mut W,
 ) -> Result<(), Fault>
-    ensures { Serves (readable false (with_rows (rows_in graph.entry) store.now)) (rows_in graph.entry) (W.contents writer.old) (Contained tip ids.items) result (W.contents writer.new) }
+    ensures { Serves (readable false (with_rows (rows_in graph.entry) store.now)) (rows_in graph.entry) (W.contents writer.old)
+        (Contained tip ids.items) result (W.contents writer.new) }
 {
     let objects = Lent::over(store, graph, Parents::All);
     let those = contained(alloc, &[tip], ids.as_slice(), &objects, graph)?;

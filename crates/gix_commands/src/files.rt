@@ -41,7 +41,8 @@ pub fn write_files<W: Write>(
     graph: Option<&Graph>,
     writer: &mut W,
 ) -> Result<(), Fault>
-    ensures { Serves (readable false (with_rows (rows_in graph.entry) store.now)) (rows_in graph.entry) (W.contents writer.old) (Files shown tree) result (W.contents writer.new) }
+    ensures { Serves (readable false (with_rows (rows_in graph.entry) store.now)) (rows_in graph.entry) (W.contents writer.old)
+        (Files shown tree) result (W.contents writer.new) }
 {
     let mut lines = lines_of_tree(alloc, shown, tree, Lent::over(store, graph, Parents::All))?;
     write_out(&mut lines, writer)
@@ -182,7 +183,8 @@ impl Lister {
 
     /// Adds the line of the entry at the current path, if one is still written.
     fn list(&mut self, entry: &EntryRef<'_>) -> Result<(), AllocError>
-        ensures ok { OnOk result (self.new ≡ record self.old { lines = self.old.lines ++ lines_at self.old (entry_of entry.now); left = behind_one self.old.left }) }
+        ensures ok { OnOk result (self.new ≡ record self.old
+            { lines = self.old.lines ++ lines_at self.old (entry_of entry.now); left = behind_one self.old.left }) }
         ensures err { OnErr result (self.new ≡ self.old) }
     {
         let limit = match self.left.limit {
@@ -260,7 +262,8 @@ fn add_line(
     path: &[u8],
     ending: u8,
 ) -> Result<(), AllocError>
-    ensures ok { OnOk result (lines.new.items ≡ lines.old.items ++ file_line ending (record { mode = mode; path = path.now; id = id.now })) }
+    ensures ok { OnOk result (lines.new.items ≡ lines.old.items ++ file_line ending
+        (record { mode = mode; path = path.now; id = id.now })) }
     ensures err { OnErr result (take (length lines.old.items) lines.new.items ≡ lines.old.items) }
 {
     add_mode(alloc, lines, mode)?;

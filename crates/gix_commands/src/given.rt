@@ -30,7 +30,9 @@ pub fn run_in<W: Write>(
     ensures spelled { (those : List Record) (n : ℕ) → AreRecords those records.now → result ≢ Err (Fault.Record n) }
     ensures sound { result ≢ Err Fault.Internal }
     // What was written, from lists of bytes up, by a run that ended well or that failed.
-    ensures whole { Promises Fault.Write (map string_bytes words.now) (λ (objects : Objects) (rows : List Row). AreFed (Some records.now) objects × (rows ≡ [])) (W.contents writer.old) result (W.contents writer.new) }
+    ensures whole { Promises Fault.Write (map string_bytes words.now)
+        (λ (objects : Objects) (rows : List Row). AreFed (Some records.now) objects × (rows ≡ [])) (W.contents writer.old) result
+        (W.contents writer.new) }
 {
     let command = read_command(alloc, words)?;
     serve_records(alloc, keys, command, records, writer)
@@ -47,7 +49,8 @@ pub(crate) fn serve_records<W: Write>(
     records: &[u8],
     writer: &mut W,
 ) -> Result<(), Fault>
-    ensures runs { (words : List (List ℕ)) → request_of words ≡ Ok (request_of_command command) → Runs words (Some records.now) (W.contents writer.old) result (W.contents writer.new) }
+    ensures runs { (words : List (List ℕ)) → request_of words ≡ Ok (request_of_command command)
+        → Runs words (Some records.now) (W.contents writer.old) result (W.contents writer.new) }
     ensures given { result ≢ Err Fault.Read }
 {
     let store = gix_records::records_in(alloc, keys, records)?;

@@ -36,7 +36,7 @@ use ahead::write_ahead;
 use bases::write_bases;
 use checked::Checked;
 use chosen::Chooser;
-use commits::{topo_walk_from, walk_from};
+use commits::{Ends, topo_walk_from, walk_from};
 use containing::write_containing;
 use contains::write_contained;
 use files::write_files;
@@ -93,10 +93,13 @@ pub fn run<R: Read, W: Write>(
     // Words that are no command are rejected before anything is read.
     ensures unread { (e : Fault) → request_of (map string_bytes words.now) ≡ Err e → reader.new ≡ reader.old }
     // Input that is records is never rejected.
-    ensures spelled { (input : List ℕ) (records : List Record) (n : ℕ) → R.remaining reader.old ≡ Some input → AreRecords records input → result ≢ Err (Fault.Record n) }
+    ensures spelled { (input : List ℕ) (records : List Record) (n : ℕ) → R.remaining reader.old ≡ Some input → AreRecords records input
+        → result ≢ Err (Fault.Record n) }
     ensures sound { result ≢ Err Fault.Internal }
     // What was written, from lists of bytes up, by a run that ended well or that failed: this is all that a reader has to believe of it.
-    ensures whole { Promises Fault.Write (map string_bytes words.now) (λ (objects : Objects) (rows : List Row). AreFed (R.remaining reader.old) objects × (rows ≡ [])) (W.contents writer.old) result (W.contents writer.new) }
+    ensures whole { Promises Fault.Write (map string_bytes words.now)
+        (λ (objects : Objects) (rows : List Row). AreFed (R.remaining reader.old) objects × (rows ≡ [])) (W.contents writer.old) result
+        (W.contents writer.new) }
 {
     let command = read_command(alloc, words)?;
     let input = gix_records::read_to_end(alloc, reader, gix_records::READS)?;
@@ -111,7 +114,8 @@ fn serve<W: Write>(
     graph: Option<&Graph>,
     writer: &mut W,
 ) -> Result<(), Fault>
-    ensures { Serves (readable (reads_all_lines (request_of_command command)) (with_rows (rows_in graph.entry) store.now)) (rows_in graph.entry) (W.contents writer.old) (request_of_command command) result (W.contents writer.new) }
+    ensures { Serves (readable (reads_all_lines (request_of_command command)) (with_rows (rows_in graph.entry) store.now))
+        (rows_in graph.entry) (W.contents writer.old) (request_of_command command) result (W.contents writer.new) }
 {
     match command {
         Command::Commits {
@@ -119,7 +123,10 @@ fn serve<W: Write>(
             shown,
             tips,
             hidden,
-        } => serve_commits(alloc, order, shown, tips, hidden, store, graph, writer),
+        } => {
+            let ends = Ends { tips, hidden };
+            serve_commits(alloc, Listing { order, shown, ends }, store, graph, writer)
+        }
         Command::Files { shown, tree } => write_files(alloc, shown, tree, store, graph, writer),
         Command::Ahead { one, other } => write_ahead(alloc, one, other, store, graph, writer),
         Command::Contained { tip, ids } => write_contained(alloc, tip, ids, store, graph, writer),
@@ -130,23 +137,31 @@ fn serve<W: Write>(
     }
 }
 
+/// A list of commits that is asked for.
+#[derive(Drop)]
+struct Listing {
+    order: Order,
+    shown: Shown,
+    ends: Ends,
+}
+
 /// Writes what is chosen of the commits that the tips reach and the hidden tips don't. By time, each of them behind which more is asked for
 /// has to have its parents.
 fn serve_commits<W: Write>(
     alloc: Global,
-    order: Order,
-    shown: Shown,
-    tips: Vec<ObjectId>,
-    hidden: Vec<ObjectId>,
+    listing: Listing,
     store: &LentStore<'_>,
     graph: Option<&Graph>,
     writer: &mut W,
 ) -> Result<(), Fault>
-    ensures { Serves (readable (reads_all_lines (Commits order shown tips.items hidden.items)) (with_rows (rows_in graph.entry) store.now)) (rows_in graph.entry) (W.contents writer.old) (Commits order shown tips.items hidden.items) result (W.contents writer.new) }
+    ensures { Serves (readable (reads_all_lines (Commits listing.order listing.shown listing.ends.tips.items listing.ends.hidden.items))
+        (with_rows (rows_in graph.entry) store.now)) (rows_in graph.entry) (W.contents writer.old)
+        (Commits listing.order listing.shown listing.ends.tips.items listing.ends.hidden.items) result (W.contents writer.new) }
 {
+    let Listing { order, shown, ends } = listing;
     match order {
         Order::Simple { parents, sorting } => {
-            let walk = walk_from(alloc, parents, sorting, tips, hidden, store, graph)?;
+            let walk = walk_from(alloc, parents, sorting, ends, store, graph)?;
             let chooser = Chooser::new(alloc, shown, parents, store, graph);
             if let Sorting::BreadthFirst = sorting {
                 return write_commits(alloc, walk, chooser, writer);
@@ -155,7 +170,7 @@ fn serve_commits<W: Write>(
             write_commits(alloc, checked, chooser, writer)
         }
         Order::Topo { parents, sorting } => {
-            let walk = topo_walk_from(alloc, parents, sorting, tips, hidden, store, graph)?;
+            let walk = topo_walk_from(alloc, parents, sorting, ends, store, graph)?;
             let chooser = Chooser::new(alloc, shown, Parents::All, store, graph);
             write_commits(alloc, walk, chooser, writer)
         }

@@ -49,7 +49,9 @@ where
     requires can { I.can_next walk }
     requires finite { IsFinite (I.remaining walk) }
     requires fresh { chooser ≡ fresh_choosing chooser.objects chooser.shown }
-    ensures { WritesBegun I.next_gives E.converts (kept_in chooser.entry.objects chooser.entry.shown) chooser.entry.shown.limit (line_in chooser.entry.objects chooser.entry.shown) chooser.entry.shown.form walk (W.contents writer.old) result (W.contents writer.new) }
+    ensures { WritesBegun I.next_gives E.converts (kept_in chooser.entry.objects chooser.entry.shown) chooser.entry.shown.limit
+        (line_in chooser.entry.objects chooser.entry.shown) chooser.entry.shown.form walk (W.contents writer.old) result
+        (W.contents writer.new) }
 {
     let form = chooser.form();
     let mut sink = Sink {
@@ -104,7 +106,8 @@ fn write_reversed<W: Write>(
     mut ids: Vec<ObjectId>,
     writer: &mut W,
 ) -> Result<(), Fault>
-    ensures { WritesWhole (W.contents writer.old) (flat_map (line_in chooser.now.objects chooser.now.shown) (reverse ids.items)) result (W.contents writer.new) }
+    ensures { WritesWhole (W.contents writer.old) (flat_map (line_in chooser.now.objects chooser.now.shown) (reverse ids.items)) result
+        (W.contents writer.new) }
 {
     ids.reverse();
     let mut lines = lines_of(alloc, chooser, ids.as_slice())?;
@@ -152,9 +155,12 @@ where
     requires can { I.can_next walk.old }
     requires finite { IsFinite (I.remaining walk.old) }
     requires fresh { chooser.old ≡ fresh_choosing chooser.old.objects chooser.old.shown }
-    ensures adds { AddsBegun I.next_gives E.converts (kept_in chooser.old.objects chooser.old.shown) chooser.old.shown.limit (line_in chooser.old.objects chooser.old.shown) sink.old.form walk.old (W.contents writer.old) (held_in sink.old) result (W.contents writer.new) (held_in sink.new) }
+    ensures adds { AddsBegun I.next_gives E.converts (kept_in chooser.old.objects chooser.old.shown) chooser.old.shown.limit
+        (line_in chooser.old.objects chooser.old.shown) sink.old.form walk.old (W.contents writer.old) (held_in sink.old) result
+        (W.contents writer.new) (held_in sink.new) }
     ensures lines { OnOk result (line_in chooser.new.objects chooser.new.shown ≡ line_in chooser.old.objects chooser.old.shown) }
-    ensures within { OnOk result (StopsWithin I.next_gives (kept_in chooser.old.objects chooser.old.shown) chooser.old.shown.limit walk.old walk.new) }
+    ensures within { OnOk result (StopsWithin I.next_gives (kept_in chooser.old.objects chooser.old.shown) chooser.old.shown.limit walk.old
+        walk.new) }
 {
     'draws: while !chooser.is_done() {
         let Some(answer) = walk.next() else {
@@ -180,8 +186,10 @@ impl Sink {
         writer: &mut W,
     ) -> Result<(), Fault>
         ensures form { self.new.form ≡ self.old.form }
-        ensures ok { OnOk result (Takes (line_in chooser.now.objects chooser.now.shown) self.old.form (W.contents writer.old) (held_in self.old) (id ∷ []) (W.contents writer.new) (held_in self.new)) }
-        ensures err { IfErr result (TakesNone self.old.form (W.contents writer.old) (held_in self.old) (W.contents writer.new) (held_in self.new)) }
+        ensures ok { OnOk result (Takes (line_in chooser.now.objects chooser.now.shown) self.old.form (W.contents writer.old)
+            (held_in self.old) (id ∷ []) (W.contents writer.new) (held_in self.new)) }
+        ensures err { IfErr result (TakesNone self.old.form (W.contents writer.old) (held_in self.old) (W.contents writer.new)
+            (held_in self.new)) }
     {
         match self.form {
             Form::Lines => add_line(&mut self.lines, chooser, writer, &id),
@@ -208,7 +216,8 @@ fn add_line<W: Write>(
     writer: &mut W,
     id: &ObjectId,
 ) -> Result<(), Fault>
-    ensures ok { OnOk result (Grows (W.contents writer.old) lines.old.items (W.contents writer.new) lines.new.items (line_in chooser.now.objects chooser.now.shown id.now)) }
+    ensures ok { OnOk result (Grows (W.contents writer.old) lines.old.items (W.contents writer.new) lines.new.items
+        (line_in chooser.now.objects chooser.now.shown id.now)) }
     ensures err { IfErr result (AddsNone (W.contents writer.old) lines.old.items (W.contents writer.new) lines.new.items) }
 {
     make_room(lines, writer)?;
@@ -218,7 +227,8 @@ fn add_line<W: Write>(
 /// Writes the buffered lines, where they are many. After a failure none is buffered.
 fn make_room<W: Write>(lines: &mut Vec<u8>, writer: &mut W) -> Result<(), Fault>
     ensures ok { OnOk result (Grows (W.contents writer.old) lines.old.items (W.contents writer.new) lines.new.items []) }
-    ensures fault { IfErr result (λ e. BreaksOff (W.contents writer.old) (W.contents writer.new) lines.old.items e × (lines.new.items ≡ [])) }
+    ensures fault { IfErr result (λ e. BreaksOff (W.contents writer.old) (W.contents writer.new) lines.old.items e
+        × (lines.new.items ≡ [])) }
 {
     if lines.len() < MANY {
         return Ok(());

@@ -35,16 +35,20 @@ pub fn run_over<R: Read, W: Write>(
     reader: &mut R,
     writer: &mut W,
 ) -> Result<(), Fault>
-    ensures runs { RunsOver (map string_bytes words.now) (layers_seen layers.now) (R.remaining reader.old) (W.contents writer.old) result (W.contents writer.new) }
+    ensures runs { RunsOver (map string_bytes words.now) (layers_seen layers.now) (R.remaining reader.old) (W.contents writer.old) result
+        (W.contents writer.new) }
     // Words that are no command are rejected before anything is read.
     ensures unread { (e : Fault) → request_of (map string_bytes words.now) ≡ Err e → reader.new ≡ reader.old }
     // Of the input nothing is read where the layers can't be opened.
     ensures unopened { (e : Fault) → result ≡ Err e → IsOpeningFault e → reader.new ≡ reader.old }
     // Input that is records is never rejected.
-    ensures spelled { (input : List ℕ) (records : List Record) (n : ℕ) → R.remaining reader.old ≡ Some input → AreRecords records input → result ≢ Err (Fault.Record n) }
+    ensures spelled { (input : List ℕ) (records : List Record) (n : ℕ) → R.remaining reader.old ≡ Some input → AreRecords records input
+        → result ≢ Err (Fault.Record n) }
     ensures sound { result ≢ Err Fault.Internal }
     // What was written, from lists of bytes up: it is right of the records and of the rows in the files, whatever else there is.
-    ensures whole { Promises Fault.Write (map string_bytes words.now) (λ (objects : Objects) (rows : List Row). AreFed (R.remaining reader.old) objects × AreLayers [] (map vec_items layers.now) [] rows) (W.contents writer.old) result (W.contents writer.new) }
+    ensures whole { Promises Fault.Write (map string_bytes words.now)
+        (λ (objects : Objects) (rows : List Row). AreFed (R.remaining reader.old) objects × AreLayers [] (map vec_items layers.now) [] rows)
+        (W.contents writer.old) result (W.contents writer.new) }
 {
     let command = read_command(alloc, words)?;
     let graph = open(alloc, layers)?;

@@ -33,10 +33,13 @@ pub fn run_stored<W: Write>(
     graph: Option<&Graph>,
     writer: &mut W,
 ) -> Result<(), Fault>
-    ensures runs { RunsStored (map string_bytes words.now) store.now (rows_in graph.entry) (W.contents writer.old) result (W.contents writer.new) }
+    ensures runs { RunsStored (map string_bytes words.now) store.now (rows_in graph.entry) (W.contents writer.old) result
+        (W.contents writer.new) }
     ensures sound { result ≢ Err Fault.Internal }
     // What was written, from lists of bytes up: it is right of what is stored and of the rows, whatever else there is.
-    ensures whole { Promises Fault.Write (map string_bytes words.now) (λ (objects : Objects) (rows : List Row). (objects ≡ page_objects store.now) × AreRows (rows_in graph.entry) rows) (W.contents writer.old) result (W.contents writer.new) }
+    ensures whole { Promises Fault.Write (map string_bytes words.now)
+        (λ (objects : Objects) (rows : List Row). (objects ≡ page_objects store.now) × AreRows (rows_in graph.entry) rows)
+        (W.contents writer.old) result (W.contents writer.new) }
 {
     let command = read_command(alloc, words)?;
     check_rows(alloc, store, graph)?;
@@ -54,12 +57,16 @@ pub fn run_named<W: Write>(
     graph: Option<&Graph>,
     writer: &mut W,
 ) -> Result<(), Fault>
-    ensures runs { RunsStored (map string_bytes words.now) objects.now (rows_in graph.entry) (W.contents writer.old) result (W.contents writer.new) }
+    ensures runs { RunsStored (map string_bytes words.now) objects.now (rows_in graph.entry) (W.contents writer.old) result
+        (W.contents writer.new) }
     ensures sound { result ≢ Err Fault.Internal }
     // What was written, from lists of bytes up: it is right of these objects, each of whose ids is the hash of its object, and of the rows.
-    ensures whole { Promises Fault.Write (map string_bytes words.now) (λ (given : Objects) (rows : List Row). AreNamed given × (given ≡ page_objects objects.now) × AreRows (rows_in graph.entry) rows) (W.contents writer.old) result (W.contents writer.new) }
+    ensures whole { Promises Fault.Write (map string_bytes words.now)
+        (λ (given : Objects) (rows : List Row). AreNamed given × (given ≡ page_objects objects.now) × AreRows (rows_in graph.entry) rows)
+        (W.contents writer.old) result (W.contents writer.new) }
     // The same without a commit-graph, which names no definition but those of the page.
-    ensures named { graph.entry ≡ None → Promises Fault.Write (map string_bytes words.now) (λ (given : Objects) (rows : List Row). AreNamed given × (rows ≡ [])) (W.contents writer.old) result (W.contents writer.new) }
+    ensures named { graph.entry ≡ None → Promises Fault.Write (map string_bytes words.now)
+        (λ (given : Objects) (rows : List Row). AreNamed given × (rows ≡ [])) (W.contents writer.old) result (W.contents writer.new) }
 {
     run_stored(alloc, words, &objects.store(), graph, writer)
 }

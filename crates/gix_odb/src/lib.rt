@@ -291,18 +291,18 @@ where
             let Some(pack) = self.packs.all.get(place.pack) else {
                 return Err(Trouble::from(Damage::Unreadable));
             };
-            let held = pack.read(self.kind, place, &mut self.work)?;
-            match held.base {
+            let content = pack.read(self.kind, place, &mut self.work)?;
+            match content.base {
                 Base::Whole(kind) => {
-                    self.work.set_whole(held.size)?;
+                    self.work.set_whole(content.size)?;
                     return Ok(self.work.make(kind, place, false)?);
                 }
                 Base::Offset(at) => {
-                    self.work.push_delta(place, held.size)?;
+                    self.work.push_delta(place, content.size)?;
                     place.at = at;
                 }
                 Base::Id(id) => {
-                    self.work.push_delta(place, held.size)?;
+                    self.work.push_delta(place, content.size)?;
                     match self.place_of_base(place.pack, &id)? {
                         Some(base) => place = base,
                         None => return self.unpack_from_loose(place, &id),

@@ -69,9 +69,9 @@ pub(crate) struct Pack<F: Drop> {
     opened: Option<Opened<F>>,
 }
 
-/// What the stream of an entry held.
+/// What the stream of an entry has.
 #[derive(Clone, Copy)]
-pub(crate) struct Held {
+pub(crate) struct Content {
     /// What it is.
     pub base: Base,
     /// How many bytes there are, at the front of the room.
@@ -177,7 +177,7 @@ impl<F: FileExt + Drop> Pack<F> {
     }
 
     /// Reads the entry of a place: what its stream holds is then at the front of `work.room`.
-    pub fn read(&self, kind: Kind, place: Place, work: &mut Work) -> Result<Held, Damage> {
+    pub fn read(&self, kind: Kind, place: Place, work: &mut Work) -> Result<Content, Damage> {
         let Some(opened) = &self.opened else {
             return Err(Damage::Unreadable);
         };
@@ -185,8 +185,8 @@ impl<F: FileExt + Drop> Pack<F> {
         for _ in 0..MOST_READS {
             let got = read_part(opened, place.at, wanted, work)?;
             let left = opened.len.saturating_sub(place.at);
-            if let Some(held) = inflate_entry(kind, place.at, left, got, work)? {
-                return Ok(held);
+            if let Some(content) = inflate_entry(kind, place.at, left, got, work)? {
+                return Ok(content);
             }
             if got < wanted {
                 break;
@@ -208,7 +208,7 @@ fn inflate_entry(
     left: u64,
     got: usize,
     work: &mut Work,
-) -> Result<Option<Held>, Damage> {
+) -> Result<Option<Content>, Damage> {
     let entry = match entry_at(
         kind,
         at,
@@ -228,7 +228,7 @@ fn inflate_entry(
         .get(entry.head..got)
         .unwrap_or_default();
     match inflate(&mut work.inflater, stream, work.room.first(size)?) {
-        Ok(_) => Ok(Some(Held {
+        Ok(_) => Ok(Some(Content {
             base: entry.base,
             size,
         })),

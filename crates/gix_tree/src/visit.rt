@@ -100,7 +100,8 @@ pub trait Visit {
 
 /// Shows the entry by the call for what it is.
 pub(crate) fn see<V: Visit>(delegate: &mut V, entry: &EntryRef<'_>) -> Result<Action, AllocError>
-    ensures { MatchResult result (λ a. V.steps delegate.old (visit_call_of (is_tree entry.now.mode.value) (entry_of entry.now) a) delegate.new)
+    ensures { MatchResult result (λ a. V.steps delegate.old (visit_call_of (is_tree entry.now.mode.value) (entry_of entry.now) a)
+        delegate.new)
         (λ _. V.steps delegate.old Refused delegate.new) }
 {
     if entry.mode.is_tree() {

@@ -1,6 +1,7 @@
 -- What the words of a command ask for.
 use Rattle.std.specs.Prelude.{◌≡◌, ◌≢◌, ℕ, ℤ, pos, ◌+◌, ◌==◌, nat_lt, nat_le, ◌&&◌, List, [], ◌∷◌, ◌++◌, length, Bool, true, false, ◌||◌, not, if◌then◌else◌, Option, Some, None, Result, Ok, Err, codes}
 use Rattle.std.specs.List.{list_all}
+use Rattle.std.specs.Option.{option_map}
 use Rattle.std.specs.Str.{bytes_eq}
 use Rattle.gix_hash.specs.declared.ObjectId.{ObjectId}
 use Rattle.gix_hash.specs.declared.HexError.{HexError}
@@ -16,9 +17,7 @@ use Rattle.gix_words.specs.declared.words.Command.{Command}
 use Rattle.gix_words.specs.declared.words.Command.TheVariants as command
 use Rattle.gix_words.specs.declared.words.Chosen.{Chosen}
 use Rattle.gix_words.specs.declared.words.EntryLines.{EntryLines}
-use Rattle.gix_words.specs.declared.words.Form.{Form}
 use Rattle.gix_words.specs.declared.words.Form.TheVariants as form
-use Rattle.gix_words.specs.declared.words.Merges.{Merges}
 use Rattle.gix_words.specs.declared.words.Merges.TheVariants as merges
 use Rattle.gix_words.specs.declared.words.Order.{Order}
 use Rattle.gix_words.specs.declared.words.SomeIds.{SomeIds}
@@ -152,108 +151,74 @@ chosen_from (Err e) = Err e
 abbrev pub plain_of : ℕ → List (List ℕ) → Result Asked Fault
 plain_of n ids = if list_all begins_with_caret ids then Err fault.Usage else chosen_from (ids_from n ids)
 
+-- what reads words, of which the first is word n
+abbrev pub Reader : Type 0
+Reader = (n : ℕ) → List (List ℕ) → Result Asked Fault
+
 -- what words choose, with one more option
-abbrev pub with_until : ℤ → Result Asked Fault → Result Asked Fault
-with_until seconds (Ok c) = Ok (record c { shown = record c.shown { until = Some seconds } })
-with_until seconds (Err e) = Err e
+abbrev pub changed_by : (Shown → Shown) → Result Asked Fault → Result Asked Fault
+changed_by change (Ok c) = Ok (record c { shown = change c.shown })
+changed_by change (Err e) = Err e
 
-abbrev pub with_merges : Merges → Result Asked Fault → Result Asked Fault
-with_merges kept (Ok c) = Ok (record c { shown = record c.shown { merges = kept } })
-with_merges kept (Err e) = Err e
+-- the words behind this option, where it is the first
+abbrev pub behind_option : List ℕ → List (List ℕ) → Option (List (List ℕ))
+behind_option name [] = None
+behind_option name (word ∷ words) = if bytes_eq word name then Some words else None
 
-abbrev pub with_skip : ℕ → Result Asked Fault → Result Asked Fault
-with_skip number (Ok c) = Ok (record c { shown = record c.shown { skip = number } })
-with_skip number (Err e) = Err e
+abbrev pub either_of : (Shown → Shown) → (next other : Reader) → ℕ → List (List ℕ) → Option (List (List ℕ)) → Result Asked Fault
+either_of change next other n words (Some behind) = changed_by change (next (n + 1) behind)
+either_of change next other n words None = other n words
 
-abbrev pub with_limit : ℕ → Result Asked Fault → Result Asked Fault
-with_limit number (Ok c) = Ok (record c { shown = record c.shown { limit = Some number } })
-with_limit number (Err e) = Err e
+-- maybe this option, and words for the next reader. Without it the words are for another
+abbrev pub option_of : List ℕ → (Shown → Shown) → (next other : Reader) → Reader
+option_of name change next other n words = either_of change next other n words (behind_option name words)
 
-abbrev pub with_form : Form → Result Asked Fault → Result Asked Fault
-with_form by (Ok c) = Ok (record c { shown = record c.shown { form = by } })
-with_form by (Err e) = Err e
+-- the number of at most so many digits that the first word spells, and the words behind it
+abbrev pub first_number : (digits : ℕ) → List (List ℕ) → Option (ℕ × List (List ℕ))
+first_number digits [] = None
+first_number digits (number ∷ words) = option_map (λ n. (n, words)) (number_in digits number)
 
-abbrev pub with_time : Result Asked Fault → Result Asked Fault
-with_time (Ok c) = Ok (record c { shown = record c.shown { line = record c.shown.line { time = true } } })
-with_time (Err e) = Err e
+abbrev pub changed_by_number : (ℕ → Shown → Shown) → (next : Reader) → ℕ → Option (ℕ × List (List ℕ)) → Result Asked Fault
+changed_by_number change next n None = Err fault.Usage
+changed_by_number change next n (Some found) = changed_by (change found.0) (next (n + 2) found.1)
 
-abbrev pub with_parents : Result Asked Fault → Result Asked Fault
-with_parents (Ok c) = Ok (record c { shown = record c.shown { line = record c.shown.line { parents = true } } })
-with_parents (Err e) = Err e
+abbrev pub numbered_of : (digits : ℕ) → (ℕ → Shown → Shown) → (next : Reader) → ℕ → List (List ℕ) → Option (List (List ℕ)) → Result Asked Fault
+numbered_of digits change next n words (Some behind) = changed_by_number change next n (first_number digits behind)
+numbered_of digits change next n words None = next n words
 
-abbrev pub with_zeros : Result Asked Fault → Result Asked Fault
-with_zeros (Ok c) = Ok (record c { shown = record c.shown { line = record c.shown.line { ending = 0 } } })
-with_zeros (Err e) = Err e
+-- maybe this option and a number of at most so many digits, and words for the next reader
+abbrev pub number_option_of : List ℕ → (digits : ℕ) → (ℕ → Shown → Shown) → (next : Reader) → Reader
+number_option_of name digits change next n words = numbered_of digits change next n words (behind_option name words)
 
 -- ids, the first of them word n, and before them maybe options in one order, each at most once: `--until` and a time, `--merges` or
 -- `--no-merges`, `--skip` and a number, `-n` and a limit, `--count` or `--reverse`, `--timestamp`, `--parents`, `-z`
-abbrev pub ended_of : ℕ → List (List ℕ) → Result Asked Fault
-ended_of n [] = Err fault.Usage
-ended_of n (option ∷ words) = if bytes_eq option (codes "-z") then with_zeros (plain_of (n + 1) words) else plain_of n (option ∷ words)
+unfoldable pub ended_of : Reader
+ended_of = option_of (codes "-z") (λ shown. record shown { line = record shown.line { ending = 0 } }) plain_of plain_of
 
-unfoldable pub named_of : ℕ → List (List ℕ) → Result Asked Fault
-named_of n [] = Err fault.Usage
-named_of n (option ∷ words) = if bytes_eq option (codes "--parents") then with_parents (ended_of (n + 1) words) else ended_of n (option ∷ words)
+unfoldable pub named_of : Reader
+named_of = option_of (codes "--parents") (λ shown. record shown { line = record shown.line { parents = true } }) ended_of ended_of
 
-abbrev pub timed_of : ℕ → List (List ℕ) → Result Asked Fault
-timed_of n [] = Err fault.Usage
-timed_of n (option ∷ words) = if bytes_eq option (codes "--timestamp") then with_time (named_of (n + 1) words) else named_of n (option ∷ words)
+unfoldable pub timed_of : Reader
+timed_of = option_of (codes "--timestamp") (λ shown. record shown { line = record shown.line { time = true } }) named_of named_of
 
-abbrev pub formed_of : ℕ → List (List ℕ) → Result Asked Fault
-formed_of n [] = Err fault.Usage
-formed_of n (option ∷ words) =
-    if bytes_eq option (codes "--count") then with_form form.Count (timed_of (n + 1) words)
-    else if bytes_eq option (codes "--reverse") then with_form form.Reverse (timed_of (n + 1) words)
-    else timed_of n (option ∷ words)
+unfoldable pub formed_of : Reader
+formed_of =
+    option_of (codes "--count") (λ shown. record shown { form = form.Count }) timed_of
+    (option_of (codes "--reverse") (λ shown. record shown { form = form.Reverse }) timed_of timed_of)
 
-abbrev pub limit_by : Option ℕ → ℕ → List (List ℕ) → Result Asked Fault
-limit_by (Some limit) n words = with_limit limit (formed_of n words)
-limit_by None n words = Err fault.Usage
+unfoldable pub limited_of : Reader
+limited_of = number_option_of (codes "-n") 9 (λ limit shown. record shown { limit = Some limit }) formed_of
 
--- behind `-n`, which is word n
-abbrev pub limit_from : ℕ → List (List ℕ) → Result Asked Fault
-limit_from n [] = Err fault.Usage
-limit_from n (number ∷ words) = limit_by (number_in 9 number) (n + 2) words
+unfoldable pub skipped_of : Reader
+skipped_of = number_option_of (codes "--skip") 9 (λ skip shown. record shown { skip = skip }) limited_of
 
-abbrev pub limited_of : ℕ → List (List ℕ) → Result Asked Fault
-limited_of n [] = Err fault.Usage
-limited_of n (option ∷ words) = if bytes_eq option (codes "-n") then limit_from n words else formed_of n (option ∷ words)
+unfoldable pub merges_of : Reader
+merges_of =
+    option_of (codes "--merges") (λ shown. record shown { merges = merges.Only }) skipped_of
+    (option_of (codes "--no-merges") (λ shown. record shown { merges = merges.No }) skipped_of skipped_of)
 
-abbrev pub skip_by : Option ℕ → ℕ → List (List ℕ) → Result Asked Fault
-skip_by (Some skip) n words = with_skip skip (limited_of n words)
-skip_by None n words = Err fault.Usage
-
--- behind `--skip`, which is word n
-abbrev pub skip_from : ℕ → List (List ℕ) → Result Asked Fault
-skip_from n [] = Err fault.Usage
-skip_from n (number ∷ words) = skip_by (number_in 9 number) (n + 2) words
-
-unfoldable pub skipped_of : ℕ → List (List ℕ) → Result Asked Fault
-skipped_of n [] = Err fault.Usage
-skipped_of n (option ∷ words) = if bytes_eq option (codes "--skip") then skip_from n words else limited_of n (option ∷ words)
-
-abbrev pub no_merges_of : ℕ → List (List ℕ) → Result Asked Fault
-no_merges_of n [] = Err fault.Usage
-no_merges_of n (option ∷ words) =
-    if bytes_eq option (codes "--no-merges") then with_merges merges.No (skipped_of (n + 1) words) else skipped_of n (option ∷ words)
-
-abbrev pub merges_of : ℕ → List (List ℕ) → Result Asked Fault
-merges_of n [] = Err fault.Usage
-merges_of n (option ∷ words) =
-    if bytes_eq option (codes "--merges") then with_merges merges.Only (skipped_of (n + 1) words) else no_merges_of n (option ∷ words)
-
-abbrev pub until_by : Option ℕ → ℕ → List (List ℕ) → Result Asked Fault
-until_by (Some seconds) n words = with_until (pos seconds) (merges_of n words)
-until_by None n words = Err fault.Usage
-
--- behind `--until`, which is word n
-abbrev pub until_from : ℕ → List (List ℕ) → Result Asked Fault
-until_from n [] = Err fault.Usage
-until_from n (seconds ∷ words) = until_by (number_in 10 seconds) (n + 2) words
-
-abbrev pub until_of : ℕ → List (List ℕ) → Result Asked Fault
-until_of n [] = Err fault.Usage
-until_of n (option ∷ words) = if bytes_eq option (codes "--until") then until_from n words else merges_of n (option ∷ words)
+unfoldable pub until_of : Reader
+until_of = number_option_of (codes "--until") 10 (λ seconds shown. record shown { until = Some (pos seconds) }) merges_of
 
 -- what is chosen of the commits in an order
 abbrev pub commits_in : Order → Result Asked Fault → Result Request Fault

@@ -1,7 +1,8 @@
 //! The words of a command.
 ghost use Rattle.std.specs.Prelude.{◌≡◌, ◌≤◌, IfSome, map, string_bytes};
 ghost use Rattle.std.specs.List.{list_all};
-ghost use Rattle.gix_words.specs.Words.{Bases, Contained, Containing, Gives, Tells, AddsId, begins_with_caret, begins_with_dash, begins_with_sign, number_in, request_of_command, request_of, order_named, by_first_parents, by_cutoff, ids_from, plain_of, ended_of, named_of, timed_of, asked_by, until_of, until_from, merges_of, no_merges_of, with_merges, with_time, skipped_of, skip_from, limited_of, limit_from, formed_of, listed_of, since_of, in_order_of, file_of, ended_files_of, limited_files_of, files_of, ahead_of, is_shown, several_among, several_of, several_in, asked};
+ghost use Rattle.std.specs.Option.{option_map};
+ghost use Rattle.gix_words.specs.Words.{Bases, Contained, Containing, Gives, Tells, AddsId, begins_with_caret, begins_with_dash, begins_with_sign, number_in, behind_option, first_number, request_of_command, request_of, order_named, by_first_parents, by_cutoff, ids_from, plain_of, ended_of, named_of, timed_of, asked_by, until_of, merges_of, skipped_of, limited_of, formed_of, listed_of, since_of, in_order_of, file_of, ended_files_of, limited_files_of, files_of, ahead_of, is_shown, several_among, several_of, several_in, asked};
 
 use crate::fault::Fault;
 use gix_hash::ObjectId;
@@ -282,7 +283,7 @@ fn listed(alloc: Global, order: Order, words: &[String], number: usize) -> Resul
     requires few { number ≤ 4 }
     ensures { Gives request_of_command result (listed_of order number (map string_bytes words.now)) }
 {
-    let chosen = choice(alloc, words, number)?;
+    let chosen = until(alloc, words, number)?;
     Ok(Command::Commits {
         order,
         shown: chosen.shown,
@@ -292,28 +293,15 @@ fn listed(alloc: Global, order: Order, words: &[String], number: usize) -> Resul
 }
 
 /// What these words choose: maybe `--until` and a time, further options, ids.
-fn choice(alloc: Global, words: &[String], number: usize) -> Result<Chosen, Fault>
+#[tactic(auto, unfolding(crate::specs::Words::until_of))]
+fn until(alloc: Global, words: &[String], number: usize) -> Result<Chosen, Fault>
     requires few { number ≤ 4 }
     ensures { Gives asked_by result (until_of number (map string_bytes words.now)) }
 {
-    let [option, behind @ ..] = words else {
-        return Err(Fault::Usage);
+    let Some(behind) = behind_option("--until", words) else {
+        return by_merges(alloc, words, number);
     };
-    if option.as_str() == "--until" {
-        return until(alloc, behind, number);
-    }
-    by_merges(alloc, words, number)
-}
-
-/// What the words behind `--until`, the word of this number, choose with it.
-fn until(alloc: Global, words: &[String], number: usize) -> Result<Chosen, Fault>
-    requires few { number ≤ 4 }
-    ensures { Gives asked_by result (until_from number (map string_bytes words.now)) }
-{
-    let [seconds, behind @ ..] = words else {
-        return Err(Fault::Usage);
-    };
-    let Some(seconds) = number_in(seconds, 10) else {
+    let Some((seconds, behind)) = first_number(behind, 10) else {
         return Err(Fault::Usage);
     };
     let mut chosen = by_merges(alloc, behind, number + 2)?;
@@ -322,66 +310,34 @@ fn until(alloc: Global, words: &[String], number: usize) -> Result<Chosen, Fault
 }
 
 /// What these words choose: maybe `--merges` or `--no-merges`, further options, ids.
+#[tactic(auto, unfolding(crate::specs::Words::merges_of))]
 fn by_merges(alloc: Global, words: &[String], number: usize) -> Result<Chosen, Fault>
     requires few { number ≤ 6 }
     ensures { Gives asked_by result (merges_of number (map string_bytes words.now)) }
 {
-    let [option, behind @ ..] = words else {
-        return Err(Fault::Usage);
-    };
-    if option.as_str() == "--merges" {
-        return merged(alloc, Merges::Only, behind, number + 1);
+    if let Some(behind) = behind_option("--merges", words) {
+        let mut chosen = skipped(alloc, behind, number + 1)?;
+        chosen.shown.merges = Merges::Only;
+        return Ok(chosen);
     }
-    by_no_merges(alloc, words, number)
-}
-
-/// What these words choose: maybe `--no-merges`, further options, ids.
-fn by_no_merges(alloc: Global, words: &[String], number: usize) -> Result<Chosen, Fault>
-    requires few { number ≤ 6 }
-    ensures { Gives asked_by result (no_merges_of number (map string_bytes words.now)) }
-{
-    let [option, behind @ ..] = words else {
-        return Err(Fault::Usage);
+    let Some(behind) = behind_option("--no-merges", words) else {
+        return skipped(alloc, words, number);
     };
-    if option.as_str() == "--no-merges" {
-        return merged(alloc, Merges::No, behind, number + 1);
-    }
-    skipped(alloc, words, number)
-}
-
-/// What these words choose of such commits alone. The first of them is the word of this number.
-fn merged(alloc: Global, kept: Merges, words: &[String], number: usize) -> Result<Chosen, Fault>
-    requires few { number ≤ 7 }
-    ensures { Gives asked_by result (with_merges kept (skipped_of number (map string_bytes words.now))) }
-{
-    let mut chosen = skipped(alloc, words, number)?;
-    chosen.shown.merges = kept;
+    let mut chosen = skipped(alloc, behind, number + 1)?;
+    chosen.shown.merges = Merges::No;
     Ok(chosen)
 }
 
 /// What these words choose: maybe `--skip` and a number, further options, ids.
+#[tactic(auto, unfolding(crate::specs::Words::skipped_of))]
 fn skipped(alloc: Global, words: &[String], number: usize) -> Result<Chosen, Fault>
     requires few { number ≤ 7 }
     ensures { Gives asked_by result (skipped_of number (map string_bytes words.now)) }
 {
-    let [option, behind @ ..] = words else {
-        return Err(Fault::Usage);
+    let Some(behind) = behind_option("--skip", words) else {
+        return limited(alloc, words, number);
     };
-    if option.as_str() == "--skip" {
-        return skip(alloc, behind, number);
-    }
-    limited(alloc, words, number)
-}
-
-/// What the words behind `--skip`, the word of this number, choose with it.
-fn skip(alloc: Global, words: &[String], number: usize) -> Result<Chosen, Fault>
-    requires few { number ≤ 7 }
-    ensures { Gives asked_by result (skip_from number (map string_bytes words.now)) }
-{
-    let [skip, behind @ ..] = words else {
-        return Err(Fault::Usage);
-    };
-    let Some(skip) = number_in(skip, 9) else {
+    let Some((skip, behind)) = first_number(behind, 9) else {
         return Err(Fault::Usage);
     };
     let mut chosen = limited(alloc, behind, number + 2)?;
@@ -390,28 +346,15 @@ fn skip(alloc: Global, words: &[String], number: usize) -> Result<Chosen, Fault>
 }
 
 /// What these words choose: maybe `-n` and a limit, further options, ids.
+#[tactic(auto, unfolding(crate::specs::Words::limited_of))]
 fn limited(alloc: Global, words: &[String], number: usize) -> Result<Chosen, Fault>
     requires few { number ≤ 9 }
     ensures { Gives asked_by result (limited_of number (map string_bytes words.now)) }
 {
-    let [option, behind @ ..] = words else {
-        return Err(Fault::Usage);
+    let Some(behind) = behind_option("-n", words) else {
+        return formed(alloc, words, number);
     };
-    if option.as_str() == "-n" {
-        return limit(alloc, behind, number);
-    }
-    formed(alloc, words, number)
-}
-
-/// What the words behind `-n`, the word of this number, choose with it.
-fn limit(alloc: Global, words: &[String], number: usize) -> Result<Chosen, Fault>
-    requires few { number ≤ 9 }
-    ensures { Gives asked_by result (limit_from number (map string_bytes words.now)) }
-{
-    let [limit, behind @ ..] = words else {
-        return Err(Fault::Usage);
-    };
-    let Some(limit) = number_in(limit, 9) else {
+    let Some((limit, behind)) = first_number(behind, 9) else {
         return Err(Fault::Usage);
     };
     let mut chosen = formed(alloc, behind, number + 2)?;
@@ -420,46 +363,34 @@ fn limit(alloc: Global, words: &[String], number: usize) -> Result<Chosen, Fault
 }
 
 /// What these words choose: maybe `--count` or `--reverse`, further options, ids.
+#[tactic(auto, unfolding(crate::specs::Words::formed_of))]
 fn formed(alloc: Global, words: &[String], number: usize) -> Result<Chosen, Fault>
     requires few { number ≤ 11 }
     ensures { Gives asked_by result (formed_of number (map string_bytes words.now)) }
 {
-    let [option, behind @ ..] = words else {
-        return Err(Fault::Usage);
-    };
-    if option.as_str() == "--count" {
+    if let Some(behind) = behind_option("--count", words) {
         let mut chosen = timed(alloc, behind, number + 1)?;
         chosen.shown.form = Form::Count;
         return Ok(chosen);
     }
-    if option.as_str() == "--reverse" {
-        let mut chosen = timed(alloc, behind, number + 1)?;
-        chosen.shown.form = Form::Reverse;
-        return Ok(chosen);
-    }
-    timed(alloc, words, number)
+    let Some(behind) = behind_option("--reverse", words) else {
+        return timed(alloc, words, number);
+    };
+    let mut chosen = timed(alloc, behind, number + 1)?;
+    chosen.shown.form = Form::Reverse;
+    Ok(chosen)
 }
 
 /// What these words choose: maybe `--timestamp`, further options, ids.
+#[tactic(auto, unfolding(crate::specs::Words::timed_of))]
 fn timed(alloc: Global, words: &[String], number: usize) -> Result<Chosen, Fault>
     requires few { number ≤ 12 }
     ensures { Gives asked_by result (timed_of number (map string_bytes words.now)) }
 {
-    let [option, behind @ ..] = words else {
-        return Err(Fault::Usage);
+    let Some(behind) = behind_option("--timestamp", words) else {
+        return named(alloc, words, number);
     };
-    if option.as_str() == "--timestamp" {
-        return with_time(alloc, behind, number + 1);
-    }
-    named(alloc, words, number)
-}
-
-/// What these words choose, with the time in front of each line. The first of them is the word of this number.
-fn with_time(alloc: Global, words: &[String], number: usize) -> Result<Chosen, Fault>
-    requires few { number ≤ 13 }
-    ensures { Gives asked_by result (with_time (named_of number (map string_bytes words.now))) }
-{
-    let mut chosen = named(alloc, words, number)?;
+    let mut chosen = named(alloc, behind, number + 1)?;
     chosen.shown.line.time = true;
     Ok(chosen)
 }
@@ -470,31 +401,50 @@ fn named(alloc: Global, words: &[String], number: usize) -> Result<Chosen, Fault
     requires few { number ≤ 13 }
     ensures { Gives asked_by result (named_of number (map string_bytes words.now)) }
 {
-    let [option, behind @ ..] = words else {
-        return Err(Fault::Usage);
+    let Some(behind) = behind_option("--parents", words) else {
+        return ended(alloc, words, number);
     };
-    if option.as_str() == "--parents" {
-        let mut chosen = ended(alloc, behind, number + 1)?;
-        chosen.shown.line.parents = true;
-        return Ok(chosen);
-    }
-    ended(alloc, words, number)
+    let mut chosen = ended(alloc, behind, number + 1)?;
+    chosen.shown.line.parents = true;
+    Ok(chosen)
 }
 
 /// What these words choose: maybe `-z`, and ids.
+#[tactic(auto, unfolding(crate::specs::Words::ended_of))]
 fn ended(alloc: Global, words: &[String], number: usize) -> Result<Chosen, Fault>
     requires few { number ≤ 14 }
     ensures { Gives asked_by result (ended_of number (map string_bytes words.now)) }
 {
-    let [option, behind @ ..] = words else {
-        return Err(Fault::Usage);
+    let Some(behind) = behind_option("-z", words) else {
+        return chosen_ids(alloc, words, number);
     };
-    if option.as_str() == "-z" {
-        let mut chosen = chosen_ids(alloc, behind, number + 1)?;
-        chosen.shown.line.ending = 0;
-        return Ok(chosen);
+    let mut chosen = chosen_ids(alloc, behind, number + 1)?;
+    chosen.shown.line.ending = 0;
+    Ok(chosen)
+}
+
+/// The words behind this option, where it is the first.
+fn behind_option<'a>(option: &str, words: &'a [String]) -> Option<&'a [String]>
+    ensures { option_map (λ behind. map string_bytes behind.now) result ≡ behind_option option.now (map string_bytes words.now) }
+{
+    match words {
+        [first, behind @ ..] if first.as_str() == option => Some(behind),
+        _ => None,
     }
-    chosen_ids(alloc, words, number)
+}
+
+/// The number of at most so many digits that the first word spells, and the words behind it.
+fn first_number(words: &[String], digits: usize) -> Option<(u64, &[String])>
+    requires few { digits ≤ 10 }
+    ensures value { option_map (λ found. (found.0, map string_bytes found.1.now)) result ≡ first_number digits
+        (map string_bytes words.now) }
+    ensures small { IfSome result (λ found. found.0 ≤ 9999999999) }
+{
+    let [number, behind @ ..] = words else {
+        return None;
+    };
+    let number = number_in(number, digits)?;
+    Some((number, behind))
 }
 
 /// The number that 1 to so many decimal digits spell.
