@@ -67,8 +67,8 @@ struct kestrelrack_answer {
  *          and ids of commits to be hidden, each after a ^. "ahead" has two ids, and "contains", "containing" and "merge-base" have two at
  *          least. "files" has the id of a tree, and before it maybe "-n" and a number of 1 to 9 digits, and maybe "-z". An id is 40 or 64
  *          hex digits. One space or one newline is between two words, and none at either end.
- *          Options of lists come before the ids, in this order, each at most once. "breadth" may have "--first-parent". "newest" and
- *          "oldest" may have "--since" and a number of 1 to 10 digits. "--until" and such a number leaves out commits of a later time.
+ *          Options of lists come before the ids, in this order, each at most once. "breadth", "topo" and "date" may have
+ *          "--first-parent". "newest" and "oldest" may have "--since" and a number of 1 to 10 digits. "--until" and such a number leaves out commits of a later time.
  *          "--merges" leaves out those of fewer than two parents, and "--no-merges" those of more than one. "--skip" and a number of 1 to 9
  *          digits leaves out so many of the others first. After "-n" and such a number no more lines are written than it says. With
  *          "--reverse" the last of these lines comes first. With "--count" their number is the only line. With "--timestamp" a line begins
@@ -96,7 +96,7 @@ struct kestrelrack_commit {
     struct kestrelrack_id id;
     int64_t time;        /* the committer's seconds since 1970-01-01 00:00 UTC if `known` has the bit KESTRELRACK_TIME, otherwise 0 */
     size_t parents_at;   /* its parents are parents[parents_at] and those behind it, as the commit names them, repeats kept */
-    size_t parents;      /* how many these are; with "--first-parent" one at most */
+    size_t parents;      /* how many these are; of "breadth" with "--first-parent" one at most */
     uint32_t generation; /* in its row of a commit-graph if `known` has the bit KESTRELRACK_GENERATION, otherwise 0 */
     uint16_t id_length;  /* how many bytes its id has, and those of its parents: 20 (SHA-1) or 32 (SHA-256) */
     uint16_t known;      /* KESTRELRACK_TIME and KESTRELRACK_GENERATION, or'ed: by "breadth" no time is known, and of records no generation */

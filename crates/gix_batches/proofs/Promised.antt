@@ -206,12 +206,12 @@ module _ (words : List (List ℕ)) (objects : Objects) (AreGiven : page.Objects 
         (subst (ShowsDrawn o Checks IsItself limit checked) (sym is) (shown_timed o (none_agree o [] refl) (unrowed_read o) name option rest limit tips hidden some place chooses m by named chosen (have_texts request objects) walk starts))
         how (lines_by o) (λ infos e ends. serves_checked o [] (Some []) m by shown_all tips hidden (Some (lines_by o infos)) walk checked (fresh_choosing o shown_all) refl refl other starts (Err e) (writes_lines Checks IsItself o checked infos e ends))
         (checked_by o walk limit)
-    by_order order how (name, option, rest, is, named, plain, place, chooses, some) (down {by = by} walk built f) =
-        let request = Commits (Topo by) shown_all tips hidden in
-        let o = seen_by (Topo by) in
+    by_order order how (name, option, rest, is, named, chosen, place, chooses, some) (down {m = m} {by = by} walk built f) =
+        let request = Commits (Topo m by) shown_all tips hidden in
+        let o = seen_by (Topo m by) in
         both_so words objects AreGiven given spelled FailsSo skip old new rooms filled request topo.Answers topo.IsWalkFault limit walk batch f
-        (subst (ShowsDrawn o topo.Answers topo.IsWalkFault limit walk) (sym is) (shown_down o (none_agree o [] refl) (unrowed_read o) name option rest limit tips hidden some place chooses by named plain (have_texts request objects) walk built))
-        how (lines_by o) (λ infos e ends. serves_topo o [] (Some []) by shown_all tips hidden (Some (lines_by o infos)) walk (fresh_choosing o shown_all) refl built (Err e) (writes_lines topo.Answers topo.IsWalkFault o walk infos e ends))
+        (subst (ShowsDrawn o topo.Answers topo.IsWalkFault limit walk) (sym is) (shown_down o (none_agree o [] refl) (unrowed_read o) name option rest limit tips hidden some place chooses m by named chosen (have_texts request objects) walk built))
+        how (lines_by o) (λ infos e ends. serves_topo o [] (Some []) m by shown_all tips hidden (Some (lines_by o infos)) walk (fresh_choosing o shown_all) refl built (Err e) (writes_lines topo.Answers topo.IsWalkFault o walk infos e ends))
         (topo_by limit walk)
 
   -- THE LAW: what a walk filled is promised
@@ -286,7 +286,7 @@ module _ (words : List (List ℕ)) (objects : Objects) where
 -- ANOTHER COMMAND
 pub is_other : (command : Command) → ((order : Order) (shown : Shown) (tips hidden : _) → command ≡ command_of.Commits order shown tips hidden → ⊥) → (by : Order) (limit : Option ℕ) (tips hidden : List ObjectId) → request_of_command command ≢ Commits by (all_lines_to limit) tips hidden
 is_other (command_of.Commits order some shown below) other by limit tips hidden = λ e. other order some shown below refl
-is_other (command_of.Files ending tree) other by limit tips hidden = λ e. cc
+is_other (command_of.Files shown tree) other by limit tips hidden = λ e. cc
 is_other (command_of.Ahead one two) other by limit tips hidden = λ e. cc
 is_other (command_of.Contained tip ids) other by limit tips hidden = λ e. cc
 is_other (command_of.Containing target ids) other by limit tips hidden = λ e. cc

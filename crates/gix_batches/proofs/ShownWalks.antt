@@ -165,21 +165,21 @@ module _ (objects : Objects) (agrees : IsAgreeing objects []) (read : AreRead ob
     pub shown_timed : (infos : List Info) (ending : Ending) → Draws Checks IsItself limit checked infos ending → IsShown infos ending
     shown_timed = shown Checks IsItself limit checked Good (λ infos ends. checked_ended infos (from_by objects [] ids_given walk limit infos (Ok tt) ends) refl) checked_begun
 
-  module _ (by : TopoSorting) (named : IsNameOf name (Topo by)) (plain : option ≡ []) (have : HaveTexts (Commits (Topo by) shown_all tips hidden) (page_objects objects)) (walk : topo.Walk) (built : topo.IsBuiltFrom objects [] by tips hidden (Ok walk)) where
+  module _ (m : Parents) (by : TopoSorting) (named : IsNameOf name (Topo m by)) (chosen : IsOptionOf option (Topo m by)) (have : HaveTexts (Commits (Topo m by) shown_all tips hidden) (page_objects objects)) (walk : topo.Walk) (built : topo.IsBuiltFrom objects [] m by tips hidden (Ok walk)) where
     good_down : (all : Bool) (infos : List Info) (last : topo.Walk) → Yields topo.Answers walk (given infos) last → Listed all infos → Good all infos
     good_down all infos last drawn l =
-        shows_read objects asked (λ ids. ids) (λ time. Some time) (λ r. says_down r name option rest (behind_free tips hidden chooses) by named) all infos (each_line all infos l) l.0
-        (read_down objects agrees by tips hidden walk built infos last drawn)
+        shows_read objects asked (λ ids. ids) (λ time. Some time) (λ r. says_down r name option rest (behind_free tips hidden chooses) m by named) all infos (each_line all infos l) l.0
+        (read_down objects agrees m by tips hidden walk built infos last drawn)
 
     down_ended : (infos : List Info) → EndsBy topo.Answers topo.IsWalkFault ids_given limit walk infos (Ok tt) → Good true infos
     down_ended infos ends =
         let d = by_drawn topo.Answers topo.IsWalkFault walk infos limit (Ok tt) ends in
-        good_down true infos d.0 d.1 (down.ended_so objects [] agrees by tips hidden some (down_there objects [] agrees read None (Commits (Topo by) shown_all tips hidden) have) (read by tips hidden) walk built name option rest named plain shown_all place chooses limit refl infos
+        good_down true infos d.0 d.1 (down.ended_so objects [] agrees m by tips hidden some (down_there objects [] agrees read None (Commits (Topo m by) shown_all tips hidden) have) (read m by tips hidden) walk built name option rest named chosen shown_all place chooses limit refl infos
         (subst (λ (those : List Info → List ObjectId). EndsBy topo.Answers topo.IsWalkFault those limit walk infos (Ok tt)) (sym kept_so) ends))
 
     down_begun : (infos : List Info) (at : topo.Walk) → Yields topo.Answers walk (given infos) at → Allows limit (length infos) → Good false infos
     down_begun infos at h within =
-        good_down false infos at h (down.begun_so objects [] agrees by tips hidden some (down_there objects [] agrees read None (Commits (Topo by) shown_all tips hidden) have) (read by tips hidden) walk built name option rest named plain shown_all place chooses refl infos at h
+        good_down false infos at h (down.begun_so objects [] agrees m by tips hidden some (down_there objects [] agrees read None (Commits (Topo m by) shown_all tips hidden) have) (read m by tips hidden) walk built name option rest named chosen shown_all place chooses refl infos at h
         (subst (Allows limit) (sym (number_so infos)) within))
 
     pub shown_down : (infos : List Info) (ending : Ending) → Draws topo.Answers topo.IsWalkFault limit walk infos ending → Good (has_ended ending) infos × IsNextGood Good infos ending

@@ -84,11 +84,11 @@ module _ (objects : Objects) (agrees : IsAgreeing objects []) (m : Parents) (by 
           let p : Reaches (parents_of objects) (ids_of walk.pending) i = from_pending objects [] m by tips hidden walk starts i r in
           text_whole objects i (met (λ none. no_start _ _ i p (λ k. ids_of (none k))) i (reach_more (parents_of objects) (ids_of walk.pending) (ids_of walk.pending ++ hidden) (λ x n. Contains-append_left (ids_of walk.pending) hidden x n) i p)))
 
-module _ (objects : Objects) (agrees : IsAgreeing objects []) (by : TopoSorting) (tips ends : List ObjectId) (walk : topo.Walk) (built : topo.IsBuiltFrom objects [] by tips ends (Ok walk)) where
+module _ (objects : Objects) (agrees : IsAgreeing objects []) (m : Parents) (by : TopoSorting) (tips ends : List ObjectId) (walk : topo.Walk) (built : topo.IsBuiltFrom objects [] m by tips ends (Ok walk)) where
   abbrev pub timed_down : ObjectId → Option ℤ
   timed_down i = Some (time_of objects i)
 
-  texts_read : (infos : List Info) (ids : List ObjectId) → AllZip (IsTextGiven objects_of (plan_from objects [] by tips ends)) (given infos) ids → AllByRecursion (IsRead (text_next objects) timed_down) infos
+  texts_read : (infos : List Info) (ids : List ObjectId) → AllZip (IsTextGiven objects_of (plan_from objects [] m by tips ends)) (given infos) ids → AllByRecursion (IsRead (text_next objects) timed_down) infos
   texts_read [] ids h = tt
   texts_read (info ∷ infos) [] h = absurd h
   texts_read (info ∷ infos) (i ∷ ids) h = (

@@ -82,9 +82,9 @@ module _ (r : Row) (name : List ℕ) (option rest : List (List ℕ)) (free : tak
   says_simple mode.First (sorting.ByCommitTime by) named chosen = absurd chosen
   says_simple mode.First (sorting.ByCommitTimeCutoff by seconds) named chosen = absurd chosen
 
-  pub says_down : (by : TopoSorting) → IsNameOf name (Topo by) → Says r (name ∷ (option ++ rest)) (told_down r)
-  says_down topo.TopoOrder named = named_so (codes "topo") _ named (timed (2, omega arith, refl))
-  says_down topo.DateOrder named = named_so (codes "date") _ named (timed (3, omega arith, refl))
+  pub says_down : (m : Parents) (by : TopoSorting) → IsNameOf name (Topo m by) → Says r (name ∷ (option ++ rest)) (told_down r)
+  says_down m topo.TopoOrder named = named_so (codes "topo") _ named (timed (2, omega arith, refl))
+  says_down m topo.DateOrder named = named_so (codes "date") _ named (timed (3, omega arith, refl))
 
 pub says_id : (r : Row) (words : List (List ℕ)) (t : Told) → Says r words t → t.id ≡ r.id
 says_id r words t (breadth free) = refl

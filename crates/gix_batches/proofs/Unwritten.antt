@@ -22,6 +22,7 @@ use Rattle.gix_commands.specs.Checked.{Checks}
 use Rattle.gix_commands.specs.TopoWalked as topo
 use Rattle.gix_commands.specs.Walked.{Answers, Ends, EndsBy, IsStartFault, IsWalkFault, Walk, before, cut_short, enough, failed, finished}
 use Rattle.gix_commands.proofs.CheckedWalks.{IsChecked, from_by, lacking, well}
+use Rattle.gix_revwalk.specs.declared.Parents.{Parents}
 use Rattle.gix_commands.proofs.LostParents.{lost_so}
 use Rattle.gix_commands.proofs.MemoryFaults.{failed_so}
 use Rattle.gix_commands.proofs.WordFaults.{OfWords, request_words}
@@ -85,8 +86,8 @@ module _ (e : Fault) where
   pub start_unwritten : (objects : Objects) (by : Sorting) (tips : List ObjectId) → IsStartFault objects by tips e → e ≢ fault.Write
   start_unwritten objects by tips h = start_of (λ other same. walk_unwritten (h other).0 (sym (h other).2 ∙ same))
 
-  pub build_unwritten : (objects : Objects) (by : TopoSorting) (tips ends : List ObjectId) → topo.IsStartFault objects [] by tips ends e → e ≢ fault.Write
-  build_unwritten objects by tips ends h = start_of (λ other same. topo_unwritten (h other).0 (sym (h other).2 ∙ same))
+  pub build_unwritten : (objects : Objects) (m : Parents) (by : TopoSorting) (tips ends : List ObjectId) → topo.IsStartFault objects [] m by tips ends e → e ≢ fault.Write
+  build_unwritten objects m by tips ends h = start_of (λ other same. topo_unwritten (h other).0 (sym (h other).2 ∙ same))
 
 -- words and records
 pub words_unwritten : (words : List (List ℕ)) (e : Fault) → (e ≢ fault.Memory → request_of words ≡ Err e) → e ≢ fault.Write

@@ -30,6 +30,6 @@ pub data FillsBy (objects : Objects) (limit : Option ℕ) (tips hidden : List Ob
   timed : {m : Parents} {by : Sorting} (walk : Walk) → by ≢ sorting.BreadthFirst → StartsFrom objects [] m by tips hidden walk
       → Fills Checks IsItself limit skip (record { walk = walk; objects = objects; rows = []; lost = None }) old new before after batch
       → FillsBy objects limit tips hidden skip old new before after batch (Simple m by)
-  down : {by : TopoSorting} (walk : topo.Walk) → topo.IsBuiltFrom objects [] by tips hidden (Ok walk)
+  down : {m : Parents} {by : TopoSorting} (walk : topo.Walk) → topo.IsBuiltFrom objects [] m by tips hidden (Ok walk)
       → Fills topo.Answers topo.IsWalkFault limit skip walk old new before after batch
-      → FillsBy objects limit tips hidden skip old new before after batch (Topo by)
+      → FillsBy objects limit tips hidden skip old new before after batch (Topo m by)

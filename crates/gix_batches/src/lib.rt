@@ -169,8 +169,11 @@ fn batch_of(
             let checked = Checked::new(alloc, walk, through, store, None);
             Ok(fill_from(checked, limit, skip, commits, parents))
         }
-        Order::Topo(sorting) => {
-            let walk = topo_walk_from(alloc, sorting, tips, hidden, store, None)?;
+        Order::Topo {
+            parents: through,
+            sorting,
+        } => {
+            let walk = topo_walk_from(alloc, through, sorting, tips, hidden, store, None)?;
             Ok(fill_from(walk, limit, skip, commits, parents))
         }
     }

@@ -8,7 +8,7 @@ use std::alloc::Global;
 pub const PAGES: &[(&str, &str)] = &[
     (
         "crates/gix_statement/specs/WholeStatement.antt",
-        "91e4325c5857ca3b469f6c21813a68e2b093c18917606cbd86d320231e65abe0",
+        "452bc6e2d69feda7a601ae085c05983e01901fa11ae6860034546192d32d93b9",
     ),
     (
         "crates/gix_statement/specs/CommitGraph.antt",

@@ -1,6 +1,6 @@
 -- A beginning of a list in an order goes on to a whole list, where finitely many ids are reached.
 use Rattle.std.proofs.Common.{◌≡◌, ℤ, List, length, take, Option, Some, None, Contains, sym}
-use Rattle.gix_commands.proofs.Common.{ObjectId, Objects, CommitTimeOrder, text_next, breadth_exists, IsBeginning, IsInOrder, IsInWalk}
+use Rattle.gix_commands.proofs.Common.{ObjectId, Objects, CommitTimeOrder, Parents, by_mode, walked_within, text_next, breadth_exists, IsBeginning, IsInOrder, IsInWalk}
 use Rattle.gix_hash.specs.Reach.{Reaches}
 use Rattle.gix_revwalk.proofs.OneOrder.{one_breadth_beginning, one_time_beginning}
 use Rattle.gix_revwalk.proofs.SomeOrder.{time_exists}
@@ -22,18 +22,22 @@ module _ (next : ObjectId → List ObjectId) (starts all : List ObjectId) (finit
       (some.0, some.1, sym (one_time_beginning order time next starts ids some.0 h some.1))
 
 -- a list of a topological walk by the parents that texts name
-module _ (objects : Objects) (tips ends : List ObjectId) where
+module _ (objects : Objects) (m : Parents) (tips ends : List ObjectId) where
   abbrev walked : ObjectId → List ObjectId
-  walked = text_next objects
+  walked i = by_mode m (text_next objects i)
 
   abbrev In : ObjectId → Type 0
-  In = IsInWalk walked walked tips ends
+  In = IsInWalk walked (text_next objects) tips ends
+
+  -- what is walked is named
+  named : (c i : ObjectId) → Contains (walked c) i → Contains (text_next objects c) i
+  named c i n = walked_within m (text_next objects c) i n
 
   pub descent_goes_on : (by : TopoSorting) (time : ObjectId → ℤ) (ids : List ObjectId) → IsSortedBeginning by time walked In tips ids
       → (whole : List ObjectId) × IsSorted by time walked In tips whole × (take (length ids) whole ≡ ids)
   descent_goes_on topo.TopoOrder time ids h =
-      let some = some_topo objects walked walked tips ends (λ c i n. n) (λ c i n. n) time in
+      let some = some_topo objects walked (text_next objects) tips ends named (λ c i n. n) time in
       (some.0, some.1, sym (first_topo time walked In tips ids some.0 h some.1))
   descent_goes_on topo.DateOrder time ids h =
-      let some = some_date objects walked walked tips ends (λ c i n. n) (λ c i n. n) (λ c i n. n) time in
+      let some = some_date objects walked (text_next objects) tips ends named (λ c i n. n) named time in
       (some.0, some.1, sym (first_date time walked In tips ids some.0 h some.1))

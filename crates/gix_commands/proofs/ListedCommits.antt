@@ -5,6 +5,7 @@ use Rattle.gix_hash.specs.Reach.{Reaches, Tells}
 use Rattle.gix_object.specs.Object.{Objects}
 use Rattle.gix_revwalk.specs.Commits.{by_mode, parents_of, time_of}
 use Rattle.gix_revwalk.specs.Ids.{AreDistinct, new_ids}
+use Rattle.gix_revwalk.specs.Texts.{text_next}
 use Rattle.gix_revwalk.specs.declared.CommitTimeOrder.{CommitTimeOrder}
 use Rattle.gix_revwalk.specs.declared.Parents.{Parents}
 use Rattle.gix_revwalk.specs.declared.Parents.TheVariants as mode
@@ -55,10 +56,14 @@ IsSimpleBy objects next parents by tips =
 abbrev pub lines_of_ids : List ObjectId → List ℕ
 lines_of_ids ids = flat_map line_of ids
 
--- No id is there twice, and each is one that the tips reach through these parents and the ends don't. All of these are there, where none of
--- them is its own ancestor. They are in the order that was asked for.
-pub record ListsDown (objects : Objects) (next : ObjectId → List ObjectId) (by : TopoSorting) (tips ends ids : List ObjectId) : Type 0 where
+-- what a topological walk follows, by texts
+abbrev pub followed_down : Objects → Parents → ObjectId → List ObjectId
+followed_down objects m i = by_mode m (text_next objects i)
+
+-- No id is there twice, and each is one that the tips reach through what is walked, and the ends don't through any parents. All of these are
+-- there, where none of them is its own ancestor. They are in the order that was asked for.
+pub record ListsDown (objects : Objects) (next walked : ObjectId → List ObjectId) (by : TopoSorting) (tips ends ids : List ObjectId) : Type 0 where
   pub once : AreDistinct ids
-  pub shown : (i : ObjectId) → Contains ids i → IsShownBy next tips ends i
-  pub all : IsAcyclicIn next (IsShownBy next tips ends) → (i : ObjectId) → IsShownBy next tips ends i → Contains ids i
-  pub in_order : IsSorted by (time_of objects) next (IsInWalk next next tips ends) tips ids
+  pub shown : (i : ObjectId) → Contains ids i → IsInWalk walked next tips ends i
+  pub all : IsAcyclicIn walked (IsInWalk walked next tips ends) → (i : ObjectId) → IsInWalk walked next tips ends i → Contains ids i
+  pub in_order : IsSorted by (time_of objects) walked (IsInWalk walked next tips ends) tips ids

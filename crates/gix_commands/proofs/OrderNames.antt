@@ -18,8 +18,8 @@ is_order name (Simple m (sorting.ByCommitTime order.NewestFirst)) e = (1, omega 
 is_order name (Simple m (sorting.ByCommitTime order.OldestFirst)) e = (2, omega arith, sym e)
 is_order name (Simple m (sorting.ByCommitTimeCutoff order.NewestFirst seconds)) e = (1, omega arith, sym e)
 is_order name (Simple m (sorting.ByCommitTimeCutoff order.OldestFirst seconds)) e = (2, omega arith, sym e)
-is_order name (Topo topo.TopoOrder) e = (3, omega arith, sym e)
-is_order name (Topo topo.DateOrder) e = (4, omega arith, sym e)
+is_order name (Topo m topo.TopoOrder) e = (3, omega arith, sym e)
+is_order name (Topo m topo.DateOrder) e = (4, omega arith, sym e)
 
 -- and three of them are of no topological order
 longer : (name : List ℕ) (k : ℕ) → length name ≡ k → (k ≡ 4 → ⊥) → IsSimple name
@@ -49,6 +49,6 @@ four name e = (
   λ s. let h : length name ≡ 6 = ap length s in omega (arith, e, h),
 )
 
-pub down_name : (name : List ℕ) (by : TopoSorting) → IsNameOf name (Topo by) → IsDown name
-down_name name topo.TopoOrder e = four name (ap length e)
-down_name name topo.DateOrder e = four name (ap length e)
+pub down_name : (name : List ℕ) (m : Parents) (by : TopoSorting) → IsNameOf name (Topo m by) → IsDown name
+down_name name m topo.TopoOrder e = four name (ap length e)
+down_name name m topo.DateOrder e = four name (ap length e)

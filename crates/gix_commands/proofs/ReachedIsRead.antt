@@ -36,5 +36,5 @@ module _ (objects : Objects) (rows : List GraphRow) (agree : IsAgreeing objects 
 
   -- so a walk that was built has read all that its tips and ends reach, or their rows
   pub reached_is_read : AreRead objects rows
-  reached_is_read by tips ends walk built i r =
+  reached_is_read m by tips ends walk built i r =
       known_is_read true i (subst (λ plan. IsAgreeing plan.store plan.rows → (j : ObjectId) → IsReached objects_of plan j → IsKnown plan.store plan.rows true j) built.0.plan built.1.known agree i r)

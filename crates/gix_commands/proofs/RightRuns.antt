@@ -34,11 +34,11 @@ use Rattle.gix_commands.proofs.RightTrees.{tree_written}
 -- a topological walk that was built has read all that its tips and ends reach
 abbrev pub AreRead : Objects → List GraphRow → Type 0
 AreRead objects rows =
-    (by : TopoSorting) (tips ends : List ObjectId) (walk : TopoWalk) → IsBuiltFrom objects rows by tips ends (Ok walk)
-    → (i : ObjectId) → IsReached objects_of (plan_from objects rows by tips ends) i → IsCommitRead objects i
+    (m : Parents) (by : TopoSorting) (tips ends : List ObjectId) (walk : TopoWalk) → IsBuiltFrom objects rows m by tips ends (Ok walk)
+    → (i : ObjectId) → IsReached objects_of (plan_from objects rows m by tips ends) i → IsCommitRead objects i
 
 pub unrowed_read : (objects : Objects) → AreRead objects []
-unrowed_read objects by tips ends walk built i r = was_read objects by tips ends walk built i r
+unrowed_read objects m by tips ends walk built i r = was_read objects m by tips ends walk built i r
 
 module _ (objects : Objects) (rows : List GraphRow) (agrees : IsAgreeing objects rows) (read : AreRead objects rows) (old : Option (List ℕ)) where
   abbrev RightSo : List (List ℕ) → Result (Unit {0}) Fault → Option (List ℕ) → Type 0
@@ -123,9 +123,9 @@ module _ (objects : Objects) (rows : List GraphRow) (agrees : IsAgreeing objects
   right_of_words words (Commits (Simple m by) shown tips hidden) (name, option, rest, is, named, chosen, place, chooses, some) have answer new s =
       subst (λ asked. RightSo asked answer new) (sym is)
       (simple_right objects rows agrees m by tips hidden some (simple_there (Commits (Simple m by) shown tips hidden) have m by shown tips hidden refl) old name option rest named chosen shown place chooses answer new s)
-  right_of_words words (Commits (Topo by) shown tips ends) (name, option, rest, is, named, chosen, place, chooses, some) have answer new s =
+  right_of_words words (Commits (Topo m by) shown tips ends) (name, option, rest, is, named, chosen, place, chooses, some) have answer new s =
       subst (λ asked. RightSo asked answer new) (sym is)
-      (topo_right objects rows agrees by tips ends some (down_there (Commits (Topo by) shown tips ends) have) (read by tips ends) old name option rest named chosen shown place chooses answer new s)
+      (topo_right objects rows agrees m by tips ends some (down_there (Commits (Topo m by) shown tips ends) have) (read m by tips ends) old name option rest named chosen shown place chooses answer new s)
   right_of_words words (Files shown tree) w have answer new s = files_right words shown tree w answer new s
   right_of_words words (Ahead one other) w have answer new s = ahead_right words one other w answer new s
   right_of_words words (Contained tip ids) w have answer new s = contained_right words tip ids w answer new s

@@ -1,6 +1,6 @@
 -- What a run of `topo` or `date` over records has written is right in each history that has what was read, where what was read are commits.
 use Rattle.std.proofs.Common.{◌⊎◌, ⊎_elim, ◌≡◌, ◌≢◌, ℕ, suc, List, [], ◌∷◌, ◌++◌, length, drop, Option, Some, None, Ok, All, refl, sym, ap, subst, inl, inr, ◌∙◌, Bool, true, false, Result, Err, arith, append-nil, take-append-drop}
-use Rattle.gix_commands.proofs.Common.{Appends, Contains-get_or, Contains-append_left, ObjectId, Info, Topo, Commits, IsBuiltFrom, text_next, time_of, IsAgreeing, GraphRow, Objects, objects_of, IsCommitRead, IsReached, plan_from, walked_down, not_built, unserved, Shown, kept_in, page_choice, false≢true, Fault, Yields, EndsBy, Ends, before, enough, cut_short, finished}
+use Rattle.gix_commands.proofs.Common.{Appends, Contains-get_or, Contains-append_left, ObjectId, Info, Parents, Topo, Commits, IsBuiltFrom, text_next, time_of, IsAgreeing, GraphRow, Objects, objects_of, IsCommitRead, IsReached, plan_from, walked_down, not_built, unserved, Shown, kept_in, page_choice, false≢true, Fault, Yields, EndsBy, Ends, before, enough, cut_short, finished}
 use Rattle.std.proofs.Math.ListN.{get_or}
 use Rattle.gix_topo.specs.declared.Sorting.{Sorting}
 use Rattle.gix_statement.proofs.InEach.{down_each}
@@ -18,30 +18,30 @@ use Rattle.gix_commands.proofs.OrderNames.{down_name, is_order}
 use Rattle.gix_commands.proofs.Turns.{Lists}
 use Rattle.gix_commands.proofs.Right.{IsRight, begun_right, cut_right}
 use Rattle.gix_commands.proofs.WrittenBytes.{allows_all, allows_fewer, allows_least, begun_bytes, ended_bytes, no_more}
-use Rattle.gix_commands.proofs.SameLists.{listed_down}
+use Rattle.gix_commands.proofs.SameLists.{is_followed_down, listed_down}
 use Rattle.gix_commands.proofs.SameOrders.{reaches_back}
-use Rattle.gix_commands.proofs.SameWords.{IsNameOf}
+use Rattle.gix_commands.proofs.SameWords.{IsNameOf, IsOptionOf}
 use Rattle.gix_commands.proofs.TopoBegins.{first_given_down}
 use Rattle.gix_commands.proofs.TopoRuns.{listed_read}
-use Rattle.gix_commands.proofs.ListedCommits.{ListsDown}
+use Rattle.gix_commands.proofs.ListedCommits.{ListsDown, followed_down}
 
-module _ (objects : Objects) (rows : List GraphRow) (agrees : IsAgreeing objects rows) (by : Sorting) (tips ends : List ObjectId) (some : tips ≢ []) (read_is : (i : ObjectId) → IsCommitRead objects i → IsThere (page_objects objects) [] i)
-    (was_read : (walk : Walk) → IsBuiltFrom objects rows by tips ends (Ok walk) → (i : ObjectId) → IsReached objects_of (plan_from objects rows by tips ends) i → IsCommitRead objects i) where
+module _ (objects : Objects) (rows : List GraphRow) (agrees : IsAgreeing objects rows) (m : Parents) (by : Sorting) (tips ends : List ObjectId) (some : tips ≢ []) (read_is : (i : ObjectId) → IsCommitRead objects i → IsThere (page_objects objects) [] i)
+    (was_read : (walk : Walk) → IsBuiltFrom objects rows m by tips ends (Ok walk) → (i : ObjectId) → IsReached objects_of (plan_from objects rows m by tips ends) i → IsCommitRead objects i) where
   abbrev IsList : List ObjectId → Type 0
-  IsList = ListsDown objects (text_next objects) by tips ends
+  IsList = ListsDown objects (text_next objects) (followed_down objects m) by tips ends
 
-  module _ (walk : Walk) (built : IsBuiltFrom objects rows by tips ends (Ok walk)) where
+  module _ (walk : Walk) (built : IsBuiltFrom objects rows m by tips ends (Ok walk)) where
     -- all that tips and ends reach was read
-    read_there : (i : ObjectId) → IsReached objects_of (plan_from objects rows by tips ends) i → IsThere (page_objects objects) [] i
+    read_there : (i : ObjectId) → IsReached objects_of (plan_from objects rows m by tips ends) i → IsThere (page_objects objects) [] i
     read_there i r = read_is i (was_read walk built i r)
 
-    module _ (name : List ℕ) (option words : List (List ℕ)) (named : IsNameOf name (Topo by)) (unchosen : option ≡ [])
+    module _ (name : List ℕ) (option words : List (List ℕ)) (named : IsNameOf name (Topo m by)) (picked : IsOptionOf option (Topo m by))
         (shown : Shown) (place : ℕ) (chooses : Chooses tips ends place words (page_choice shown)) where
       abbrev asked : List (List ℕ)
       asked = name ∷ (option ++ words)
 
       abbrev ListsSo : List ObjectId → Type 0
-      ListsSo = Lists (text_next objects) (text_next objects) (time_of objects) tips ends name
+      ListsSo = Lists (text_next objects) (followed_down objects m) (time_of objects) tips ends name
 
       abbrev kept : List ObjectId → List ObjectId
       kept ids = chosen (text_next objects) (time_of objects) (page_choice shown) ids
@@ -57,20 +57,20 @@ module _ (objects : Objects) (rows : List GraphRow) (agrees : IsAgreeing objects
       down_so : (ended : Bool) → (ended ≡ true) ⊎ (page_form shown.form ≡ page.Lines) → (ids more : List ObjectId) → IsList (ids ++ more) → Allows shown.limit (length (kept ids)) → ((ended ≡ true) × Allows shown.limit (suc (length (kept ids))) → more ≡ [])
           → AreListed ended ids
       down_so ended may ids more l allows all =
-          let those : ListsSo (ids ++ more) = listed_down objects (text_next objects) name by named tips ends (ids ++ more) l in
+          let those : ListsSo (ids ++ more) = listed_down objects (text_next objects) m name by named (followed_down objects m) tips ends (ids ++ more) l in
           let there : All (IsThere (page_objects objects) []) ids =
-          (λ k d few. let i = get_or ids k d in read_there i (inl (l.shown i (Contains-append_left ids more i (Contains-get_or ids k d few))).0)) in (
+          (λ k d few. let i = get_or ids k d in read_there i (inl (l.shown i (Contains-append_left ids more i (Contains-get_or ids k d few))).reached)) in (
             there,
-            down_each (page_objects objects) [] (text_next objects) (time_of objects) (fed_history objects) None None name option words (page_choice shown) place tips ends ids (is_order name (Topo by) named) chooses some there allows ended may (bytes_of ids) refl tt (down_name name by named) unchosen
-                (begins_so (text_next objects) (text_next objects) (time_of objects) tips ends name (ids ++ more) those ids more refl)
-                (λ one_more. let same : ids ++ more ≡ ids = ap (λ xs. ids ++ xs) (all one_more) ∙ append-nil ids in whole_so (text_next objects) (text_next objects) (time_of objects) tips ends name ids (subst ListsSo same those))
-                (λ i r. read_there i (inl (reaches_back (text_next objects) tips i r))) (λ i r. read_there i (inr (reaches_back (text_next objects) ends i r))),
+            down_each (page_objects objects) [] (text_next objects) (time_of objects) (fed_history objects) None None name option words (page_choice shown) place tips ends ids (is_order name (Topo m by) named) chooses some there allows ended may (bytes_of ids) refl tt (down_name name m by named) (is_followed_down objects (text_next objects) m name by named option tips picked)
+                (begins_so (text_next objects) (followed_down objects m) (time_of objects) tips ends name (ids ++ more) those ids more refl)
+                (λ one_more. let same : ids ++ more ≡ ids = ap (λ xs. ids ++ xs) (all one_more) ∙ append-nil ids in whole_so (text_next objects) (followed_down objects m) (time_of objects) tips ends name ids (subst ListsSo same those))
+                (λ i r. read_there i (inl (reaches_back (followed_down objects m) tips i r))) (λ i r. read_there i (inr (reaches_back (text_next objects) ends i r))),
           )
 
       -- a walk that ended
       whole_run : (infos : List Info) → Ends Answers IsWalkFault walk infos (Ok tt) → Allows shown.limit (length (kept_in objects shown infos)) → AreListed true (ids_in infos)
       whole_run infos drawn allows =
-          let l = listed_read objects rows agrees by tips ends walk built infos drawn in
+          let l = listed_read objects rows agrees m by tips ends walk built infos drawn in
           down_so true (inl refl) (ids_in infos) [] (subst IsList (sym (append-nil (ids_in infos))) l) allows (λ one_more. refl)
 
       -- a walk that was drawn so far
@@ -78,7 +78,7 @@ module _ (objects : Objects) (rows : List GraphRow) (agrees : IsAgreeing objects
           → ((ended ≡ true) × Allows shown.limit (suc (length (kept_in objects shown infos))) → ⊥) → AreListed ended (ids_in infos)
       first_run ended may infos last drawn allows none =
           let ids : List ObjectId = ids_in infos in
-          let f = first_given_down objects rows agrees by tips ends walk built infos last drawn in
+          let f = first_given_down objects rows agrees m by tips ends walk built infos last drawn in
           let more : List ObjectId = drop (length ids) f.0 in
           down_so ended may ids more (subst IsList (sym (take-append-drop (length ids) f.0) ∙ ap (λ xs. xs ++ more) f.2) f.1) allows (λ one_more. absurd (none one_more))
 
@@ -117,15 +117,15 @@ module _ (objects : Objects) (rows : List GraphRow) (agrees : IsAgreeing objects
         stopped_run lines infos e (Some n) is (before drawn less) written = failed_run lines infos drawn (λ s. cc) (subst (λ l. AsksForMore l (length (kept_in objects shown infos))) (sym is) less) written
 
   -- whatever a run of it answers, what it wrote is right
-  module _ (old : Option (List ℕ)) (name : List ℕ) (option words : List (List ℕ)) (named : IsNameOf name (Topo by)) (unchosen : option ≡ [])
+  module _ (old : Option (List ℕ)) (name : List ℕ) (option words : List (List ℕ)) (named : IsNameOf name (Topo m by)) (picked : IsOptionOf option (Topo m by))
       (shown : Shown) (place : ℕ) (chooses : Chooses tips ends place words (page_choice shown)) where
-    pub topo_right : (answer : Result (Unit {0}) Fault) (new : Option (List ℕ)) → Serves objects rows old (Commits (Topo by) shown tips ends) answer new → IsRight (page_objects objects) (name ∷ (option ++ words)) old answer new
+    pub topo_right : (answer : Result (Unit {0}) Fault) (new : Option (List ℕ)) → Serves objects rows old (Commits (Topo m by) shown tips ends) answer new → IsRight (page_objects objects) (name ∷ (option ++ words)) old answer new
     topo_right (Ok tt) new (walked_down walk infos built drawn written) =
-        written_so walk built name option words named unchosen shown place chooses old new true infos (ended_so walk built name option words named unchosen shown place chooses shown.limit refl infos drawn)
+        written_so walk built name option words named picked shown place chooses old new true infos (ended_so walk built name option words named picked shown place chooses shown.limit refl infos drawn)
         (ended_bytes (line_in objects shown) shown.form (kept_in objects shown infos) old new written)
     topo_right (Err e) new (walked_down walk infos built drawn written) = ⊎_elim
         (λ same. inl same)
-        (λ lines. begun_right (page_objects objects) (name ∷ (option ++ words)) old e new (stopped_run walk built name option words named unchosen shown place chooses old new lines.0 infos e shown.limit refl drawn lines.1))
+        (λ lines. begun_right (page_objects objects) (name ∷ (option ++ words)) old e new (stopped_run walk built name option words named picked shown place chooses old new lines.0 infos e shown.limit refl drawn lines.1))
         (begun_bytes (line_in objects shown) shown.form e (kept_in objects shown infos) old new written)
     topo_right (Err e) new (not_built why h) = inl refl
     topo_right (Err e) new unserved = inl refl

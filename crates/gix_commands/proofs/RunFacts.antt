@@ -75,7 +75,7 @@ serves_sound {objects} agreeing (walked {shown = shown} walk infos s ends whole 
 serves_sound {objects} {rows} agreeing (run.lost walk at infos {why = why} by s h more l a) = λ same. lost_sound objects rows l.last.parent_ids.items why l.lacks (err_same same)
 serves_sound agreeing (not_walked why f) = λ same. start_sound f (err_same same)
 serves_sound {objects} agreeing (walked_down {shown = shown} walk infos built ends a) = topo_by_sound (kept_in objects shown) shown.limit walk infos (built_agreeing built agreeing) ends
-serves_sound {objects} {rows} agreeing (not_built {by = by} {tips = tips} {ends = ends} why h) = λ same. build_sound objects rows agreeing by tips ends why h (err_same same)
+serves_sound {objects} {rows} agreeing (not_built {parents = m} {by = by} {tips = tips} {ends = ends} why h) = λ same. build_sound objects rows agreeing m by tips ends why h (err_same same)
 serves_sound agreeing (listed recorder r n a) = λ e. cc
 serves_sound {objects} agreeing (not_listed recorder why r) = λ same. tree_sound objects r (err_same same)
 serves_sound agreeing (misnamed recorder r f) = λ e. cc
@@ -169,19 +169,19 @@ module _ (objects : Objects) (rows : List GraphRow) (old : Option (List ℕ)) (m
   pub serves_no_walk : (result : Result (Unit {0}) Fault) (e : Fault) → result ≡ Err e → IsStartFault objects by tips e → Serves objects rows old (Commits (Simple m by) shown tips hidden) result old
   serves_no_walk result e same h = failed_so (λ r. Serves objects rows old (Commits (Simple m by) shown tips hidden) r old) unserved result e same (λ other. not_started e (h other))
 
-module _ (objects : Objects) (rows : List GraphRow) (old : Option (List ℕ)) (by : TopoSorting) (shown : Shown) (tips ends : List ObjectId) where
-  pub serves_topo : (new : Option (List ℕ)) (walk : topo.Walk) (chooser : Choosing) → chooser ≡ fresh_choosing objects shown → topo.IsBuiltFrom objects rows by tips ends (Ok walk) → (result : Result (Unit {0}) Fault)
-      → WritesBegun topo.Answers topo.IsWalkFault (kept_in chooser.objects chooser.shown) chooser.shown.limit (line_in chooser.objects chooser.shown) chooser.shown.form walk old result new → Serves objects rows old (Commits (Topo by) shown tips ends) result new
+module _ (objects : Objects) (rows : List GraphRow) (old : Option (List ℕ)) (m : Parents) (by : TopoSorting) (shown : Shown) (tips ends : List ObjectId) where
+  pub serves_topo : (new : Option (List ℕ)) (walk : topo.Walk) (chooser : Choosing) → chooser ≡ fresh_choosing objects shown → topo.IsBuiltFrom objects rows m by tips ends (Ok walk) → (result : Result (Unit {0}) Fault)
+      → WritesBegun topo.Answers topo.IsWalkFault (kept_in chooser.objects chooser.shown) chooser.shown.limit (line_in chooser.objects chooser.shown) chooser.shown.form walk old result new → Serves objects rows old (Commits (Topo m by) shown tips ends) result new
   serves_topo new walk chooser fresh built result w =
-      serves_drawn objects rows old (Topo by) shown tips ends topo.Answers topo.IsWalkFault walk (λ _ _ w. walked_down walk w.infos built w.ends w.writes)
-      (by_chooser objects rows old (Topo by) shown tips ends topo.Answers topo.IsWalkFault walk chooser fresh w)
+      serves_drawn objects rows old (Topo m by) shown tips ends topo.Answers topo.IsWalkFault walk (λ _ _ w. walked_down walk w.infos built w.ends w.writes)
+      (by_chooser objects rows old (Topo m by) shown tips ends topo.Answers topo.IsWalkFault walk chooser fresh w)
 
-  topo_not_built : (e : Fault) → (why : TopoError) × topo.IsBuiltFrom objects rows by tips ends (Err why) × (e ≡ fault_of_topo_walk why) → Serves objects rows old (Commits (Topo by) shown tips ends) (Err e) old
-  topo_not_built e h = subst (λ (f : Fault). Serves objects rows old (Commits (Topo by) shown tips ends) (Err f) old) (sym h.2) (not_built h.0 h.1)
+  topo_not_built : (e : Fault) → (why : TopoError) × topo.IsBuiltFrom objects rows m by tips ends (Err why) × (e ≡ fault_of_topo_walk why) → Serves objects rows old (Commits (Topo m by) shown tips ends) (Err e) old
+  topo_not_built e h = subst (λ (f : Fault). Serves objects rows old (Commits (Topo m by) shown tips ends) (Err f) old) (sym h.2) (not_built h.0 h.1)
 
   -- the walk couldn't be built
-  pub serves_no_topo : (result : Result (Unit {0}) Fault) (e : Fault) → result ≡ Err e → topo.IsStartFault objects rows by tips ends e → Serves objects rows old (Commits (Topo by) shown tips ends) result old
-  serves_no_topo result e same h = failed_so (λ r. Serves objects rows old (Commits (Topo by) shown tips ends) r old) unserved result e same (λ other. topo_not_built e (h other))
+  pub serves_no_topo : (result : Result (Unit {0}) Fault) (e : Fault) → result ≡ Err e → topo.IsStartFault objects rows m by tips ends e → Serves objects rows old (Commits (Topo m by) shown tips ends) result old
+  serves_no_topo result e same h = failed_so (λ r. Serves objects rows old (Commits (Topo m by) shown tips ends) r old) unserved result e same (λ other. topo_not_built e (h other))
 
 -- words that are a command aren't rejected
 pub no_rejection : {command : Result Request Fault} {request : Request} {A : Type 0} → command ≡ Ok request → (e : Fault) → command ≡ Err e → A

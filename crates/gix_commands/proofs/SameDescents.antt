@@ -135,40 +135,40 @@ module _ (P Q : ObjectId → Type 0) (to : (i : ObjectId) → P i → Q i) (from
       go true known more k = passed (λ q. q.1 (among_is i ids known)) (more those k)
       go false new more k = take_it new those more k
 
-module _ (parents : ObjectId → List ObjectId) (time : ObjectId → ℤ) (tips hidden : List ObjectId) where
+module _ (parents followed : ObjectId → List ObjectId) (time : ObjectId → ℤ) (tips hidden : List ObjectId) where
   abbrev In : ObjectId → Type 0
-  In = IsInWalk parents parents tips hidden
+  In = IsInWalk followed parents tips hidden
 
-  pub shown : (i : ObjectId) → In i → IsShown parents parents time tips hidden i
-  shown i m = (reaches parents tips i m.reached, λ r. m.outside (reaches_back parents hidden i r))
+  pub shown : (i : ObjectId) → In i → IsShown parents followed time tips hidden i
+  shown i m = (reaches followed tips i m.reached, λ r. m.outside (reaches_back parents hidden i r))
 
-  pub shown_back : (i : ObjectId) → IsShown parents parents time tips hidden i → In i
-  shown_back i s = record { reached = reaches_back parents tips i s.0; outside = λ r. s.1 (reaches parents hidden i r) }
+  pub shown_back : (i : ObjectId) → IsShown parents followed time tips hidden i → In i
+  shown_back i s = record { reached = reaches_back followed tips i s.0; outside = λ r. s.1 (reaches parents hidden i r) }
 
-  ready : (taken : List ObjectId) (i : ObjectId) → walk.IsReady parents In (Contains taken) i → IsReady parents parents time tips hidden taken i
+  ready : (taken : List ObjectId) (i : ObjectId) → walk.IsReady followed In (Contains taken) i → IsReady parents followed time tips hidden taken i
   ready taken i r = (shown i r.member, r.left, λ child s n. r.children child (record { child = shown_back child s; parent = r.member; named = n }))
 
-  ready_back : (taken : List ObjectId) (i : ObjectId) → IsReady parents parents time tips hidden taken i → walk.IsReady parents In (Contains taken) i
+  ready_back : (taken : List ObjectId) (i : ObjectId) → IsReady parents followed time tips hidden taken i → walk.IsReady followed In (Contains taken) i
   ready_back taken i p = record { member = shown_back i p.0; left = p.1; children = λ d c. p.2 d (shown d c.child) c.named }
 
-  childless : (i : ObjectId) → walk.IsChildless parents In i → IsReady parents parents time tips hidden [] i
+  childless : (i : ObjectId) → walk.IsChildless followed In i → IsReady parents followed time tips hidden [] i
   childless i c = (shown i c.member, λ m. no_member i m, λ child s n. absurd (c.alone child (record { child = shown_back child s; parent = c.member; named = n })))
 
-  childless_back : (i : ObjectId) → IsReady parents parents time tips hidden [] i → walk.IsChildless parents In i
+  childless_back : (i : ObjectId) → IsReady parents followed time tips hidden [] i → walk.IsChildless followed In i
   childless_back i p = record { member = shown_back i p.0; alone = λ d c. no_member d (p.2 d (shown d c.child) c.named) }
 
-  by_time_same : (ids : List ObjectId) → topo.by_time time ids ≡ by_time parents parents time tips hidden ids
+  by_time_same : (ids : List ObjectId) → topo.by_time time ids ≡ by_time parents followed time tips hidden ids
   by_time_same [] = refl
   by_time_same (i ∷ ids) = insert_parts time i (topo.by_time time ids) (rises_by_time time ids) ∙ ap (λ xs. filter (λ j. not (int_le (time i) (time j))) xs ++ i ∷ filter (λ j. int_le (time i) (time j)) xs) (by_time_same ids)
 
-  are_made_ready : (taken made : List ObjectId) → topo.IsMadeReady time parents In tips taken made → AreMadeReady parents parents time tips hidden taken made
-  are_made_ready [] made h = (h.0, keeps_first (walk.IsChildless parents In) (IsReady parents parents time tips hidden []) childless childless_back tips [] [] h.0 (λ j. (λ a. among_is j [] a, λ c. absurd (no_member j c))) h.1, h.2 ∙ by_time_same h.0)
+  are_made_ready : (taken made : List ObjectId) → topo.IsMadeReady time followed In tips taken made → AreMadeReady parents followed time tips hidden taken made
+  are_made_ready [] made h = (h.0, keeps_first (walk.IsChildless followed In) (IsReady parents followed time tips hidden []) childless childless_back tips [] [] h.0 (λ j. (λ a. among_is j [] a, λ c. absurd (no_member j c))) h.1, h.2 ∙ by_time_same h.0)
   are_made_ready (c ∷ taken) made h = (
     h.0,
     h.1,
     are_made_ready taken h.0 h.2,
     h.4,
-    keeps_last (walk.IsReady parents In (Contains (c ∷ taken))) (IsReady parents parents time tips hidden (c ∷ taken)) (ready (c ∷ taken)) (ready_back (c ∷ taken)) (parents c) [] h.1 h.3,
+    keeps_last (walk.IsReady followed In (Contains (c ∷ taken))) (IsReady parents followed time tips hidden (c ∷ taken)) (ready (c ∷ taken)) (ready_back (c ∷ taken)) (followed c) [] h.1 h.3,
   )
 
   -- of the ready ones the first of greatest time
@@ -176,25 +176,25 @@ module _ (parents : ObjectId → List ObjectId) (time : ObjectId → ℤ) (tips 
   AsLate i other = time other ≤ℤ time i
 
   abbrev FollowsByDate : List ObjectId → List ObjectId → Type 0
-  FollowsByDate taken rest = (made : List ObjectId) × AreMadeReady parents parents time tips hidden (reverse taken) made × IsFirstBest AsLate (IsReady parents parents time tips hidden taken) made rest
+  FollowsByDate taken rest = (made : List ObjectId) × AreMadeReady parents followed time tips hidden (reverse taken) made × IsFirstBest AsLate (IsReady parents followed time tips hidden taken) made rest
 
-  best : (taken made rest : List ObjectId) → MatchOption (slice_get rest 0) ((i : ObjectId) → walk.IsReady parents In (Contains taken) i → ⊥) (times.IsFirstBest NewestFirst time (walk.IsReady parents In (Contains taken)) made taken)
-      → IsFirstBest AsLate (IsReady parents parents time tips hidden taken) made rest
+  best : (taken made rest : List ObjectId) → MatchOption (slice_get rest 0) ((i : ObjectId) → walk.IsReady followed In (Contains taken) i → ⊥) (times.IsFirstBest NewestFirst time (walk.IsReady followed In (Contains taken)) made taken)
+      → IsFirstBest AsLate (IsReady parents followed time tips hidden taken) made rest
   best taken made [] h = (λ i p. h i (ready_back taken i p))
   best taken made (i ∷ rest) h =
-      found_first (λ j. not (is_among j taken) && times.is_no_worse NewestFirst (time j) (time i)) (IsBest AsLate (IsReady parents parents time tips hidden taken)) made i rest h.first
+      found_first (λ j. not (is_among j taken) && times.is_no_worse NewestFirst (time j) (time i)) (IsBest AsLate (IsReady parents followed time tips hidden taken)) made i rest h.first
       (λ j b. ap (λ x. x && times.is_no_worse NewestFirst (time j) (time i)) (not_taken j taken b.0.1) ∙ no_worse_test NewestFirst (time j) (time i) (b.1 i (ready taken i h.best.among)))
       (ready taken i h.best.among, λ other p. h.best.best other (ready_back taken other p))
 
-  pub in_date_order : (ids : List ObjectId) → IsDateOrder time parents In tips ids → Throughout FollowsByDate ids
+  pub in_date_order : (ids : List ObjectId) → IsDateOrder time followed In tips ids → Throughout FollowsByDate ids
   in_date_order ids h taken rest e =
-      let at = cut (λ before o. (made : List ObjectId) × topo.IsMadeReady time parents In tips (reverse before) made × MatchOption o ((i : ObjectId) → walk.IsReady parents In (Contains before) i → ⊥) (times.IsFirstBest NewestFirst time (walk.IsReady parents In (Contains before)) made before))
+      let at = cut (λ before o. (made : List ObjectId) × topo.IsMadeReady time followed In tips (reverse before) made × MatchOption o ((i : ObjectId) → walk.IsReady followed In (Contains before) i → ⊥) (times.IsFirstBest NewestFirst time (walk.IsReady followed In (Contains before)) made before))
       ids h taken rest e in
       (at.0, are_made_ready (reverse taken) at.0 at.1, best taken at.0 rest at.2)
 
-  pub in_topo_order : (ids : List ObjectId) → topo.IsTopoOrder time parents In tips ids → Throughout (λ taken rest. (made : List ObjectId) × AreMadeReady parents parents time tips hidden (reverse taken) made × IsFirst (λ i. Contains taken i → ⊥) (reverse made) rest) ids
+  pub in_topo_order : (ids : List ObjectId) → topo.IsTopoOrder time followed In tips ids → Throughout (λ taken rest. (made : List ObjectId) × AreMadeReady parents followed time tips hidden (reverse taken) made × IsFirst (λ i. Contains taken i → ⊥) (reverse made) rest) ids
   in_topo_order ids h taken rest e =
-      let at = cut (λ before o. (made : List ObjectId) × topo.IsMadeReady time parents In tips (reverse before) made × (o ≡ first_new (reverse made) before)) ids h taken rest e in (
+      let at = cut (λ before o. (made : List ObjectId) × topo.IsMadeReady time followed In tips (reverse before) made × (o ≡ first_new (reverse made) before)) ids h taken rest e in (
         at.0,
         are_made_ready (reverse taken) at.0 at.1,
         is_first (λ i. not (is_among i taken)) (λ i. Contains taken i → ⊥) (reverse at.0) (λ i m out c. false≢true (sym (not_true (is_among i taken) out) ∙ among_from i taken c)) (λ i f p. p (among_is i taken (not_false (is_among i taken) f))) rest at.2,

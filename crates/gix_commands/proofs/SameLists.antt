@@ -27,9 +27,9 @@ use Rattle.gix_commands.proofs.ListedCommits.{IsListedBy, IsShownBy, ListsBy, Li
 abbrev IsTopological : List ℕ → Type 0
 IsTopological name = Contains (codes "topo" ∷ codes "date" ∷ []) name
 
-is_topological : (name : List ℕ) (by : TopoSorting) → IsNameOf name (Topo by) → IsTopological name
-is_topological name topo.TopoOrder e = subst IsTopological (sym e) (0, omega arith, refl)
-is_topological name topo.DateOrder e = subst IsTopological (sym e) (1, omega arith, refl)
+is_topological : (name : List ℕ) (m : Parents) (by : TopoSorting) → IsNameOf name (Topo m by) → IsTopological name
+is_topological name m topo.TopoOrder e = subst IsTopological (sym e) (0, omega arith, refl)
+is_topological name m topo.DateOrder e = subst IsTopological (sym e) (1, omega arith, refl)
 
 -- the name of an order by time, or of breadth order
 abbrev pub IsNameIn : List ℕ → Option CommitTimeOrder → Type 0
@@ -87,7 +87,7 @@ module _ (objects : Objects) (parents : ObjectId → List ObjectId) where
   is_followed name option tips mode.First sorting.BreadthFirst named chosen =
       transport (λ k. IsFollowed (sym named k) option tips mode.First sorting.BreadthFirst)
       (plain mode.First sorting.BreadthFirst refl (codes "breadth") option (codes "--first-parent" ∷ []) tips chosen
-      (subst (λ next. Follows parents time tips (codes "breadth") (codes "--first-parent" ∷ []) next tips) (λ k c. first_is (parents c) k) (page.first refl)))
+      (subst (λ next. Follows parents time tips (codes "breadth") (codes "--first-parent" ∷ []) next tips) (λ k c. first_is (parents c) k) (page.first (0, omega arith, refl))))
   is_followed name option tips mode.All (sorting.ByCommitTime by) named chosen = plain mode.All (sorting.ByCommitTime by) refl name option [] tips chosen page.all
   is_followed name option tips mode.All (sorting.ByCommitTimeCutoff order.NewestFirst seconds) named chosen = since name option tips order.NewestFirst seconds (0, omega arith, sym named) chosen
   is_followed name option tips mode.All (sorting.ByCommitTimeCutoff order.OldestFirst seconds) named chosen = since name option tips order.OldestFirst seconds (1, omega arith, sym named) chosen
@@ -105,17 +105,35 @@ module _ (objects : Objects) (parents : ObjectId → List ObjectId) where
   is_name_in name option mode.First (sorting.ByCommitTime by) named chosen = absurd chosen
   is_name_in name option mode.First (sorting.ByCommitTimeCutoff by seconds) named chosen = absurd chosen
 
-  in_order_down : (name : List ℕ) (by : TopoSorting) → IsNameOf name (Topo by) → (tips ends ids : List ObjectId) → IsSorted by time parents (IsInWalk parents parents tips ends) tips ids → IsInOrder parents tips ends ids name
-  in_order_down name topo.DateOrder e tips ends ids l = subst (IsInOrder parents tips ends ids) (sym e) (λ taken rest c. let t = in_date_order parents time tips ends ids l taken rest c in turns.date t.0 t.1 t.2)
-  in_order_down name topo.TopoOrder e tips ends ids l = subst (IsInOrder parents tips ends ids) (sym e) (λ taken rest c. let t = in_topo_order parents time tips ends ids l taken rest c in turns.topo t.0 t.1 t.2)
+  -- `topo` and `date`, through what is walked
+  module _ (m : Parents) (name : List ℕ) (by : TopoSorting) (named : IsNameOf name (Topo m by)) where
+    in_order_down : (walked : ObjectId → List ObjectId) (tips ends ids : List ObjectId) → IsSorted by time walked (IsInWalk walked parents tips ends) tips ids → IsInOrder walked tips ends ids name
+    in_order_down walked tips ends ids l = go by named l
+      where
+        go : (by : TopoSorting) → IsNameOf name (Topo m by) → IsSorted by time walked (IsInWalk walked parents tips ends) tips ids → IsInOrder walked tips ends ids name
+        go topo.DateOrder e l = subst (IsInOrder walked tips ends ids) (sym e) (λ taken rest c. let t = in_date_order parents walked time tips ends ids l taken rest c in turns.date t.0 t.1 t.2)
+        go topo.TopoOrder e l = subst (IsInOrder walked tips ends ids) (sym e) (λ taken rest c. let t = in_topo_order parents walked time tips ends ids l taken rest c in turns.topo t.0 t.1 t.2)
 
-  pub listed_down : (name : List ℕ) (by : TopoSorting) → IsNameOf name (Topo by) → (tips ends ids : List ObjectId) → ListsDown objects parents by tips ends ids → turns.Lists parents parents time tips ends name ids
-  listed_down name by named tips ends ids l = (
-    are_distinct ids l.once,
-    λ i m. let s = l.shown i m in shown parents tips ends i (record { reached = s.0; outside = s.1 }),
-    in_order_down name by named tips ends ids l.in_order,
-    λ acyclic i s. l.all (λ j m r. acyclic (is_topological name by named) j (shown parents tips ends j (record { reached = m.0; outside = m.1 })) (reaches parents (parents j) j r)) i (let k = shown_back parents tips ends i s in (k.reached, k.outside)),
-  )
+    pub listed_down : (walked : ObjectId → List ObjectId) (tips ends ids : List ObjectId) → ListsDown objects parents walked by tips ends ids → turns.Lists parents walked time tips ends name ids
+    listed_down walked tips ends ids l = (
+      are_distinct ids l.once,
+      λ i c. shown walked tips ends i (l.shown i c),
+      in_order_down walked tips ends ids l.in_order,
+      λ acyclic i s. l.all (λ j w r. acyclic (is_topological name m by named) j (shown walked tips ends j w) (reaches walked (walked j) j r)) i (shown_back walked tips ends i s),
+    )
+
+    pub is_followed_down : (option : List (List ℕ)) (tips : List ObjectId) → IsOptionOf option (Topo m by) → Follows parents time tips name option (λ c. by_mode m (parents c)) tips
+    is_followed_down option tips chosen = go m by named chosen
+      where
+        broad : (k : Parents) (by : TopoSorting) → IsNameOf name (Topo k by) → Contains (codes "breadth" ∷ codes "topo" ∷ codes "date" ∷ []) name
+        broad k topo.TopoOrder e = (1, omega arith, sym e)
+        broad k topo.DateOrder e = (2, omega arith, sym e)
+
+        go : (k : Parents) (by : TopoSorting) → IsNameOf name (Topo k by) → IsOptionOf option (Topo k by) → Follows parents time tips name option (λ c. by_mode k (parents c)) tips
+        go mode.All by named chosen = subst (λ o. Follows parents time tips name o parents tips) (sym chosen) page.all
+        go mode.First by named chosen =
+            subst (λ o. Follows parents time tips name o (λ c. by_mode mode.First (parents c)) tips) (sym chosen)
+            (subst (λ next. Follows parents time tips name (codes "--first-parent" ∷ []) next tips) (λ k c. first_is (parents c) k) (page.first (broad mode.First by named)))
 
   pub number_shown : (tip hidden : ObjectId) (n : ℕ) → IsNumberOf (IsShownBy parents (tip ∷ []) (hidden ∷ [])) n → IsNumberShown parents parents time (tip ∷ []) (hidden ∷ []) n
   number_shown tip hidden n c = (

@@ -26,8 +26,8 @@ IsNameOf name (Simple m (sorting.ByCommitTime order.NewestFirst)) = name ≡ cod
 IsNameOf name (Simple m (sorting.ByCommitTime order.OldestFirst)) = name ≡ codes "oldest"
 IsNameOf name (Simple m (sorting.ByCommitTimeCutoff order.NewestFirst seconds)) = name ≡ codes "newest"
 IsNameOf name (Simple m (sorting.ByCommitTimeCutoff order.OldestFirst seconds)) = name ≡ codes "oldest"
-IsNameOf name (Topo topo.TopoOrder) = name ≡ codes "topo"
-IsNameOf name (Topo topo.DateOrder) = name ≡ codes "date"
+IsNameOf name (Topo m topo.TopoOrder) = name ≡ codes "topo"
+IsNameOf name (Topo m topo.DateOrder) = name ≡ codes "date"
 
 -- the words of a cutoff
 abbrev pub IsCutoff : List (List ℕ) → ℤ → Type 0
@@ -41,7 +41,8 @@ IsOptionOf option (Simple mode.All (sorting.ByCommitTime order)) = option ≡ []
 IsOptionOf option (Simple mode.All (sorting.ByCommitTimeCutoff order seconds)) = IsCutoff option seconds
 IsOptionOf option (Simple mode.First (sorting.ByCommitTime order)) = ⊥
 IsOptionOf option (Simple mode.First (sorting.ByCommitTimeCutoff order seconds)) = ⊥
-IsOptionOf option (Topo by) = option ≡ []
+IsOptionOf option (Topo mode.All by) = option ≡ []
+IsOptionOf option (Topo mode.First by) = option ≡ codes "--first-parent" ∷ []
 
 -- what is so of the order that a name and an option choose
 abbrev IsChosenWith : List ℕ → List (List ℕ) → Option Order → Type 0
@@ -55,7 +56,8 @@ first_chosen : (name : List ℕ) (by : Order) → IsNameOf name by → IsChosenW
 first_chosen name (Simple m sorting.BreadthFirst) named = (named, refl)
 first_chosen name (Simple m (sorting.ByCommitTime order)) named = tt
 first_chosen name (Simple m (sorting.ByCommitTimeCutoff order seconds)) named = tt
-first_chosen name (Topo by) named = tt
+first_chosen name (Topo m topo.TopoOrder) named = (named, refl)
+first_chosen name (Topo m topo.DateOrder) named = (named, refl)
 
 since_chosen : (name number : List ℕ) (n : ℕ) → IsNumber 10 10 number n → (by : Order) → IsNameOf name by → IsOptionOf [] by → IsChosenWith name (codes "--since" ∷ number ∷ []) (by_cutoff (pos n) by)
 since_chosen name number n is (Simple m sorting.BreadthFirst) named plain = tt
@@ -63,7 +65,7 @@ since_chosen name number n is (Simple mode.All (sorting.ByCommitTime order.Newes
 since_chosen name number n is (Simple mode.All (sorting.ByCommitTime order.OldestFirst)) named plain = (named, (number, n, is, refl, refl))
 since_chosen name number n is (Simple mode.First (sorting.ByCommitTime order)) named plain = absurd plain
 since_chosen name number n is (Simple m (sorting.ByCommitTimeCutoff order seconds)) named plain = tt
-since_chosen name number n is (Topo by) named plain = tt
+since_chosen name number n is (Topo m by) named plain = tt
 
 order_is : (name : List ℕ) → IsChosenBy name (order_named name)
 order_is name = first (bytes_eq name (codes "breadth")) refl
@@ -71,25 +73,25 @@ order_is name = first (bytes_eq name (codes "breadth")) refl
     is : (word : List ℕ) → bytes_eq name word ≡ true → name ≡ word
     is word e = (bytes_eq-Decides name word).0 e
 
-    fifth : (t : Bool) → bytes_eq name (codes "date") ≡ t → IsChosenBy name (cond t (Some (Topo topo.DateOrder)) None)
+    fifth : (t : Bool) → bytes_eq name (codes "date") ≡ t → IsChosenBy name (cond t (Some (Topo mode.All topo.DateOrder)) None)
     fifth true e = (is (codes "date") e, refl)
     fifth false e = tt
 
-    fourth : (t : Bool) → bytes_eq name (codes "topo") ≡ t → IsChosenBy name (cond t (Some (Topo topo.TopoOrder)) (cond (bytes_eq name (codes "date")) (Some (Topo topo.DateOrder)) None))
+    fourth : (t : Bool) → bytes_eq name (codes "topo") ≡ t → IsChosenBy name (cond t (Some (Topo mode.All topo.TopoOrder)) (cond (bytes_eq name (codes "date")) (Some (Topo mode.All topo.DateOrder)) None))
     fourth true e = (is (codes "topo") e, refl)
     fourth false e = fifth (bytes_eq name (codes "date")) refl
 
-    third : (t : Bool) → bytes_eq name (codes "oldest") ≡ t → IsChosenBy name (cond t (Some (Simple mode.All (sorting.ByCommitTime order.OldestFirst))) (cond (bytes_eq name (codes "topo")) (Some (Topo topo.TopoOrder)) (cond (bytes_eq name (codes "date")) (Some (Topo topo.DateOrder)) None)))
+    third : (t : Bool) → bytes_eq name (codes "oldest") ≡ t → IsChosenBy name (cond t (Some (Simple mode.All (sorting.ByCommitTime order.OldestFirst))) (cond (bytes_eq name (codes "topo")) (Some (Topo mode.All topo.TopoOrder)) (cond (bytes_eq name (codes "date")) (Some (Topo mode.All topo.DateOrder)) None)))
     third true e = (is (codes "oldest") e, refl)
     third false e = fourth (bytes_eq name (codes "topo")) refl
 
     second : (t : Bool) → bytes_eq name (codes "newest") ≡ t
-        → IsChosenBy name (cond t (Some (Simple mode.All (sorting.ByCommitTime order.NewestFirst))) (cond (bytes_eq name (codes "oldest")) (Some (Simple mode.All (sorting.ByCommitTime order.OldestFirst))) (cond (bytes_eq name (codes "topo")) (Some (Topo topo.TopoOrder)) (cond (bytes_eq name (codes "date")) (Some (Topo topo.DateOrder)) None))))
+        → IsChosenBy name (cond t (Some (Simple mode.All (sorting.ByCommitTime order.NewestFirst))) (cond (bytes_eq name (codes "oldest")) (Some (Simple mode.All (sorting.ByCommitTime order.OldestFirst))) (cond (bytes_eq name (codes "topo")) (Some (Topo mode.All topo.TopoOrder)) (cond (bytes_eq name (codes "date")) (Some (Topo mode.All topo.DateOrder)) None))))
     second true e = (is (codes "newest") e, refl)
     second false e = third (bytes_eq name (codes "oldest")) refl
 
     first : (t : Bool) → bytes_eq name (codes "breadth") ≡ t
-        → IsChosenBy name (cond t (Some (Simple mode.All sorting.BreadthFirst)) (cond (bytes_eq name (codes "newest")) (Some (Simple mode.All (sorting.ByCommitTime order.NewestFirst))) (cond (bytes_eq name (codes "oldest")) (Some (Simple mode.All (sorting.ByCommitTime order.OldestFirst))) (cond (bytes_eq name (codes "topo")) (Some (Topo topo.TopoOrder)) (cond (bytes_eq name (codes "date")) (Some (Topo topo.DateOrder)) None)))))
+        → IsChosenBy name (cond t (Some (Simple mode.All sorting.BreadthFirst)) (cond (bytes_eq name (codes "newest")) (Some (Simple mode.All (sorting.ByCommitTime order.NewestFirst))) (cond (bytes_eq name (codes "oldest")) (Some (Simple mode.All (sorting.ByCommitTime order.OldestFirst))) (cond (bytes_eq name (codes "topo")) (Some (Topo mode.All topo.TopoOrder)) (cond (bytes_eq name (codes "date")) (Some (Topo mode.All topo.DateOrder)) None)))))
     first true e = (is (codes "breadth") e, refl)
     first false e = second (bytes_eq name (codes "newest")) refl
 

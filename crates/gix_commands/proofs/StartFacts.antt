@@ -61,24 +61,27 @@ with_more_ends b ids = record b { plan = record b.plan { ends = b.plan.ends ++ i
 abbrev in_order : TopoSorting → Builder → Builder
 in_order by b = record b { plan = record b.plan { sorting = by } }
 
+abbrev through : Parents → Builder → Builder
+through m b = record b { plan = record b.plan { parents = m } }
+
 abbrev with_these : List GraphRow → Builder → Builder
 with_these rows b = record b { plan = record b.plan { rows = rows } }
 
-abbrev pub builder_from : Objects → List GraphRow → TopoSorting → List ObjectId → List ObjectId → Builder
-builder_from objects rows by tips ends = record { plan = topo.plan_from objects rows by tips ends; predicate = record {} }
+abbrev pub builder_from : Objects → List GraphRow → Parents → TopoSorting → List ObjectId → List ObjectId → Builder
+builder_from objects rows m by tips ends = record { plan = topo.plan_from objects rows m by tips ends; predicate = record {} }
 
 -- the calls that choose make this builder
-pub chosen : (objects : Objects) (rows : List GraphRow) (by : TopoSorting) (tips ends those others : List ObjectId) (fresh from_tips builder sorted given : Builder) (copy : List GraphRow)
+pub chosen : (objects : Objects) (rows : List GraphRow) (m : Parents) (by : TopoSorting) (tips ends those others : List ObjectId) (fresh from_tips builder walked sorted given : Builder) (copy : List GraphRow)
     → fresh ≡ fresh_builder objects (record {}) [] → from_tips ≡ record fresh { plan = record fresh.plan { tips = fresh.plan.tips ++ those } } → those ≡ tips
-    → builder ≡ record from_tips { plan = record from_tips.plan { ends = from_tips.plan.ends ++ others } } → others ≡ ends → sorted ≡ record builder { plan = record builder.plan { sorting = by } }
-    → given ≡ record sorted { plan = record sorted.plan { rows = copy } } → copy ≡ rows → given ≡ builder_from objects rows by tips ends
-chosen objects rows by tips ends those others fresh from_tips builder sorted given copy f t those_are e others_are s g same =
-    g ∙ ap (λ those. with_these those sorted) same ∙ ap (with_these rows) (s ∙ ap (in_order by) (e ∙ ap (with_more_ends from_tips) others_are ∙ ap (λ b. with_more_ends b ends) (t ∙ ap (with_more_tips fresh) those_are ∙ ap (λ b. with_more_tips b tips) f)))
+    → builder ≡ record from_tips { plan = record from_tips.plan { ends = from_tips.plan.ends ++ others } } → others ≡ ends → walked ≡ record builder { plan = record builder.plan { parents = m } } → sorted ≡ record walked { plan = record walked.plan { sorting = by } }
+    → given ≡ record sorted { plan = record sorted.plan { rows = copy } } → copy ≡ rows → given ≡ builder_from objects rows m by tips ends
+chosen objects rows m by tips ends those others fresh from_tips builder walked sorted given copy f t those_are e others_are w s g same =
+    g ∙ ap (λ those. with_these those sorted) same ∙ ap (with_these rows) (s ∙ ap (in_order by) (w ∙ ap (through m) (e ∙ ap (with_more_ends from_tips) others_are ∙ ap (λ b. with_more_ends b ends) (t ∙ ap (with_more_tips fresh) those_are ∙ ap (λ b. with_more_tips b tips) f))))
 
-module _ (objects : Objects) (rows : List GraphRow) (by : TopoSorting) (tips ends : List ObjectId) (builder : Builder) (same : builder ≡ builder_from objects rows by tips ends) where
-  pub built_from : (answer : Result topo.Walk TopoError) → Built objects_of never_faulty accepts_all builder answer → topo.IsBuiltFrom objects rows by tips ends answer
+module _ (objects : Objects) (rows : List GraphRow) (m : Parents) (by : TopoSorting) (tips ends : List ObjectId) (builder : Builder) (same : builder ≡ builder_from objects rows m by tips ends) where
+  pub built_from : (answer : Result topo.Walk TopoError) → Built objects_of never_faulty accepts_all builder answer → topo.IsBuiltFrom objects rows m by tips ends answer
   built_from answer h = subst (λ (b : Builder). Built objects_of never_faulty accepts_all b answer) same h
 
   -- the walk couldn't be built
-  pub build_failed : (why : TopoError) (result : Result topo.Walk Fault) (e : Fault) → result ≡ Err e → e ≡ fault_of_topo_walk why → Built objects_of never_faulty accepts_all builder (Err why) → IfErr result (topo.IsStartFault objects rows by tips ends)
-  build_failed why result e is fault h = subst (λ (r : Result topo.Walk Fault). IfErr r (topo.IsStartFault objects rows by tips ends)) (sym is) (λ other. (why, built_from (Err why) h, fault))
+  pub build_failed : (why : TopoError) (result : Result topo.Walk Fault) (e : Fault) → result ≡ Err e → e ≡ fault_of_topo_walk why → Built objects_of never_faulty accepts_all builder (Err why) → IfErr result (topo.IsStartFault objects rows m by tips ends)
+  build_failed why result e is fault h = subst (λ (r : Result topo.Walk Fault). IfErr r (topo.IsStartFault objects rows m by tips ends)) (sym is) (λ other. (why, built_from (Err why) h, fault))

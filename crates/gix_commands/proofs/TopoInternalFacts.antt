@@ -1,7 +1,7 @@
 -- A topological walk over records ends by no internal fault: its store doesn't fail, and with rows that agree, or agreeing, nothing that it
 -- counted is missing.
 use Rattle.std.proofs.Common.{◌≢◌, List, [], ◌∷◌, Option, Some, None, Result, Ok, Err, sym, subst}
-use Rattle.gix_commands.proofs.Common.{Yields, YieldsThen, ObjectId, Objects, GraphRow, Info, IsAgreeing, TopoPlan, IsFault, fault_of_topo_walk, plan_from, IsBuiltFrom, objects_of, never_faulty}
+use Rattle.gix_commands.proofs.Common.{Yields, YieldsThen, ObjectId, Objects, GraphRow, Info, Parents, IsAgreeing, TopoPlan, IsFault, fault_of_topo_walk, plan_from, IsBuiltFrom, objects_of, never_faulty}
 use Rattle.gix_object.specs.declared.Kind.TheVariants as object
 use Rattle.gix_topo.specs.declared.Error.{Error}
 use Rattle.gix_topo.specs.declared.Error.TheVariants as error
@@ -45,9 +45,9 @@ yields_agreeing walk new (answer ∷ list) agreeing h = yields_agreeing h.0 new 
 pub drawn_sound : (walk new : Walk) (list : List (Result Info Error)) (e : Error) → IsAgreeing walk.plan.store walk.plan.rows → YieldsThen Answers walk list (Some (Err e)) new → fault_of_topo_walk e ≢ fault.Internal
 drawn_sound walk new list e agreeing h = next_sound (yields_agreeing walk h.0 list agreeing h.1) h.2
 
-pub built_agreeing : {objects : Objects} {rows : List GraphRow} {by : Sorting} {tips ends : List ObjectId} {walk : Walk} → IsBuiltFrom objects rows by tips ends (Ok walk) → IsAgreeing objects rows → IsAgreeing walk.plan.store walk.plan.rows
+pub built_agreeing : {objects : Objects} {rows : List GraphRow} {m : Parents} {by : Sorting} {tips ends : List ObjectId} {walk : Walk} → IsBuiltFrom objects rows m by tips ends (Ok walk) → IsAgreeing objects rows → IsAgreeing walk.plan.store walk.plan.rows
 built_agreeing built agreeing = subst (λ (plan : TopoPlan Objects). IsAgreeing plan.store plan.rows) (sym built.0.plan) agreeing
 
 -- nor does the start of one
-pub build_sound : (objects : Objects) (rows : List GraphRow) → IsAgreeing objects rows → (by : Sorting) (tips ends : List ObjectId) (e : Error) → IsBuiltFrom objects rows by tips ends (Err e) → fault_of_topo_walk e ≢ fault.Internal
-build_sound objects rows agreeing by tips ends e h = fault_sound (plan_from objects rows by tips ends) _ e agreeing h.1
+pub build_sound : (objects : Objects) (rows : List GraphRow) → IsAgreeing objects rows → (m : Parents) (by : Sorting) (tips ends : List ObjectId) (e : Error) → IsBuiltFrom objects rows m by tips ends (Err e) → fault_of_topo_walk e ≢ fault.Internal
+build_sound objects rows agreeing m by tips ends e h = fault_sound (plan_from objects rows m by tips ends) _ e agreeing h.1

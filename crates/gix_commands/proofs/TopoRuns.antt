@@ -1,10 +1,12 @@
 -- What a run of `topo` or `date` writes, by what commits reach.
 use Rattle.std.proofs.Common.{◌≡◌, ℕ, List, [], ◌∷◌, ◌++◌, map, filter, false, true, Option, Some, None, Result, Ok, Err, Contains, IsSome, refl, sym, ap, subst, ⊎_elim, ◌∙◌}
-use Rattle.gix_commands.proofs.Common.{kept_in, Shown, EndsBy, Yields, Contains-append_left, Contains-append_right, ObjectId, IsExistingFault, id_cmp, Objects, GraphRow, Info, Commit, commit_at}
-use Rattle.gix_commands.proofs.Common.{parents_in, parents_of, text_next, step, no_member, Contains-cons_cases, TopoPlan, IsCommitRead, IsReached, IsFault, IsFirstReady, IsNextReady, IsAgreeing, none_agree, Fault, Topo}
+use Rattle.gix_commands.proofs.Common.{kept_in, Shown, EndsBy, Yields, Contains-append_left, Contains-append_right, ObjectId, IsExistingFault, id_cmp, Objects, GraphRow, Info, Parents, Commit, commit_at}
+use Rattle.gix_commands.proofs.Common.{parents_in, parents_of, text_next, step, walked_within, no_member, Contains-cons_cases, TopoPlan, IsCommitRead, IsReached, IsFault, IsFirstReady, IsNextReady, IsAgreeing, none_agree, Fault, Topo}
 use Rattle.gix_commands.proofs.Common.{fault_of_topo_walk, AreWhole, TopoSucceeds, EndsWell, IsOutside, stored, walked_down, not_built, unserved, IsBuiltFrom}
 use Rattle.gix_commands.proofs.Common.{plan_from, Ends, finished, cut_short, enough, before, objects_of, never_faulty, accepts_all, Commits, whole_from, reach_more}
 use Rattle.std.specs.List.{AllZip}
+use Rattle.gix_hash.specs.Reach.{Reaches, start}
+use Rattle.gix_revwalk.specs.Commits.{walked_parents}
 use Rattle.std.specs.FinSet as set
 use Rattle.gix_object.specs.declared.Kind.TheVariants as object
 use Rattle.gix_object.specs.declared.find.existing_iter.Error.TheVariants as existing
@@ -21,7 +23,7 @@ use Rattle.gix_commands.specs.TopoWalked.{Walk, Answers, IsWalkFault}
 use Rattle.gix_commands.specs.Walked.{failed as fell, given as all_given}
 use Rattle.gix_commands.proofs.ReadableObjects.{readable_whole}
 use Rattle.gix_commands.proofs.CommitRuns.{ends_well}
-use Rattle.gix_commands.proofs.ListedCommits.{ListsDown}
+use Rattle.gix_commands.proofs.ListedCommits.{ListsDown, followed_down}
 
 -- the plan stays
 next_plan : {old new : Walk} {answer : Option (Result Info Error)} → Answers old answer new → new.plan ≡ old.plan
@@ -57,31 +59,36 @@ same_read plan (info ∷ infos) [] h = absurd h
 same_read plan (info ∷ infos) (i ∷ ids) h = (λ k. h.0.info_is.same_id k ∷ same_read plan infos ids h.1 k)
 
 -- a walk that ended well, by the parents that texts name
-module _ (objects : Objects) (rows : List GraphRow) (agree : IsAgreeing objects rows) (by : Sorting) (tips ends : List ObjectId) (walk : Walk) (built : IsBuiltFrom objects rows by tips ends (Ok walk)) where
-  pub listed_read : (infos : List Info) → Ends Answers IsWalkFault walk infos (Ok tt) → ListsDown objects (text_next objects) by tips ends (map (λ info. info.id) infos)
+module _ (objects : Objects) (rows : List GraphRow) (agree : IsAgreeing objects rows) (m : Parents) (by : Sorting) (tips ends : List ObjectId) (walk : Walk) (built : IsBuiltFrom objects rows m by tips ends (Ok walk)) where
+  pub listed_read : (infos : List Info) → Ends Answers IsWalkFault walk infos (Ok tt) → ListsDown objects (text_next objects) (followed_down objects m) by tips ends (map (λ info. info.id) infos)
   listed_read infos (finished new h) =
       let g : GivesTextOrder objects_of walk.plan (λ i. true) (all_given infos) =
       gives_text objects_of never_faulty accepts_all (λ i. true) walk (all_given infos) (λ mid last i answer b a. a.0) built.1 (subst (λ (plan : TopoPlan Objects). IsAgreeing plan.store plan.rows) (sym built.0.plan) agree) (no_faults infos) (new, h) in
-      let order : IsTakenByText objects_of (plan_from objects rows by tips ends) g.ids = subst (λ plan. IsTakenByText objects_of plan g.ids) built.0.plan g.in_order in
-      let each = each_by_text objects_of (plan_from objects rows by tips ends) g.ids order in
-      subst (ListsDown objects (text_next objects) by tips ends) (sym (same_read walk.plan infos g.ids g.given)) (record {
+      let order : IsTakenByText objects_of (plan_from objects rows m by tips ends) g.ids = subst (λ plan. IsTakenByText objects_of plan g.ids) built.0.plan g.in_order in
+      let each = each_by_text objects_of (plan_from objects rows m by tips ends) g.ids order in
+      subst (ListsDown objects (text_next objects) (followed_down objects m) by tips ends) (sym (same_read walk.plan infos g.ids g.given)) (record {
         once = each.0;
-        shown = λ i c. let m = each.1 i c in (m.reached, m.outside);
-        all = λ acyclic i s. each.2 (λ j m. acyclic j (m.reached, m.outside)) i (record { reached = s.0; outside = s.1 });
+        shown = each.1;
+        all = each.2;
         in_order = order;
       })
 
-module _ (objects : Objects) (rows : List GraphRow) (agree : IsAgreeing objects rows) (by : Sorting) (tips ends : List ObjectId) (whole : AreWhole objects (tips ++ ends)) where
-  sound : IsSound objects_of never_faulty (plan_from objects rows by tips ends)
+module _ (objects : Objects) (rows : List GraphRow) (agree : IsAgreeing objects rows) (m : Parents) (by : Sorting) (tips ends : List ObjectId) (whole : AreWhole objects (tips ++ ends)) where
+  -- what is walked is reached
+  walked_reaches : (i : ObjectId) → Reaches (walked_parents objects m) tips i → Reaches (parents_of objects) tips i
+  walked_reaches i (start s) = start s
+  walked_reaches i (step {c = c} r n) = step (walked_reaches c r) (walked_within m (parents_of objects c) i n)
+
+  sound : IsSound objects_of never_faulty (plan_from objects rows m by tips ends)
   sound = record {
     agreeing = agree;
-    tips_whole = λ i r. whole_from objects i (whole i (reach_more (parents_of objects) tips (tips ++ ends) (λ j c. Contains-append_left tips ends j c) i r));
-    parents_whole = λ c i r n. whole_from objects i (whole i (reach_more (parents_of objects) tips (tips ++ ends) (λ j m. Contains-append_left tips ends j m) i (step r n)));
+    tips_whole = λ i r. whole_from objects i (whole i (reach_more (parents_of objects) tips (tips ++ ends) (λ j c. Contains-append_left tips ends j c) i (walked_reaches i r)));
+    parents_whole = λ c i r n. whole_from objects i (whole i (reach_more (parents_of objects) tips (tips ++ ends) (λ j c. Contains-append_left tips ends j c) i (step (walked_reaches c r) n)));
     ends_whole = λ i r. whole_from objects i (whole i (reach_more (parents_of objects) ends (tips ++ ends) (λ j c. Contains-append_right tips ends j c) i r));
   }
 
   -- over whole commits the only fault is out of memory
-  outside : (BecomesReady : ObjectId → Type 0) (e : Error) → IsFault objects_of never_faulty (plan_from objects rows by tips ends) BecomesReady e → IsOutside (fault_of_topo_walk e)
+  outside : (BecomesReady : ObjectId → Type 0) (e : Error) → IsFault objects_of never_faulty (plan_from objects rows m by tips ends) BecomesReady e → IsOutside (fault_of_topo_walk e)
   outside Q error.MissingIndegreeUnexpected h = absurd (h agree)
   outside Q error.MissingStateUnexpected h = absurd h
   outside Q (error.ObjectDecode e) h = let same : error.ObjectDecode e ≡ error.Find existing.Store = h.2.store_fails sound in cc
@@ -91,24 +98,24 @@ module _ (objects : Objects) (rows : List GraphRow) (agree : IsAgreeing objects 
       absurd (subst (IsExistingFault objects (never_faulty objects) h.0 object.Commit) store h.1)
   outside Q error.Memory h = tt
 
-  module _ (walk : Walk) (built : IsBuiltFrom objects rows by tips ends (Ok walk)) where
+  module _ (walk : Walk) (built : IsBuiltFrom objects rows m by tips ends (Ok walk)) where
     drawn_outside : (infos : List Info) (answer : Result (Unit {0}) Fault) → Ends Answers IsWalkFault walk infos answer → EndsWell answer
     drawn_outside infos answer (finished new h) = tt
     drawn_outside infos answer (fell e f new h is) =
-        let says : (taken : set.FinSet id_cmp) × (c : ObjectId) × IsFault objects_of never_faulty (plan_from objects rows by tips ends) (IsNextReady objects_of (plan_from objects rows by tips ends) taken c) e =
+        let says : (taken : set.FinSet id_cmp) × (c : ObjectId) × IsFault objects_of never_faulty (plan_from objects rows m by tips ends) (IsNextReady objects_of (plan_from objects rows m by tips ends) taken c) e =
         subst (λ plan. (taken : set.FinSet id_cmp) × (c : ObjectId) × IsFault objects_of never_faulty plan (IsNextReady objects_of plan taken c) e) (yields_plan walk h.0 (all_given infos) h.1 ∙ built.0.plan) (next_says h.2) in
-        subst IsOutside (sym is) (outside (IsNextReady objects_of (plan_from objects rows by tips ends) says.0 says.1) e says.2)
+        subst IsOutside (sym is) (outside (IsNextReady objects_of (plan_from objects rows m by tips ends) says.0 says.1) e says.2)
     drawn_outside infos answer (cut_short info new h) = tt
 
   module _ (old : Option (List ℕ)) where
-    pub well : (shown : Shown) (answer : Result (Unit {0}) Fault) (new : Option (List ℕ)) → Serves objects rows old (Commits (Topo by) shown tips ends) answer new → EndsWell answer
+    pub well : (shown : Shown) (answer : Result (Unit {0}) Fault) (new : Option (List ℕ)) → Serves objects rows old (Commits (Topo m by) shown tips ends) answer new → EndsWell answer
     well shown answer new (walked_down walk infos built drawn written) = go shown.limit answer drawn
       where
         go : (limit : Option ℕ) (answer : Result (Unit {0}) Fault) → EndsBy Answers IsWalkFault (kept_in objects shown) limit walk infos answer → EndsWell answer
         go None answer drawn = drawn_outside walk built infos answer drawn
         go (Some n) answer (enough at h e) = tt
         go (Some n) answer (before drawn less) = drawn_outside walk built infos answer drawn
-    well shown answer new (not_built e h) = outside (IsFirstReady objects_of (plan_from objects rows by tips ends)) e h.1
+    well shown answer new (not_built e h) = outside (IsFirstReady objects_of (plan_from objects rows m by tips ends)) e h.1
     well shown answer new unserved = tt
     well shown answer new (cut_off some more s a b) = tt
 
@@ -119,11 +126,11 @@ named_whole objects c i n = go (commit_at objects c) n
     go None n = absurd (no_member i n)
     go (Some commit) n = refl
 
-module _ (objects : Objects) (by : Sorting) (tips ends : List ObjectId) where
+module _ (objects : Objects) (m : Parents) (by : Sorting) (tips ends : List ObjectId) where
   -- a walk that was built without rows has read all that tips and ends reach
-  pub was_read : (walk : Walk) → IsBuiltFrom objects [] by tips ends (Ok walk) → (i : ObjectId) → IsReached objects_of (plan_from objects [] by tips ends) i → IsCommitRead objects i
+  pub was_read : (walk : Walk) → IsBuiltFrom objects [] m by tips ends (Ok walk) → (i : ObjectId) → IsReached objects_of (plan_from objects [] m by tips ends) i → IsCommitRead objects i
   was_read walk built = subst (λ plan. plan.rows ≡ [] → (i : ObjectId) → IsReached objects_of plan i → IsCommitRead plan.store i) built.0.plan built.1.read refl
 
 pub topo_succeeds : TopoSucceeds
-topo_succeeds words input records by shown tips ends answer old new asked are whole runs =
-    ends_well words input records (Commits (Topo by) shown tips ends) answer old new asked are (well (readable false (stored records)) [] (none_agree (readable false (stored records)) [] refl) by tips ends (readable_whole false (stored records) (tips ++ ends) whole) old shown) runs
+topo_succeeds words input records m by shown tips ends answer old new asked are whole runs =
+    ends_well words input records (Commits (Topo m by) shown tips ends) answer old new asked are (well (readable false (stored records)) [] (none_agree (readable false (stored records)) [] refl) m by tips ends (readable_whole false (stored records) (tips ++ ends) whole) old shown) runs

@@ -20,8 +20,8 @@ module _ {I : Type 0} (parents followed : I → List I) (time : I → ℤ) (star
         → Comes taken rest (codes "date")
     topo : (ready : List I) → AreMadeReady parents followed time starts hidden (reverse taken) ready → IsFirst (λ i. Contains taken i → ⊥) (reverse ready) rest → Comes taken rest (codes "topo")
 
-  -- What is shown is listed once and in order. In a topological order all of it is listed where no commit shown is its own ancestor.
+  -- What is shown is listed once and in order. In a topological order all of it is listed where no commit shown is its own ancestor through what is followed.
   abbrev pub Lists : List ℕ → List I → Type 0
   Lists by ids =
       AllPairs (λ i j. i ≢ j) ids × ((i : I) → Contains ids i → IsShown parents followed time starts hidden i) × ((taken rest : List I) → ids ≡ taken ++ rest → Comes taken rest by)
-      × ((Contains (codes "topo" ∷ codes "date" ∷ []) by → (i : I) → IsShown parents followed time starts hidden i → Reaches parents (parents i) i → ⊥) → (i : I) → IsShown parents followed time starts hidden i → Contains ids i)
+      × ((Contains (codes "topo" ∷ codes "date" ∷ []) by → (i : I) → IsShown parents followed time starts hidden i → Reaches followed (followed i) i → ⊥) → (i : I) → IsShown parents followed time starts hidden i → Contains ids i)

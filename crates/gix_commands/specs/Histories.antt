@@ -60,9 +60,10 @@ AheadSucceeds =
 -- A run of `topo` or `date` over whole commits ends well, whatever is written of it.
 abbrev pub TopoSucceeds : Type 0
 TopoSucceeds =
-    (words : List (List ℕ)) (input : List ℕ) (records : List Record) (by : TopoSorting) (shown : Shown) (tips ends : List ObjectId)
+    (words : List (List ℕ)) (input : List ℕ) (records : List Record) (parents : Parents) (by : TopoSorting) (shown : Shown)
+    (tips ends : List ObjectId)
     (answer : Result (Unit {0}) Fault) (old new : Option (List ℕ)) →
-    request_of words ≡ Ok (Commits (Topo by) shown tips ends) → AreRecords records input → AreWhole (stored records) (tips ++ ends) →
+    request_of words ≡ Ok (Commits (Topo parents by) shown tips ends) → AreRecords records input → AreWhole (stored records) (tips ++ ends) →
     Runs words (Some input) old answer new → EndsWell answer
 
 -- A run of `contains` over whole commits ends well.

@@ -51,7 +51,7 @@ is_first mode.First = true
 -- Whether a command asks for all lines. By first parents alone a walk reads no line behind that of the first parent, so this is tested.
 abbrev pub reads_all_lines : Request → Bool
 reads_all_lines (Commits (Simple parents by) shown tips hidden) = is_first parents
-reads_all_lines (Commits (Topo by) shown tips hidden) = false
+reads_all_lines (Commits (Topo parents by) shown tips hidden) = false
 reads_all_lines (Files shown tree) = false
 reads_all_lines (Ahead one other) = false
 reads_all_lines (Contained tip ids) = false

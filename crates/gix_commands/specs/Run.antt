@@ -62,13 +62,13 @@ pub data Serves (objects : Objects) (rows : List GraphRow) (old : Option (List �
       → Serves objects rows old (Commits (Simple parents by) shown tips hidden) (Err why) new
   not_walked : {parents : Parents} {by : Sorting} {shown : Shown} {tips hidden : List ObjectId} (e : Error) → FailsAtStart objects by tips e
       → Serves objects rows old (Commits (Simple parents by) shown tips hidden) (Err (fault_of_walk e)) old
-  walked_down : {by : TopoSorting} {shown : Shown} {tips ends : List ObjectId} (walk : topo.Walk) (infos : List Info)
+  walked_down : {parents : Parents} {by : TopoSorting} {shown : Shown} {tips ends : List ObjectId} (walk : topo.Walk) (infos : List Info)
       {answer : Result (Unit {0}) Fault} {new : Option (List ℕ)}
-      → topo.IsBuiltFrom objects rows by tips ends (Ok walk) → EndsBy topo.Answers topo.IsWalkFault (kept_in objects shown) shown.limit walk infos answer
+      → topo.IsBuiltFrom objects rows parents by tips ends (Ok walk) → EndsBy topo.Answers topo.IsWalkFault (kept_in objects shown) shown.limit walk infos answer
       → Writes (line_in objects shown) shown.form answer (kept_in objects shown infos) old new
-      → Serves objects rows old (Commits (Topo by) shown tips ends) answer new
-  not_built : {by : TopoSorting} {shown : Shown} {tips ends : List ObjectId} (e : TopoError) → topo.IsBuiltFrom objects rows by tips ends (Err e)
-      → Serves objects rows old (Commits (Topo by) shown tips ends) (Err (fault_of_topo_walk e)) old
+      → Serves objects rows old (Commits (Topo parents by) shown tips ends) answer new
+  not_built : {parents : Parents} {by : TopoSorting} {shown : Shown} {tips ends : List ObjectId} (e : TopoError) → topo.IsBuiltFrom objects rows parents by tips ends (Err e)
+      → Serves objects rows old (Commits (Topo parents by) shown tips ends) (Err (fault_of_topo_walk e)) old
   listed : {shown : EntryLines} {tree : ObjectId} (recorder : Tracked) (walk : RecordsTree objects tree recorder (Ok tt)) {new : Option (List ℕ)}
       → HaveNames walk.visits → Appends old new (file_lines shown recorder.held.records) → Serves objects rows old (Files shown tree) (Ok tt) new
   -- of a tree whose walk failed no line is written

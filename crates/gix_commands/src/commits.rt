@@ -106,25 +106,27 @@ pub fn walk_from<'a>(
     Ok(walk.parents(parents).commit_graph(rows))
 }
 
-/// A walk from these tips in which no commit comes before its children, without what the ends reach, over a store and rows.
+/// A walk from these tips in which no commit comes before its children, through these parents, without what the ends reach, over a store and
+/// rows. It reads all lines of a commit, so the store need not look at them.
 ///
 /// # Errors
 /// The fault of the first object that can't be read of what tips or ends reach. `Memory`.
 pub fn topo_walk_from<'a>(
     alloc: Global,
+    parents: Parents,
     sorting: gix_topo::Sorting,
     tips: Vec<ObjectId>,
     ends: Vec<ObjectId>,
     store: &'a LentStore<'a>,
     graph: Option<&'a Graph>,
 ) -> Result<Topo<Lent<'a>, Unfiltered>, Fault>
-    ensures ok { IfOk result (λ walk. topo_walk.IsBuiltFrom (readable false (with_rows (rows_in graph.entry) store.now)) (rows_in graph.entry) sorting tips.items ends.items (Ok walk)) }
-    ensures err { IfErr result (topo_walk.IsStartFault (readable false (with_rows (rows_in graph.entry) store.now)) (rows_in graph.entry) sorting tips.items ends.items) }
+    ensures ok { IfOk result (λ walk. topo_walk.IsBuiltFrom (readable false (with_rows (rows_in graph.entry) store.now)) (rows_in graph.entry) parents sorting tips.items ends.items (Ok walk)) }
+    ensures err { IfErr result (topo_walk.IsStartFault (readable false (with_rows (rows_in graph.entry) store.now)) (rows_in graph.entry) parents sorting tips.items ends.items) }
 {
     let rows = copy_of(graph)?;
     let from_tips = Builder::new(alloc, Lent::over(store, graph, Parents::All)).with_tips(tips)?;
     let builder = from_tips.with_ends(ends)?;
-    let ordered = builder.sorting(sorting);
+    let ordered = builder.parents(parents).sorting(sorting);
     let walk = ordered.with_commit_graph(rows).build()?;
     Ok(walk)
 }

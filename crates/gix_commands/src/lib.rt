@@ -154,8 +154,8 @@ fn serve_commits<W: Write>(
             let checked = Checked::new(alloc, walk, parents, store, graph);
             write_commits(alloc, checked, chooser, writer)
         }
-        Order::Topo(sorting) => {
-            let walk = topo_walk_from(alloc, sorting, tips, hidden, store, graph)?;
+        Order::Topo { parents, sorting } => {
+            let walk = topo_walk_from(alloc, parents, sorting, tips, hidden, store, graph)?;
             let chooser = Chooser::new(alloc, shown, Parents::All, store, graph);
             write_commits(alloc, walk, chooser, writer)
         }

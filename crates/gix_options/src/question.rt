@@ -436,7 +436,9 @@ impl Arguments {
         if self.options.counts && self.options.is_reversed {
             return Err(Misuse::Count);
         }
-        if self.options.by_first_parents && name != Name::Breadth {
+        if self.options.by_first_parents
+            && !matches!(name, Name::Breadth | Name::Topo | Name::Date)
+        {
             return Err(Misuse::option("--first-parent", name));
         }
         if self.options.since.is_some() && name != Name::Newest && name != Name::Oldest {

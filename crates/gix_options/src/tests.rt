@@ -63,6 +63,8 @@ const CASES: &[(&str, &str)] = &[
         "-C . newest HEAD --first-parent",
         "--first-parent doesn't go with newest",
     ),
+    ("-C . topo HEAD --first-parent", ""),
+    ("-C . date --first-parent HEAD", ""),
     ("-C . topo -z --parents HEAD --timestamp", ""),
     ("-C . ahead -z a b", "-z doesn't go with ahead"),
     (

@@ -192,7 +192,7 @@ fn order_of(order: &words::Order) -> Order {
                 CommitTimeOrder::OldestFirst => Order::OldestFirst,
             },
         },
-        words::Order::Topo(_) => Order::Met,
+        words::Order::Topo { .. } => Order::Met,
     }
 }
 

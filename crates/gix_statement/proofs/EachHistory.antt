@@ -161,14 +161,15 @@ module _ (objects : Objects) (rows : List Row) (parents other : ObjectId → Lis
           begins_there parents other parents other time times tips hidden ids within hides by simple same timed,
           λ every. whole_there parents other parents other time times tips hidden ids within hides by simple same timed (λ c m. same_parents c (is_listed c m)) (λ late. judged_so parents plain tips ids (λ i m. m) late (every late)),
         )
-    moved option followed starts (first is) =
+    moved option followed starts (first named) =
+        let broad : by ≡ codes "breadth" = ⊎_elim (λ e. sym e) (λ m. absurd (simple m)) (Contains-cons_cases by (codes "breadth") (codes "topo" ∷ codes "date" ∷ []) named) in
         let within : (c i : ObjectId) → Contains (take 1 (other c)) i → Contains (other c) i = (λ c i m. take_in (other c) i m) in
         let same : (taken rest : List ObjectId) (j : ObjectId) → ids ≡ taken ++ j ∷ rest → (c : ObjectId) → Contains taken c → take 1 (parents c) ≡ take 1 (other c) = (λ taken rest j is c m. ap (take 1) (same_parents c (taken_there taken rest j is c m))) in
-        let timed : by ≢ codes "breadth" → (taken rest : List ObjectId) (j : ObjectId) → ids ≡ taken ++ j ∷ rest → (i : ObjectId) → Contains (tips ++ flat_map (λ c. take 1 (parents c)) taken) i → time i ≡ times i = (λ late taken rest j eq i m. absurd (late is)) in (
+        let timed : by ≢ codes "breadth" → (taken rest : List ObjectId) (j : ObjectId) → ids ≡ taken ++ j ∷ rest → (i : ObjectId) → Contains (tips ++ flat_map (λ c. take 1 (parents c)) taken) i → time i ≡ times i = (λ late taken rest j eq i m. absurd (late broad)) in (
           λ c. take 1 (other c),
-          first is,
+          first named,
           begins_there parents other (λ c. take 1 (parents c)) (λ c. take 1 (other c)) time times tips hidden ids within hides by simple same timed,
-          λ every. whole_there parents other (λ c. take 1 (parents c)) (λ c. take 1 (other c)) time times tips hidden ids within hides by simple same timed (λ c m. ap (take 1) (same_parents c (is_listed c m))) (λ late. absurd (late is)),
+          λ every. whole_there parents other (λ c. take 1 (parents c)) (λ c. take 1 (other c)) time times tips hidden ids within hides by simple same timed (λ c m. ap (take 1) (same_parents c (is_listed c m))) (λ late. absurd (late broad)),
         )
     moved option followed starts (since {number = number} n named is) = (
       λ c. filter (is_young times n) (other c),

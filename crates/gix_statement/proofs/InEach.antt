@@ -9,7 +9,7 @@ use Rattle.gix_hash.specs.declared.ObjectId.{ObjectId}
 use Rattle.gix_statement.specs.WholeStatement.{IsLimit, allowed, Objects, Row, IsThere, IsHistory, InEach, Allows, AreTips, Begins, IsWhole, IsNext, breadth, newest, oldest, date, topo, parent, Follows, all, id_line, digits_in, Spells, Keeps, Lists, lists, Serves, ahead, contains, containing, bases, IsBase, by_bytes, files, Reaches, start, IsNumberShown, IsTree, Unfolds, Entry, entry_line, Choice, Chooses, Lines, chosen, commit_line, written}
 use Rattle.gix_statement.proofs.Heart.{IsSimple}
 use Rattle.gix_statement.proofs.EachHistory.{base_back, base_there, containing_there, counted_there, kept_there, moved, same_parents, same_time, filter_same}
-use Rattle.gix_statement.proofs.Descents.{IsDown, begins_down, whole_down}
+use Rattle.gix_statement.proofs.Descents.{IsDown, begins_down, followed_down, whole_down}
 use Rattle.gix_statement.proofs.SameLines.{chosen_in, same_line, written_same}
 
 module _ (objects : Objects) (rows : List Row) (parents : ObjectId → List ObjectId) (time : ObjectId → ℤ) (one : IsHistory objects rows parents time) (old new : Option (List ℕ)) where
@@ -99,15 +99,17 @@ module _ (objects : Objects) (rows : List Row) (parents : ObjectId → List Obje
         none_next names ts name plain i (topo ready made f) = plain (0, omega arith, refl)
 
     -- `topo`, `date`
-    pub down_each : IsDown by → option ≡ [] → Begins parents parents time tips hidden by ids → (HasEnded → IsWhole parents parents time tips hidden by ids)
-        → AreThere tips → AreThere hidden → EachLists
-    down_each falls plain begins whole above below other times another =
-        let up : (c : ObjectId) → Reaches parents tips c → parents c ≡ other c = (λ c r. same_parents objects rows parents other time times one another c (above c r)) in
+    pub down_each : IsDown by → {followed : ObjectId → List ObjectId} {starts : List ObjectId} → Follows parents time tips by option followed starts
+        → Begins parents followed time starts hidden by ids → (HasEnded → IsWhole parents followed time starts hidden by ids)
+        → ((i : ObjectId) → Reaches followed starts i → IsThere objects rows i) → AreThere hidden → EachLists
+    down_each falls {followed} {starts} follows begins whole above below other times another =
+        let f = followed_down parents other time times tips by falls option follows in
+        let up : (c : ObjectId) → Reaches followed starts c → followed c ≡ f.0 c = (λ c r. f.2 c (same_parents objects rows parents other time times one another c (above c r))) in
         let down : (c : ObjectId) → Reaches parents hidden c → parents c ≡ other c = (λ c r. same_parents objects rows parents other time times one another c (below c r)) in
-        let timed : (c : ObjectId) → Reaches parents tips c → time c ≡ times c = (λ c r. same_time objects rows parents other time times one another c (above c r)) in
-        listed other times another (subst (λ o. Follows other times tips by o other tips) (sym plain) all)
-        (begins_down parents other time times tips hidden up down timed by falls ids begins)
-        (λ h. whole_down parents other time times tips hidden up down timed by falls ids begins (whole h))
+        let timed : (c : ObjectId) → Reaches followed starts c → time c ≡ times c = (λ c r. same_time objects rows parents other time times one another c (above c r)) in
+        listed other times another f.1
+        (begins_down parents other followed f.0 time times starts hidden up down timed by falls ids begins)
+        (λ h. whole_down parents other followed f.0 time times starts hidden up down timed by falls ids begins (whole h))
 
   pub ahead_each : {a b : List ℕ} {left right : ObjectId} (n m : ℕ) → Spells (digits_in left) a left → Spells (digits_in right) b right
       → AreThere (left ∷ []) → AreThere (right ∷ []) → IsNumberShown parents parents time (left ∷ []) (right ∷ []) n → IsNumberShown parents parents time (right ∷ []) (left ∷ []) m

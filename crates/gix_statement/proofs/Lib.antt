@@ -27,6 +27,7 @@ mod EntryExamples
 mod GraphExamples
 mod HoleExamples
 mod SinceExample
+mod FirstParentExamples
 mod Refused
 mod AttackExamples
 mod WrongRuns

@@ -10,7 +10,7 @@ use Rattle.gix_hash.specs.declared.ObjectId.{ObjectId}
 use Rattle.gix_hash.specs.declared.ObjectId.TheVariants.{Sha1, Sha256}
 use Rattle.gix_statement.specs.WholeStatement.{Objects, Row, Allows, AreTips, digits_in, IsCommit, IsThere, IsHistory, IsShown, IsWhole, Promises, Serves, commits, ahead, contains, containing, bases, files, lists, Follows, all, first, since, Spells, Reaches, start, parent, Choice, Chooses, everything, until, merges, no_merges, skip, at_most, counted, reversed, with_time, with_parents, zero_ended}
 use Rattle.gix_statement.proofs.OneCommit.{spelled_same}
-use Rattle.gix_statement.proofs.Tests.{is_hex}
+use Rattle.gix_statement.proofs.Tests.{not_among, is_hex}
 
 heads : (a b : List ℕ) (xs ys : List (List ℕ)) → a ∷ xs ≡ b ∷ ys → a ≡ b
 heads a b xs ys e = cc
@@ -117,7 +117,8 @@ module _ (objects : Objects) (nothing : (i : ObjectId) → objects i ≡ None) w
       → by ≡ codes "newest" → option ++ more ≡ codes "--since" ∷ codes "3" ∷ tip ∷ [] → Chooses tips hidden place more c → Follows parents time tips by option followed starts
       → All (IsThere objects (row ∷ [])) ids → (Allows c.limit m → IsWhole parents followed time starts hidden by ids) → ⊥
   by_option m more name rest chooses all there ended = not_chosen more (codes "3" ∷ tip ∷ []) chooses rest
-  by_option m more name rest chooses (first breadth) there ended = let l : 7 ≡ 6 = ap length (sym breadth ∙ name) in omega (arith, l)
+  by_option {by} m more name rest chooses (first named) there ended = not_among by (codes "breadth") (codes "topo" ∷ codes "date" ∷ []) (λ e. let l : 7 ≡ 6 = ap length (e ∙ name) in omega (arith, l))
+      (not_among by (codes "topo") (codes "date" ∷ []) (λ e. let l : 4 ≡ 6 = ap length (e ∙ name) in omega (arith, l)) (not_among by (codes "date") [] (λ e. let l : 4 ≡ 6 = ap length (e ∙ name) in omega (arith, l)) (no_member by))) named
   by_option {by = by} m more {c = c} {tips = tips} {hidden = hidden} {ids = ids} name rest chooses (since {number = number} n named is) there ended =
       let three : number ≡ codes "3" = cc in
       let behind : more ≡ tip ∷ [] = cc in

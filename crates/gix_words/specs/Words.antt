@@ -114,8 +114,8 @@ order_named name =
     if bytes_eq name (codes "breadth") then Some (Simple mode.All sorting.BreadthFirst)
     else if bytes_eq name (codes "newest") then Some (Simple mode.All (sorting.ByCommitTime order.NewestFirst))
     else if bytes_eq name (codes "oldest") then Some (Simple mode.All (sorting.ByCommitTime order.OldestFirst))
-    else if bytes_eq name (codes "topo") then Some (Topo topo.TopoOrder)
-    else if bytes_eq name (codes "date") then Some (Topo topo.DateOrder)
+    else if bytes_eq name (codes "topo") then Some (Topo mode.All topo.TopoOrder)
+    else if bytes_eq name (codes "date") then Some (Topo mode.All topo.DateOrder)
     else None
 
 -- the order, which has no option, through first parents alone
@@ -123,14 +123,14 @@ abbrev pub by_first_parents : Order → Option Order
 by_first_parents (Simple parents sorting.BreadthFirst) = Some (Simple mode.First sorting.BreadthFirst)
 by_first_parents (Simple parents (sorting.ByCommitTime order)) = None
 by_first_parents (Simple parents (sorting.ByCommitTimeCutoff order seconds)) = None
-by_first_parents (Topo by) = None
+by_first_parents (Topo parents by) = Some (Topo mode.First by)
 
 -- the order, which has no option, without what is older than a time
 abbrev pub by_cutoff : ℤ → Order → Option Order
 by_cutoff seconds (Simple parents sorting.BreadthFirst) = None
 by_cutoff seconds (Simple parents (sorting.ByCommitTime order)) = Some (Simple parents (sorting.ByCommitTimeCutoff order seconds))
 by_cutoff seconds (Simple parents (sorting.ByCommitTimeCutoff order time)) = None
-by_cutoff seconds (Topo by) = None
+by_cutoff seconds (Topo parents by) = None
 
 -- the number that 1 to so many decimal digits spell
 abbrev pub number_in : ℕ → List ℕ → Option ℕ

@@ -13,9 +13,15 @@ use std::alloc::{AllocError, Global};
 #[derive(Clone, Copy)]
 pub enum Order {
     /// In the order in which commits are met, or in one by time, through these parents.
-    Simple { parents: Parents, sorting: Sorting },
-    /// No commit before its children.
-    Topo(gix_topo::Sorting),
+    Simple {
+        parents: Parents,
+        sorting: Sorting,
+    },
+    /// No commit before its children, through these parents.
+    Topo {
+        parents: Parents,
+        sorting: gix_topo::Sorting,
+    },
 }
 
 /// Which commits are written, by how many parents each names.
@@ -124,7 +130,7 @@ pub enum Command {
 
 /// The command that the words are: `breadth`, `newest`, `oldest`, `topo` or `date`, maybe options, ids of tips, one at least, and ids of
 /// commits to be hidden, each after a `^`; or `files`, maybe `-n` and a limit, maybe `-z`, and one id; or `ahead` and two ids; or `contains`, `containing` or `merge-base` and two
-/// ids at least. The options come in this order, each at most once: `--first-parent` for `breadth` or `--since` and a time for `newest` and `oldest`,
+/// ids at least. The options come in this order, each at most once: `--first-parent` for `breadth`, `topo` and `date`, or `--since` and a time for `newest` and `oldest`,
 /// `--until` and a time, `--merges` or `--no-merges`, `--skip` and a number, `-n` and a limit, `--count` or `--reverse`,
 /// `--timestamp`, `--parents`, `-z`. An id is 40 or 64 hex digits, a time 1 to 10 decimal digits, another number 1 to 9.
 ///
@@ -174,10 +180,10 @@ fn order_named(name: &String) -> Option<Order>
         return Some(in_simple_order(oldest));
     }
     if name.as_str() == "topo" {
-        return Some(Order::Topo(gix_topo::Sorting::TopoOrder));
+        return Some(in_topo_order(gix_topo::Sorting::TopoOrder));
     }
     if name.as_str() == "date" {
-        return Some(Order::Topo(gix_topo::Sorting::DateOrder));
+        return Some(in_topo_order(gix_topo::Sorting::DateOrder));
     }
     None
 }
@@ -187,6 +193,16 @@ fn in_simple_order(sorting: Sorting) -> Order
     ensures { result ≡ Order.Simple Parents.All sorting }
 {
     Order::Simple {
+        parents: Parents::All,
+        sorting,
+    }
+}
+
+/// The order through all parents in which no commit comes before its children.
+fn in_topo_order(sorting: gix_topo::Sorting) -> Order
+    ensures { result ≡ Order.Topo Parents.All sorting }
+{
+    Order::Topo {
         parents: Parents::All,
         sorting,
     }
@@ -215,14 +231,16 @@ fn in_order(alloc: Global, order: Order, words: &[String]) -> Result<Command, Fa
 fn by_first_parents(order: Order) -> Option<Order>
     ensures { result ≡ by_first_parents order }
 {
+    let parents = Parents::First;
     match order {
         Order::Simple {
             sorting: Sorting::BreadthFirst,
             ..
         } => Some(Order::Simple {
-            parents: Parents::First,
+            parents,
             sorting: Sorting::BreadthFirst,
         }),
+        Order::Topo { sorting, .. } => Some(Order::Topo { parents, sorting }),
         _ => None,
     }
 }

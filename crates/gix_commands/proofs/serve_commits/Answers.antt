@@ -30,9 +30,9 @@ returns-in_err-walk-in-Topo g c =
     let p = err_from_is_err_and c.from_residual-in_err-walk-in-Topo.result c.from_residual-in_err-walk-in-Topo.ensures.1 in
     let old = g.W.Write.contents c.args.writer.now in
     subst (λ (o : Order). Serves (readable (reads_all_lines (Commits o c.args.shown c.args.tips.items c.args.hidden.items)) (with_rows (rows_in c.args.graph) c.args.store.now)) (rows_in c.args.graph) old (Commits o c.args.shown c.args.tips.items c.args.hidden.items) c.from_residual-in_err-walk-in-Topo.result old) (sym c.in-Topo.is)
-    (serves_no_topo _ _ _ _ _ _ _ _ _ (p.1 ∙ ap (λ f. Err f) p.2) c.in_err-walk-in-Topo.ensures.err)
+    (serves_no_topo _ _ _ _ _ _ _ _ _ _ (p.1 ∙ ap (λ f. Err f) p.2) c.in_err-walk-in-Topo.ensures.err)
 
 pub returns-in_ok-walk-in-Topo : goal.returns-in_ok-walk-in-Topo
 returns-in_ok-walk-in-Topo g c =
     subst (λ (o : Order). Serves (readable (reads_all_lines (Commits o c.args.shown c.args.tips.items c.args.hidden.items)) (with_rows (rows_in c.args.graph) c.args.store.now)) (rows_in c.args.graph) (g.W.Write.contents c.args.writer.now) (Commits o c.args.shown c.args.tips.items c.args.hidden.items) c.write_commits-in-Topo.result (g.W.Write.contents c.write_commits-in-Topo.new.writer)) (sym c.in-Topo.is)
-    (serves_topo _ _ _ _ _ _ _ _ _ _ c.new-chooser-in-Topo.ensures c.in_ok-walk-in-Topo.ensures.ok _ c.write_commits-in-Topo.ensures)
+    (serves_topo _ _ _ _ _ _ _ _ _ _ _ c.new-chooser-in-Topo.ensures c.in_ok-walk-in-Topo.ensures.ok _ c.write_commits-in-Topo.ensures)

@@ -20,6 +20,31 @@ fn lists_no_commit_before_its_children(rt: HostRuntime) -> Result<(), Fail> {
 }
 
 #[test]
+fn goes_to_first_parents_alone_in_order(rt: HostRuntime) -> Result<(), Fail> {
+    check(
+        rt.alloc(),
+        &[SAMPLE],
+        &[
+            (&["topo", "--first-parent", "#8"], "#8\n#6\n#5\n#3\n#1\n"),
+            (
+                &["topo", "--first-parent", "#7", "#8"],
+                "#8\n#6\n#5\n#3\n#7\n#4\n#2\n#1\n",
+            ),
+            (
+                &["date", "--first-parent", "#7", "#8"],
+                "#8\n#7\n#6\n#5\n#4\n#3\n#2\n#1\n",
+            ),
+            (&["topo", "--first-parent", "#8", "^#7"], "#8\n#6\n#5\n#3\n"),
+            (&["date", "--first-parent", "#7", "^#8"], ""),
+            (
+                &["date", "--first-parent", "--parents", "-n", "1", "#8"],
+                "#8 #6 #7\n",
+            ),
+        ],
+    )
+}
+
+#[test]
 fn a_fault_below_comes_before_all_lines(rt: HostRuntime) -> Result<(), Fail> {
     check(
         rt.alloc(),

@@ -53,7 +53,12 @@ fn judges_the_words_first(rt: HostRuntime) -> Result<(), Fail> {
             ),
             (&["breadth", "--since", "1", "#1"], "! usage"),
             (&["newest", "--first-parent", "#1"], "! usage"),
-            (&["topo", "--first-parent", "#1"], "! usage"),
+            (&["oldest", "--first-parent", "#1"], "! usage"),
+            (&["topo", "--first-parent", "zz"], "! bad id in word 3"),
+            (
+                &["date", "--first-parent", "--since", "1", "#1"],
+                "! bad id in word 3",
+            ),
             (&["date", "--since", "1", "#1"], "! usage"),
             (&["newest", "--since"], "! usage"),
             (&["newest", "--since", "1"], "! usage"),

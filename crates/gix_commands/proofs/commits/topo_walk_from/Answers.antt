@@ -10,8 +10,8 @@ returns-in_err-walk-clause-err c =
     let e = c.in_ok-builder.ensures in
     let tips : List ObjectId = c.args.tips.items in
     let ends : List ObjectId = c.args.ends.items in
-    build_failed _ _ _ tips ends c.with_commit_graph.result
-    (chosen _ _ c.args.sorting tips ends t.1 e.1 _ _ _ _ _ _ (fresh_over _ _ _ c.over.ensures c.new.ensures) t.4 (drained tips t.1 t.0 t.2.0 (t.2.1 ∙ c.args.tips.ok.0) t.3) e.4 (drained ends e.1 e.0 e.2.0 (e.2.1 ∙ c.args.ends.ok.0) e.3) c.sorting-ordered.ensures c.with_commit_graph.ensures c.in_ok-rows.ensures)
+    build_failed _ _ _ _ tips ends c.with_commit_graph.result
+    (chosen _ _ c.args.parents c.args.sorting tips ends t.1 e.1 _ _ _ _ _ _ _ (fresh_over _ _ _ c.over.ensures c.new.ensures) t.4 (drained tips t.1 t.0 t.2.0 (t.2.1 ∙ c.args.tips.ok.0) t.3) e.4 (drained ends e.1 e.0 e.2.0 (e.2.1 ∙ c.args.ends.ok.0) e.3) c.parents.ensures c.sorting-ordered.ensures c.with_commit_graph.ensures c.in_ok-rows.ensures)
     _ _ _ p.1 p.2 c.in_err-walk.ensures
 
 pub returns-clause-ok : goal.returns-clause-ok
@@ -20,6 +20,6 @@ returns-clause-ok c =
     let e = c.in_ok-builder.ensures in
     let tips : List ObjectId = c.args.tips.items in
     let ends : List ObjectId = c.args.ends.items in
-    built_from _ _ c.args.sorting tips ends c.with_commit_graph.result
-    (chosen _ _ c.args.sorting tips ends t.1 e.1 _ _ _ _ _ _ (fresh_over _ _ _ c.over.ensures c.new.ensures) t.4 (drained tips t.1 t.0 t.2.0 (t.2.1 ∙ c.args.tips.ok.0) t.3) e.4 (drained ends e.1 e.0 e.2.0 (e.2.1 ∙ c.args.ends.ok.0) e.3) c.sorting-ordered.ensures c.with_commit_graph.ensures c.in_ok-rows.ensures)
+    built_from _ _ c.args.parents c.args.sorting tips ends c.with_commit_graph.result
+    (chosen _ _ c.args.parents c.args.sorting tips ends t.1 e.1 _ _ _ _ _ _ _ (fresh_over _ _ _ c.over.ensures c.new.ensures) t.4 (drained tips t.1 t.0 t.2.0 (t.2.1 ∙ c.args.tips.ok.0) t.3) e.4 (drained ends e.1 e.0 e.2.0 (e.2.1 ∙ c.args.ends.ok.0) e.3) c.parents.ensures c.sorting-ordered.ensures c.with_commit_graph.ensures c.in_ok-rows.ensures)
     (Ok c.in_ok-walk.walk) c.in_ok-walk.ensures
