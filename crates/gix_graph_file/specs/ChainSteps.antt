@@ -5,14 +5,16 @@ use Rattle.gix_hash.specs.declared.Kind.{Kind}
 use Rattle.gix_hash.specs.declared.ObjectId.{ObjectId}
 use Rattle.gix_hash.specs.Id.{id_len, id_of}
 use Rattle.gix_commitgraph.specs.declared.ParentPlace.{ParentPlace}
+use Rattle.gix_commitgraph.specs.declared.Row.{Row}
 use Rattle.gix_commitgraph.specs.declared.GraphError.{GraphError}
 use Rattle.gix_commitgraph.specs.declared.GraphError.TheVariants as refused
 use Rattle.gix_commitgraph.specs.Rows.{GraphRow}
-use Rattle.gix_commitgraph.specs.PackedReading.{word_at, is_above}
-use Rattle.gix_commitgraph.specs.Renumbering.{rows_seen}
+use Rattle.gix_commitgraph.specs.PackedReading.{word_at, words_of, is_above}
+use Rattle.gix_commitgraph.specs.Renumbering.{row_seen, rows_seen}
 use Rattle.gix_graph_file.specs.declared.error.Error.{Error}
 use Rattle.gix_graph_file.specs.declared.error.Error.TheVariants as error
 use Rattle.gix_graph_file.specs.declared.chain.Below.{Below}
+use Rattle.gix_graph_file.specs.declared.chain.LayerRow.{LayerRow}
 use Rattle.gix_graph_file.specs.FileTable.{is_table_from, table_len, chunk_count}
 use Rattle.gix_graph_file.specs.FileRows.{Parents, parents_said, row_said}
 use Rattle.gix_graph_file.specs.declared.error.ChainError.{ChainError}
@@ -51,6 +53,14 @@ unfoldable pub row_read : Kind → ℕ → ℕ → ℕ → Option ObjectId → L
 row_read k limit at r before id tree numbers words =
     if is_above before (id_of k id) then row_or_fault r (row_said k id tree numbers) (parents_said limit at (word_at 0 numbers) (word_at 4 numbers) words)
     else Err (error.Order r)
+
+abbrev pub row_of_layer : Kind → (limit at : ℕ) → LayerRow → Result RowRead Error
+row_of_layer k limit at given = row_read k limit at given.number given.before given.id.now given.tree.now given.numbers.now (words_of given.edges.now)
+
+-- a row of a layer was read so, unless memory ran out
+abbrev pub ReadsRow : Kind → (limit at : ℕ) → LayerRow → Result (Row × Bor (List ℕ)) Error → Type 0
+ReadsRow k limit at given (Ok read) = row_of_layer k limit at given ≡ Ok (row_seen read.0, words_of read.1.now)
+ReadsRow k limit at given (Err e) = e ≢ error.Memory → row_of_layer k limit at given ≡ Err e
 
 abbrev pub files_seen : List (Bor (List ℕ)) → List (List ℕ)
 files_seen layers = map (λ layer. layer.now) layers

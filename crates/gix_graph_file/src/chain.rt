@@ -1,13 +1,13 @@
 //! The rows of a chain of files.
-ghost use Rattle.std.specs.Prelude.{◌≡◌, ◌≢◌, ◌+◌, ◌*◌, ◌/◌, ◌≤◌, [], ◌∷◌, ◌++◌, length, take, drop, Some, Ok, Err, IfOk, OnOk, IfErr, MatchResult};
+ghost use Rattle.std.specs.Prelude.{◌≡◌, ◌≢◌, ◌+◌, ◌*◌, ◌/◌, ◌≤◌, [], ◌∷◌, ◌++◌, length, take, drop, Some, Ok, Err, IfOk, OnOk, IfErr};
 ghost use Rattle.std.specs.Option.{option_map};
 ghost use Rattle.gix_hash.specs.Id.{id_len, id_of};
 ghost use Rattle.gix_commitgraph.specs.Packed.{AreGraphRows};
 ghost use Rattle.gix_commitgraph.specs.PackedReading.{words_of, is_above};
-ghost use Rattle.gix_commitgraph.specs.Renumbering.{row_seen, rows_seen};
+ghost use Rattle.gix_commitgraph.specs.Renumbering.{rows_seen};
 ghost use Rattle.gix_graph_file.specs.FileRows.{place_named, edge_list, long_edge_list, second_said, parents_said};
 ghost use Rattle.gix_graph_file.specs.Chain.{is_kind, layer_rows, with_parts, with_layer, read_chain, HasChain, RefusesChain};
-ghost use Rattle.gix_graph_file.specs.ChainSteps.{HasTable, below_seen, joined, prepended, row_read, files_seen, IsAtLayer, IsForRows, IsLayerFault};
+ghost use Rattle.gix_graph_file.specs.ChainSteps.{HasTable, below_seen, joined, prepended, ReadsRow, files_seen, IsAtLayer, IsForRows, IsLayerFault};
 ghost use Rattle.gix_graph_file.specs.PackedParts.{seen, IsWhole};
 ghost use Rattle.gix_graph_file.specs.FileTable.{most_words};
 
@@ -169,31 +169,46 @@ fn is_above(before: Option<ObjectId>, id: ObjectId) -> bool
     }
 }
 
-/// Reads the row `r`, whose list of parents begins at the word `at`, and lends the words behind this list.
+/// A row as its layer has it.
+#[derive(Clone, Copy)]
+struct LayerRow<'a> {
+    number: u32,
+    /// The id of the row before it.
+    before: Option<ObjectId>,
+    id: &'a [u8],
+    tree: &'a [u8],
+    /// Its first two parents, its generation and its time.
+    numbers: &'a [u8],
+    /// The words of lists of parents, from its own on.
+    edges: &'a [u8],
+}
+
+/// Reads a row whose list of parents begins at the word `at`, and lends the words behind this list.
 #[tactic(auto, unfolding(crate::specs::ChainSteps::row_read))]
 fn row<'a>(
     alloc: Global,
     kind: Kind,
     limit: usize,
     at: u32,
-    r: u32,
-    before: Option<ObjectId>,
-    id: &[u8],
-    tree: &[u8],
-    numbers: &[u8],
-    edges: &'a [u8],
+    given: LayerRow<'a>,
 ) -> Result<(Row, &'a [u8]), Error>
-    requires id { length id.now ≡ id_len kind }
-    requires tree { length tree.now ≡ id_len kind }
-    requires numbers { 16 ≤ length numbers.now }
+    requires id { length given.id.now ≡ id_len kind }
+    requires tree { length given.tree.now ≡ id_len kind }
+    requires numbers { 16 ≤ length given.numbers.now }
     requires few { at ≤ most_words }
-    ensures { MatchResult result (λ read. row_read kind limit at r before id.now tree.now numbers.now (words_of edges.now)
-        ≡ Ok (row_seen read.0, words_of read.1.now))
-        (λ error. error ≢ Error.Memory → row_read kind limit at r before id.now tree.now numbers.now (words_of edges.now) ≡ Err error) }
+    ensures { ReadsRow kind limit at given.entry result }
 {
+    let LayerRow {
+        number,
+        before,
+        id,
+        tree,
+        numbers,
+        edges,
+    } = given;
     let id = id_of(kind, id);
     if !is_above(before, id) {
-        return Err(Error::Order(r));
+        return Err(Error::Order(number));
     }
     let mut places = ParentPlaces::new(alloc);
     let found = parents(
@@ -205,7 +220,7 @@ fn row<'a>(
         edges,
     )?;
     let Some(left) = found else {
-        return Err(Error::Parents(r));
+        return Err(Error::Parents(number));
     };
     let long = long_at(numbers, 8);
     let row = Row {
@@ -240,18 +255,15 @@ fn push_rows(
         let (tree, behind) = commits.split_at(len);
         let (numbers, commits_left) = behind.split_at(16);
         let at = words.saturating_sub(edges.len() / 4) as u32;
-        let (row, edges_left) = row(
-            alloc,
-            layout.kind,
-            limit,
-            at,
-            r,
+        let given = LayerRow {
+            number: r,
             before,
             id,
             tree,
             numbers,
             edges,
-        )?;
+        };
+        let (row, edges_left) = row(alloc, layout.kind, limit, at, given)?;
         out.push(row)?;
         before = Some(id_of(layout.kind, id));
         ids = ids_left;
