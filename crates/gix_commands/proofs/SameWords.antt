@@ -12,7 +12,7 @@ use Rattle.gix_simple.specs.declared.Sorting.TheVariants as sorting
 use Rattle.gix_topo.specs.declared.Sorting.TheVariants as topo
 use Rattle.gix_statement.specs.WholeStatement as page
 use Rattle.gix_statement.specs.WholeStatement.{Chooses}
-use Rattle.gix_words.specs.Words.{Reader, changed_by, changed_by_number, either_of, ended_of, first_number, formed_of, limited_of, merges_of, named_of, number_option_of, numbered_of, option_of, skipped_of, timed_of, until_of}
+use Rattle.gix_words.specs.Words.{WordReader, changed_by, changed_by_number, either_of, ended_of, first_number, formed_of, limited_of, merges_of, named_of, number_option_of, numbered_of, option_of, skipped_of, timed_of, until_of}
 use Rattle.gix_words.specs.declared.fault.Fault.TheVariants as fault
 use Rattle.gix_words.specs.declared.words.Merges.{Merges}
 use Rattle.gix_words.specs.declared.words.Merges.TheVariants as merges
@@ -189,7 +189,7 @@ AreChosen lowest words (Err e) = IsOfWords e
 AreChosen lowest words (Ok a) = IsChosen lowest words a
 
 -- a reader of words
-abbrev Reads : ℕ → Reader → Type 0
+abbrev Reads : ℕ → WordReader → Type 0
 Reads lowest read = (n : ℕ) (words : List (List ℕ)) → AreChosen lowest words (read n words)
 
 plain_reads : Reads 8 plain_of
@@ -212,7 +212,7 @@ plain_reads n words = go (list_all begins_with_caret words) refl
 
 -- an option of a place, before words that choose by options of higher places
 module _ (place : ℕ) where
-  higher : (read : Reader) → Reads (place + 1) read → Reads place read
+  higher : (read : WordReader) → Reads (place + 1) read → Reads place read
   higher read reads n words = go (read n words) (reads n words)
     where
       go : (r : Result Asked Fault) → AreChosen (place + 1) words r → AreChosen place words r
@@ -241,13 +241,13 @@ module _ (place : ℕ) where
   changed_are option change adds words (Ok a) h = adds words a h
 
   module _ (name : List ℕ) where
-    option_reads : (change : Shown → Shown) (next other : Reader) → Adds (name ∷ []) change → Reads (place + 1) next → Reads place other → Reads place (option_of name change next other)
+    option_reads : (change : Shown → Shown) (next other : WordReader) → Adds (name ∷ []) change → Reads (place + 1) next → Reads place other → Reads place (option_of name change next other)
     option_reads change next other adds reads others n [] = others n []
     option_reads change next other adds reads others n (option ∷ words) =
         by_name (λ w o. AreChosen place (w ∷ words) (either_of change next other n (w ∷ words) o)) option name
         (changed_are (name ∷ []) change adds words (next (n + 1) words) (reads (n + 1) words)) (others n (option ∷ words))
 
-    number_option_reads : (digits : ℕ) (change : ℕ → Shown → Shown) (next : Reader) → ((number : List ℕ) (m : ℕ) → IsNumber 10 digits number m → Adds (name ∷ number ∷ []) (change m))
+    number_option_reads : (digits : ℕ) (change : ℕ → Shown → Shown) (next : WordReader) → ((number : List ℕ) (m : ℕ) → IsNumber 10 digits number m → Adds (name ∷ number ∷ []) (change m))
         → Reads (place + 1) next → Reads place (number_option_of name digits change next)
     number_option_reads digits change next adds reads n [] = higher next reads n []
     number_option_reads digits change next adds reads n (option ∷ words) =

@@ -58,9 +58,9 @@ abbrev pub row_of_layer : Kind → (limit at : ℕ) → LayerRow → Result RowR
 row_of_layer k limit at given = row_read k limit at given.number given.before given.id.now given.tree.now given.numbers.now (words_of given.edges.now)
 
 -- a row of a layer was read so, unless memory ran out
-abbrev pub ReadsRow : Kind → (limit at : ℕ) → LayerRow → Result (Row × Bor (List ℕ)) Error → Type 0
-ReadsRow k limit at given (Ok read) = row_of_layer k limit at given ≡ Ok (row_seen read.0, words_of read.1.now)
-ReadsRow k limit at given (Err e) = e ≢ error.Memory → row_of_layer k limit at given ≡ Err e
+abbrev pub ReadsLayerRow : Kind → (limit at : ℕ) → LayerRow → Result (Row × Bor (List ℕ)) Error → Type 0
+ReadsLayerRow k limit at given (Ok read) = row_of_layer k limit at given ≡ Ok (row_seen read.0, words_of read.1.now)
+ReadsLayerRow k limit at given (Err e) = e ≢ error.Memory → row_of_layer k limit at given ≡ Err e
 
 abbrev pub files_seen : List (Bor (List ℕ)) → List (List ℕ)
 files_seen layers = map (λ layer. layer.now) layers

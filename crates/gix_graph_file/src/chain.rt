@@ -7,7 +7,7 @@ ghost use Rattle.gix_commitgraph.specs.PackedReading.{words_of, is_above};
 ghost use Rattle.gix_commitgraph.specs.Renumbering.{rows_seen};
 ghost use Rattle.gix_graph_file.specs.FileRows.{place_named, edge_list, long_edge_list, second_said, parents_said};
 ghost use Rattle.gix_graph_file.specs.Chain.{is_kind, layer_rows, with_parts, with_layer, read_chain, HasChain, RefusesChain};
-ghost use Rattle.gix_graph_file.specs.ChainSteps.{HasTable, below_seen, joined, prepended, ReadsRow, files_seen, IsAtLayer, IsForRows, IsLayerFault};
+ghost use Rattle.gix_graph_file.specs.ChainSteps.{HasTable, below_seen, joined, prepended, ReadsLayerRow, files_seen, IsAtLayer, IsForRows, IsLayerFault};
 ghost use Rattle.gix_graph_file.specs.PackedParts.{seen, IsWhole};
 ghost use Rattle.gix_graph_file.specs.FileTable.{most_words};
 
@@ -196,7 +196,7 @@ fn row<'a>(
     requires tree { length given.tree.now ≡ id_len kind }
     requires numbers { 16 ≤ length given.numbers.now }
     requires few { at ≤ most_words }
-    ensures { ReadsRow kind limit at given.entry result }
+    ensures { ReadsLayerRow kind limit at given.entry result }
 {
     let LayerRow {
         number,

@@ -152,8 +152,8 @@ abbrev pub plain_of : ℕ → List (List ℕ) → Result Asked Fault
 plain_of n ids = if list_all begins_with_caret ids then Err fault.Usage else chosen_from (ids_from n ids)
 
 -- what reads words, of which the first is word n
-abbrev pub Reader : Type 0
-Reader = (n : ℕ) → List (List ℕ) → Result Asked Fault
+abbrev pub WordReader : Type 0
+WordReader = (n : ℕ) → List (List ℕ) → Result Asked Fault
 
 -- what words choose, with one more option
 abbrev pub changed_by : (Shown → Shown) → Result Asked Fault → Result Asked Fault
@@ -165,12 +165,12 @@ abbrev pub behind_option : List ℕ → List (List ℕ) → Option (List (List �
 behind_option name [] = None
 behind_option name (word ∷ words) = if bytes_eq word name then Some words else None
 
-abbrev pub either_of : (Shown → Shown) → (next other : Reader) → ℕ → List (List ℕ) → Option (List (List ℕ)) → Result Asked Fault
+abbrev pub either_of : (Shown → Shown) → (next other : WordReader) → ℕ → List (List ℕ) → Option (List (List ℕ)) → Result Asked Fault
 either_of change next other n words (Some behind) = changed_by change (next (n + 1) behind)
 either_of change next other n words None = other n words
 
 -- maybe this option, and words for the next reader. Without it the words are for another
-abbrev pub option_of : List ℕ → (Shown → Shown) → (next other : Reader) → Reader
+abbrev pub option_of : List ℕ → (Shown → Shown) → (next other : WordReader) → WordReader
 option_of name change next other n words = either_of change next other n words (behind_option name words)
 
 -- the number of at most so many digits that the first word spells, and the words behind it
@@ -178,46 +178,46 @@ abbrev pub first_number : (digits : ℕ) → List (List ℕ) → Option (ℕ × 
 first_number digits [] = None
 first_number digits (number ∷ words) = option_map (λ n. (n, words)) (number_in digits number)
 
-abbrev pub changed_by_number : (ℕ → Shown → Shown) → (next : Reader) → ℕ → Option (ℕ × List (List ℕ)) → Result Asked Fault
+abbrev pub changed_by_number : (ℕ → Shown → Shown) → (next : WordReader) → ℕ → Option (ℕ × List (List ℕ)) → Result Asked Fault
 changed_by_number change next n None = Err fault.Usage
 changed_by_number change next n (Some found) = changed_by (change found.0) (next (n + 2) found.1)
 
-abbrev pub numbered_of : (digits : ℕ) → (ℕ → Shown → Shown) → (next : Reader) → ℕ → List (List ℕ) → Option (List (List ℕ)) → Result Asked Fault
+abbrev pub numbered_of : (digits : ℕ) → (ℕ → Shown → Shown) → (next : WordReader) → ℕ → List (List ℕ) → Option (List (List ℕ)) → Result Asked Fault
 numbered_of digits change next n words (Some behind) = changed_by_number change next n (first_number digits behind)
 numbered_of digits change next n words None = next n words
 
 -- maybe this option and a number of at most so many digits, and words for the next reader
-abbrev pub number_option_of : List ℕ → (digits : ℕ) → (ℕ → Shown → Shown) → (next : Reader) → Reader
+abbrev pub number_option_of : List ℕ → (digits : ℕ) → (ℕ → Shown → Shown) → (next : WordReader) → WordReader
 number_option_of name digits change next n words = numbered_of digits change next n words (behind_option name words)
 
 -- ids, the first of them word n, and before them maybe options in one order, each at most once: `--until` and a time, `--merges` or
 -- `--no-merges`, `--skip` and a number, `-n` and a limit, `--count` or `--reverse`, `--timestamp`, `--parents`, `-z`
-unfoldable pub ended_of : Reader
+unfoldable pub ended_of : WordReader
 ended_of = option_of (codes "-z") (λ shown. record shown { line = record shown.line { ending = 0 } }) plain_of plain_of
 
-unfoldable pub named_of : Reader
+unfoldable pub named_of : WordReader
 named_of = option_of (codes "--parents") (λ shown. record shown { line = record shown.line { parents = true } }) ended_of ended_of
 
-unfoldable pub timed_of : Reader
+unfoldable pub timed_of : WordReader
 timed_of = option_of (codes "--timestamp") (λ shown. record shown { line = record shown.line { time = true } }) named_of named_of
 
-unfoldable pub formed_of : Reader
+unfoldable pub formed_of : WordReader
 formed_of =
     option_of (codes "--count") (λ shown. record shown { form = form.Count }) timed_of
     (option_of (codes "--reverse") (λ shown. record shown { form = form.Reverse }) timed_of timed_of)
 
-unfoldable pub limited_of : Reader
+unfoldable pub limited_of : WordReader
 limited_of = number_option_of (codes "-n") 9 (λ limit shown. record shown { limit = Some limit }) formed_of
 
-unfoldable pub skipped_of : Reader
+unfoldable pub skipped_of : WordReader
 skipped_of = number_option_of (codes "--skip") 9 (λ skip shown. record shown { skip = skip }) limited_of
 
-unfoldable pub merges_of : Reader
+unfoldable pub merges_of : WordReader
 merges_of =
     option_of (codes "--merges") (λ shown. record shown { merges = merges.Only }) skipped_of
     (option_of (codes "--no-merges") (λ shown. record shown { merges = merges.No }) skipped_of skipped_of)
 
-unfoldable pub until_of : Reader
+unfoldable pub until_of : WordReader
 until_of = number_option_of (codes "--until") 10 (λ seconds shown. record shown { until = Some (pos seconds) }) merges_of
 
 -- what is chosen of the commits in an order
