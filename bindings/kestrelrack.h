@@ -67,13 +67,13 @@ struct kestrelrack_answer {
  *          and ids of commits to be hidden, each after a ^. "ahead" has two ids, and "contains", "containing" and "merge-base" have two at
  *          least. "files" has the id of a tree, and before it maybe "-n" and a number of 1 to 9 digits, and maybe "-z". An id is 40 or 64
  *          hex digits. One space or one newline is between two words, and none at either end.
- *          Options of lists come before the ids, in this order, each at most once. "breadth", "topo" and "date" may have "--first-parent".
- *          "newest" and "oldest" may have "--since" and a number of 1 to 10 digits. "--until" and such a number leaves out commits of a
- *          later time. "--merges" leaves out those of fewer than two parents, and "--no-merges" those of more than one. "--skip" and a
- *          number of 1 to 9 digits leaves out so many of the others first. After "-n" and such a number no more lines are written than it
- *          says. With "--reverse" the last of these lines comes first. With "--count" their number is the only line. With "--timestamp" a
- *          line begins with the committer's seconds and a space. With "--parents" a space and the id of each parent follow its id. With
- *          "-z" it ends in a zero byte.
+ *          Options of lists come before the ids, in this order, each at most once. "breadth", "topo" and "date" may have
+ *          "--first-parent". "newest" and "oldest" may have "--since" and a number of 1 to 10 digits. "--until" and such a number leaves out commits of a later time.
+ *          "--merges" leaves out those of fewer than two parents, and "--no-merges" those of more than one. "--skip" and a number of 1 to 9
+ *          digits leaves out so many of the others first. After "-n" and such a number no more lines are written than it says. With
+ *          "--reverse" the last of these lines comes first. With "--count" their number is the only line. With "--timestamp" a line begins
+ *          with the committer's seconds and a space. With "--parents" a space and the id of each parent follow its id. With "-z" it ends in
+ *          a zero byte.
  * records  The objects, as `git cat-file --batch='%(objecttype) %(objectname) %(objectsize)'` prints them. They are read where they
  *          are: only an object that the walk looks up is copied, one at a time.
  * room     For the lines, each with a newline and none with a zero byte, except with "-z". The lines of a list and of "merge-base" are never longer than the
