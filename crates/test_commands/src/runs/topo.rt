@@ -37,7 +37,7 @@ fn goes_to_first_parents_alone_in_order(rt: HostRuntime) -> Result<(), Fail> {
             (&["topo", "--first-parent", "#8", "^#7"], "#8\n#6\n#5\n#3\n"),
             (&["date", "--first-parent", "#7", "^#8"], ""),
             (
-                &["date", "--first-parent", "--parents", "-n", "1", "#8"],
+                &["date", "--first-parent", "-n", "1", "--parents", "#8"],
                 "#8 #6 #7\n",
             ),
         ],
