@@ -153,7 +153,8 @@ fn is_name(name: &[u8]) -> bool
     !name.is_empty() && !name.contains(&b'/')
 }
 
-/// Adds a line for each entry that a walk shows, as long as one is still written, and goes into each tree. The recorder follows the path, and records nothing.
+/// Adds a line for each entry that a walk shows, as long as one is still written, and goes into each tree. The recorder follows the path,
+/// and records nothing.
 #[derive(Drop)]
 struct Lister {
     recorder: Recorder,

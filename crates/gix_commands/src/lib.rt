@@ -58,20 +58,20 @@ pub use stored::{run_named, run_stored};
 /// Runs the command that the words are over the records that the reader gives. The words are tested first, then the input is read
 /// whole, then the walk runs.
 ///
-/// `breadth`, `newest` and `oldest` write the id of each commit that the tips reach and the hidden tips don't, one a line: in the order
-/// in which commits are met, or in one by time. `topo` and `date` do this in an order in which no commit comes before its children.
-/// Options come behind the order's name, in the order in which they are here. `breadth` with `--first-parent` goes from each commit to its
-/// first parent alone, and `newest` and `oldest` with `--since` and a number leave out tips and parents whose committer's seconds are below
-/// it, and what they would meet by these alone. `--until` and a number leave out the lines of commits whose committer's seconds are above
-/// it, `--merges` those of commits with fewer than two parents, and `--no-merges` those of commits with more than one. `--skip` and a number
-/// leave out the first lines of these, and `-n` and a number those behind as many; behind the last nothing is read. With `--reverse` the last
-/// of these lines comes first, and with `--count` one line says how many they are. With `--timestamp` a line begins with the committer's
-/// seconds and a space, with `--parents` a space and the id of each parent follow its id, and with `-z` a byte 0 is at its end.
-/// `files` writes the mode, the id and the path of each entry of the tree and of the trees in it, one a line. `ahead` writes how many
-/// commits the first id reaches and the second doesn't, a space, and how many the second reaches and the first doesn't. `contains` writes
-/// those of its further ids that the first reaches, in the order given, one a line, and `containing` those that reach the first.
-/// `merge-base` writes the best common ancestors of the first id and of any of the others, in rising order: what these reach, and no other
-/// such commit reaches.
+/// `breadth`, `newest` and `oldest` write the id of each commit that the tips reach and the hidden tips don't, one a line: in the order in
+/// which commits are met, or in one by time. `topo` and `date` do this in an order in which no commit comes before its children. Options
+/// come behind the order's name, in the order in which they are here. `breadth`, `topo` and `date` with `--first-parent` go from each
+/// commit to its first parent alone, and `newest` and `oldest` with `--since` and a number leave out tips and parents whose committer's
+/// seconds are below it, and what they would meet by these alone. `--until` and a number leave out the lines of commits whose committer's
+/// seconds are above it, `--merges` those of commits with fewer than two parents, and `--no-merges` those of commits with more than one.
+/// `--skip` and a number leave out the first lines of these, and `-n` and a number those behind as many; behind the last nothing is read.
+/// With `--reverse` the last of these lines comes first, and with `--count` one line says how many they are. With `--timestamp` a line
+/// begins with the committer's seconds and a space, with `--parents` a space and the id of each parent follow its id, and with `-z` a byte
+/// 0 is at its end. `files` writes the mode, the id and the path of each entry of the tree and of the trees in it, one a line, and with
+/// `-n` and a number the first of these lines alone, though it reads all trees. `ahead` writes how many commits the first id reaches and
+/// the second doesn't, a space, and how many the second reaches and the first doesn't. `contains` writes those of its further ids that the
+/// first reaches, in the order given, one a line, and `containing` those that reach the first. `merge-base` writes the best common
+/// ancestors of the first id and of any of the others, in rising order: what these reach, and no other such commit reaches.
 ///
 /// # Errors
 /// `Usage` and `Id` where the words are no command, `Read` where the reader fails or gives no end when it is asked for the last time,

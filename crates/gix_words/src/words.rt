@@ -129,10 +129,11 @@ pub enum Command {
 }
 
 /// The command that the words are: `breadth`, `newest`, `oldest`, `topo` or `date`, maybe options, ids of tips, one at least, and ids of
-/// commits to be hidden, each after a `^`; or `files`, maybe `-n` and a limit, maybe `-z`, and one id; or `ahead` and two ids; or `contains`, `containing` or `merge-base` and two
-/// ids at least. The options come in this order, each at most once: `--first-parent` for `breadth`, `topo` and `date`, or `--since` and a time for `newest` and `oldest`,
-/// `--until` and a time, `--merges` or `--no-merges`, `--skip` and a number, `-n` and a limit, `--count` or `--reverse`,
-/// `--timestamp`, `--parents`, `-z`. An id is 40 or 64 hex digits, a time 1 to 10 decimal digits, another number 1 to 9.
+/// commits to be hidden, each after a `^`; or `files`, maybe `-n` and a limit, maybe `-z`, and one id; or `ahead` and two ids; or
+/// `contains`, `containing` or `merge-base` and two ids at least. The options come in this order, each at most once: `--first-parent` for
+/// `breadth`, `topo` and `date`, or `--since` and a time for `newest` and `oldest`, `--until` and a time, `--merges` or `--no-merges`,
+/// `--skip` and a number, `-n` and a limit, `--count` or `--reverse`, `--timestamp`, `--parents`, `-z`. An id is 40 or 64 hex digits, a
+/// time 1 to 10 decimal digits, another number 1 to 9.
 ///
 /// # Errors
 /// `Usage` where the words are no command, as where `files`, `ahead`, `contains`, `containing` or `merge-base` has a word that begins with `^` or `-`. `Id` at
