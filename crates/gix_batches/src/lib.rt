@@ -8,7 +8,7 @@
 ghost use Rattle.std.specs.Prelude.{◌≡◌, ◌≢◌, ℕ, List, [], map, Some, Err, IfOk, IfErr, string_bytes};
 ghost use Rattle.gix_commands.specs.Pages.{page_objects};
 ghost use Rattle.gix_commands.specs.Readable.{readable, reads_all_lines};
-ghost use Rattle.gix_commands.specs.Run.{Serves};
+ghost use Rattle.gix_commands.specs.Run.{ServesOver};
 ghost use Rattle.gix_graph_store.specs.WithRows.{with_rows};
 ghost use Rattle.gix_statement.specs.WholeStatement.{AreFed, AreNamed, Objects};
 ghost use Rattle.gix_words.specs.Words.{Commits};
@@ -153,10 +153,8 @@ fn batch_of(
         (readable (reads_all_lines (Commits listing.order (all_lines_to listing.limit) listing.tips.items listing.hidden.items))
         (with_rows [] store.now)) listing.limit listing.tips.items listing.hidden.items skip commits.old commits.new parents.old parents.new
         batch listing.order) }
-    ensures err { IfErr result (λ e. Serves
-        (readable (reads_all_lines (Commits listing.order (all_lines_to listing.limit) listing.tips.items listing.hidden.items))
-        (with_rows [] store.now)) [] (Some []) (Commits listing.order (all_lines_to listing.limit) listing.tips.items listing.hidden.items)
-        (Err e) (Some [])) }
+    ensures err { IfErr result (λ e. ServesOver store.now [] (Some [])
+        (Commits listing.order (all_lines_to listing.limit) listing.tips.items listing.hidden.items) (Err e) (Some [])) }
     ensures unwritten { IfErr result (λ e. e ≢ Fault.Write) }
     ensures commits_stay { IfErr result (λ e. commits.new ≡ commits.old) }
     ensures parents_stay { IfErr result (λ e. parents.new ≡ parents.old) }

@@ -13,8 +13,8 @@ use Rattle.gix_records.specs.Reading as reading
 use Rattle.gix_records.specs.Records.{Record, AreRecords}
 use Rattle.gix_words.specs.declared.fault.Fault.TheVariants as fault
 use Rattle.gix_commands.specs.Opening.{Opens, FailsToOpen}
-use Rattle.gix_commands.specs.Readable.{readable, reads_all_lines}
-use Rattle.gix_commands.specs.Run.{Serves, not_opened}
+use Rattle.gix_commands.specs.Readable.{reads_all_lines}
+use Rattle.gix_commands.specs.Run.{ServesOver, not_opened}
 use Rattle.gix_commands.proofs.MemoryFaults.{failed_so}
 use Rattle.gix_commands.proofs.ReadableObjects.{readable_agrees}
 use Rattle.gix_commands.proofs.RunFacts.{err_same, told_same, serves_sound}
@@ -76,6 +76,6 @@ module _ (words layers : List (List ℕ)) (has old : Option (List ℕ)) where
         over_disagreement result why f same is d = subst (λ (r : Result (Unit {0}) Fault). RunsOver words layers has old r old) (sym (same ∙ ap (λ x. Err x) is)) (of_disagreement why d)
 
         -- what was asked for was served
-        pub over_served : (new : Option (List ℕ)) (result : Result (Unit {0}) Fault) → StoredAgree rows objects → Serves (readable (reads_all_lines request) (with_rows rows objects)) rows old request result new → RunsOver words layers has old result new
+        pub over_served : (new : Option (List ℕ)) (result : Result (Unit {0}) Fault) → StoredAgree rows objects → ServesOver objects rows old request result new → RunsOver words layers has old result new
         over_served new result agree s =
-            served request rows read.0 read.1 t opens read.2 read.3 (subst (StoredAgree rows) read.4 agree) (subst (λ (o : Objects). Serves (readable (reads_all_lines request) (with_rows rows o)) rows old request result new) read.4 s)
+            served request rows read.0 read.1 t opens read.2 read.3 (subst (StoredAgree rows) read.4 agree) (subst (λ (o : Objects). ServesOver o rows old request result new) read.4 s)

@@ -104,6 +104,10 @@ pub data Serves (objects : Objects) (rows : List GraphRow) (old : Option (List �
       → Serves objects rows old request answer full → Appends old new some → Appends new full more
       → Serves objects rows old request (Err fault.Write) new
 
+-- The same where each row is of a commit: the commit is there too if nothing is stored at the row's id.
+abbrev pub ServesOver : Objects → List GraphRow → (old : Option (List ℕ)) → Request → Result (Unit {0}) Fault → Option (List ℕ) → Type 0
+ServesOver objects rows old request = Serves (readable (reads_all_lines request) (with_rows rows objects)) rows old request
+
 -- Over these words, a reader that has the bytes `has` and a writer that has the bytes `old`: which answers a run may give, and which bytes
 -- the writer then has.
 pub data Runs (words : List (List ℕ)) (has old : Option (List ℕ)) : Result (Unit {0}) Fault → Option (List ℕ) → Type 0 where
@@ -134,5 +138,5 @@ pub data RunsOver (words layers : List (List ℕ)) (has old : Option (List ℕ))
       → StoredDisagrees (stored records) (never_faulty (stored records)) rows (Row i) → RunsOver words layers has old (Err (fault.Disagrees i)) old
   served : (request : Request) (rows : List GraphRow) (input : List ℕ) (records : List Record) {answer : Result (Unit {0}) Fault} {new : Option (List ℕ)}
       → request_of words ≡ Ok request → Opens layers rows → Tells has input → AreRecords records input → StoredAgree rows (stored records)
-      → Serves (readable (reads_all_lines request) (with_rows rows (stored records))) rows old request answer new
+      → ServesOver (stored records) rows old request answer new
       → RunsOver words layers has old answer new

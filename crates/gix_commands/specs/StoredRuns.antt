@@ -7,12 +7,10 @@ use Rattle.gix_graph_check.specs.Sound.{AreSound, IsFirstUnsound}
 use Rattle.gix_graph_check.specs.declared.Disagreement.TheVariants.{Row}
 use Rattle.gix_graph_store.specs.Laws.{StoredAgree}
 use Rattle.gix_graph_store.specs.StoredRows.{StoredDisagrees}
-use Rattle.gix_graph_store.specs.WithRows.{with_rows}
 use Rattle.gix_words.specs.declared.fault.Fault.{Fault}
 use Rattle.gix_words.specs.declared.fault.Fault.TheVariants as fault
 use Rattle.gix_words.specs.Words.{Request, request_of}
-use Rattle.gix_commands.specs.Readable.{readable, reads_all_lines}
-use Rattle.gix_commands.specs.Run.{Serves}
+use Rattle.gix_commands.specs.Run.{ServesOver}
 use Rattle.gix_commands.specs.Walked.{never_faulty}
 
 -- why rows can't be used together with a store: one isn't sound, or something else is stored at its id, or memory ran out
@@ -29,5 +27,5 @@ pub data RunsStored (words : List (List ℕ)) (objects : Objects) (rows : List G
   no_command : {e : Fault} → request_of words ≡ Err e → RunsStored words objects rows old (Err e) old
   not_agreed : (request : Request) {e : Fault} → request_of words ≡ Ok request → FailsToAgree rows objects e → RunsStored words objects rows old (Err e) old
   served : (request : Request) {answer : Result (Unit {0}) Fault} {new : Option (List ℕ)} → request_of words ≡ Ok request → AreSound rows
-      → StoredAgree rows objects → Serves (readable (reads_all_lines request) (with_rows rows objects)) rows old request answer new
+      → StoredAgree rows objects → ServesOver objects rows old request answer new
       → RunsStored words objects rows old answer new

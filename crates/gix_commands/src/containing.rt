@@ -1,10 +1,7 @@
 //! Which commits contain another one.
-ghost use Rattle.gix_commands.specs.Readable.{readable};
-ghost use Rattle.gix_commands.specs.Run.{Serves};
+ghost use Rattle.gix_commands.specs.Run.{ServesOver};
 ghost use Rattle.gix_words.specs.Words.{Containing};
-ghost use Rattle.gix_graph_store.specs.WithRows.{with_rows};
 ghost use Rattle.gix_revwalk.specs.Agreeing.{rows_in};
-ghost use Rattle.std.specs.Prelude.{false};
 
 use crate::commits::Lent;
 use crate::contains::lines_of;
@@ -31,8 +28,8 @@ pub fn write_containing<W: Write>(
     graph: Option<&Graph>,
     writer: &mut W,
 ) -> Result<(), Fault>
-    ensures { Serves (readable false (with_rows (rows_in graph.entry) store.now)) (rows_in graph.entry) (W.contents writer.old)
-        (Containing target tips.items) result (W.contents writer.new) }
+    ensures { ServesOver store.now (rows_in graph.entry) (W.contents writer.old) (Containing target tips.items) result
+        (W.contents writer.new) }
 {
     let objects = Lent::over(store, graph, Parents::All);
     let those = containing(alloc, target, tips.as_slice(), &objects, graph)?;

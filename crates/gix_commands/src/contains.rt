@@ -1,11 +1,9 @@
 //! Which of some commits a commit contains.
-ghost use Rattle.std.specs.Prelude.{◌≡◌, IfOk, false};
+ghost use Rattle.std.specs.Prelude.{◌≡◌, IfOk};
 ghost use Rattle.std.specs.List.{flat_map};
-ghost use Rattle.gix_commands.specs.Readable.{readable};
-ghost use Rattle.gix_commands.specs.Run.{Serves};
+ghost use Rattle.gix_commands.specs.Run.{ServesOver};
 ghost use Rattle.gix_commands.specs.Walked.{line_of};
 ghost use Rattle.gix_words.specs.Words.{Contained};
-ghost use Rattle.gix_graph_store.specs.WithRows.{with_rows};
 ghost use Rattle.gix_revwalk.specs.Agreeing.{rows_in};
 
 use crate::commits::Lent;
@@ -33,8 +31,7 @@ pub fn write_contained<W: Write>(
     graph: Option<&Graph>,
     writer: &mut W,
 ) -> Result<(), Fault>
-    ensures { Serves (readable false (with_rows (rows_in graph.entry) store.now)) (rows_in graph.entry) (W.contents writer.old)
-        (Contained tip ids.items) result (W.contents writer.new) }
+    ensures { ServesOver store.now (rows_in graph.entry) (W.contents writer.old) (Contained tip ids.items) result (W.contents writer.new) }
 {
     let objects = Lent::over(store, graph, Parents::All);
     let those = contained(alloc, &[tip], ids.as_slice(), &objects, graph)?;

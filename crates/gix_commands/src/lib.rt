@@ -8,11 +8,9 @@
 
 ghost use Rattle.std.specs.Prelude.{◌≡◌, ◌≢◌, ℕ, List, [], map, Some, Err, string_bytes};
 ghost use Rattle.gix_records.specs.Records.{Record, AreRecords};
-ghost use Rattle.gix_commands.specs.Readable.{readable, reads_all_lines};
-ghost use Rattle.gix_commands.specs.Run.{Runs, Serves};
+ghost use Rattle.gix_commands.specs.Run.{Runs, ServesOver};
 ghost use Rattle.gix_statement.specs.WholeStatement.{AreFed, Objects, Promises, Row};
 ghost use Rattle.gix_words.specs.Words.{Commits, request_of, request_of_command};
-ghost use Rattle.gix_graph_store.specs.WithRows.{with_rows};
 ghost use Rattle.gix_revwalk.specs.Agreeing.{rows_in};
 
 mod ahead;
@@ -114,8 +112,8 @@ fn serve<W: Write>(
     graph: Option<&Graph>,
     writer: &mut W,
 ) -> Result<(), Fault>
-    ensures { Serves (readable (reads_all_lines (request_of_command command)) (with_rows (rows_in graph.entry) store.now))
-        (rows_in graph.entry) (W.contents writer.old) (request_of_command command) result (W.contents writer.new) }
+    ensures { ServesOver store.now (rows_in graph.entry) (W.contents writer.old) (request_of_command command) result
+        (W.contents writer.new) }
 {
     match command {
         Command::Commits {
@@ -154,8 +152,7 @@ fn serve_commits<W: Write>(
     graph: Option<&Graph>,
     writer: &mut W,
 ) -> Result<(), Fault>
-    ensures { Serves (readable (reads_all_lines (Commits listing.order listing.shown listing.ends.tips.items listing.ends.hidden.items))
-        (with_rows (rows_in graph.entry) store.now)) (rows_in graph.entry) (W.contents writer.old)
+    ensures { ServesOver store.now (rows_in graph.entry) (W.contents writer.old)
         (Commits listing.order listing.shown listing.ends.tips.items listing.ends.hidden.items) result (W.contents writer.new) }
 {
     let Listing { order, shown, ends } = listing;
