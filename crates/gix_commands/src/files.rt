@@ -1,12 +1,10 @@
 //! The lines of the entries of a tree.
-ghost use Rattle.std.specs.Prelude.{◌≡◌, ◌++◌, ◌∷◌, [], length, take, IfErr, IfOk, IfSome, OnErr, OnOk, false};
+ghost use Rattle.std.specs.Prelude.{◌≡◌, ◌++◌, ◌∷◌, [], length, take, IfErr, IfOk, IfSome, OnErr, OnOk};
 ghost use Rattle.gix_object.specs.TreeRefIter.{entry_of};
 ghost use Rattle.gix_commands.specs.Files.{AreLinesOf, IsTreeFault, file_line, six_octal_digits};
 ghost use Rattle.gix_commands.specs.Lister.{fresh_noted, is_name, behind_one, lines_at, turned, with_entry, with_tree};
-ghost use Rattle.gix_commands.specs.Readable.{readable};
-ghost use Rattle.gix_commands.specs.Run.{Serves};
+ghost use Rattle.gix_commands.specs.Run.{ServesOver};
 ghost use Rattle.gix_words.specs.Words.{Files};
-ghost use Rattle.gix_graph_store.specs.WithRows.{with_rows};
 ghost use Rattle.gix_revwalk.specs.Agreeing.{rows_in};
 
 use crate::commits::Lent;
@@ -41,8 +39,7 @@ pub fn write_files<W: Write>(
     graph: Option<&Graph>,
     writer: &mut W,
 ) -> Result<(), Fault>
-    ensures { Serves (readable false (with_rows (rows_in graph.entry) store.now)) (rows_in graph.entry) (W.contents writer.old)
-        (Files shown tree) result (W.contents writer.new) }
+    ensures { ServesOver store.now (rows_in graph.entry) (W.contents writer.old) (Files shown tree) result (W.contents writer.new) }
 {
     let mut lines = lines_of_tree(alloc, shown, tree, Lent::over(store, graph, Parents::All))?;
     write_out(&mut lines, writer)
