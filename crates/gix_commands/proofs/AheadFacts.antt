@@ -7,7 +7,8 @@ use Rattle.gix_words.specs.declared.fault.Fault.TheVariants as fault
 use Rattle.gix_commands.specs.Ahead.{Counts, FailsToCount, Numbers, ahead_line}
 use Rattle.gix_commands.specs.Output.{BreaksOff}
 use Rattle.gix_commands.specs.Run.{Serves}
-use Rattle.gix_commands.specs.Walked.{Walk, Answers, IsWalkFault, given, failed}
+use Rattle.gix_revwalk.specs.Infos.{given}
+use Rattle.gix_commands.specs.Walked.{Walk, Answers, IsWalkFault, failed}
 use Rattle.gix_commands.proofs.BrokenOff.{written_or_begun}
 use Rattle.gix_commands.proofs.MemoryFaults.{failed_so}
 

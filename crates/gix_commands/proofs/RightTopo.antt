@@ -9,13 +9,13 @@ use Rattle.gix_statement.specs.WholeStatement.{Allows, Chooses, InEach, IsThere,
 use Rattle.gix_commands.specs.Chosen.{line_in, page_form}
 use Rattle.gix_commands.specs.Run.{Serves, cut_off}
 use Rattle.gix_commands.specs.TopoWalked.{Walk, Answers, IsWalkFault}
-use Rattle.gix_commands.specs.Walked.{AsksForMore, failed, given}
+use Rattle.gix_revwalk.specs.Infos.{given}
+use Rattle.gix_commands.specs.Walked.{AsksForMore, failed}
 use Rattle.gix_commands.specs.Pages.{page_objects}
 use Rattle.gix_commands.proofs.CommitRuns.{ids_in}
 use Rattle.gix_commands.proofs.PageCommits.{fed_history}
-use Rattle.gix_commands.proofs.PageLists.{begins_so, whole_so}
+use Rattle.gix_commands.proofs.PageLists.{Lists, begins_so, whole_so}
 use Rattle.gix_commands.proofs.OrderNames.{down_name, is_order}
-use Rattle.gix_commands.proofs.Turns.{Lists}
 use Rattle.gix_commands.proofs.Right.{IsRight, begun_right, cut_right}
 use Rattle.gix_commands.proofs.WrittenBytes.{allows_all, allows_fewer, allows_least, begun_bytes, ended_bytes, no_more}
 use Rattle.gix_commands.proofs.SameLists.{listed_down}

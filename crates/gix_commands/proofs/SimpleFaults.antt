@@ -30,7 +30,8 @@ use Rattle.gix_commands.specs.Checked.{first_lost}
 use Rattle.gix_commands.specs.Readable.{readable, is_first}
 use Rattle.gix_commands.specs.Run as run
 use Rattle.gix_commands.specs.Run.{Serves, cut_off}
-use Rattle.gix_commands.specs.Walked.{Walk, Answers, IsWalkFault, failed, given as all_given}
+use Rattle.gix_revwalk.specs.Infos.{given as all_given}
+use Rattle.gix_commands.specs.Walked.{Walk, Answers, IsWalkFault, failed}
 use Rattle.gix_commands.proofs.ReadableObjects.{readable_whole}
 use Rattle.gix_commands.proofs.CommitRuns.{ends_well}
 use Rattle.gix_commands.proofs.InternalFacts.{next_sound}
