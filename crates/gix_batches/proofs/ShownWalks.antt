@@ -22,7 +22,8 @@ use Rattle.gix_commands.specs.Checked.{CheckedWalk, Checks, GoesOnWhole, HavePar
 use Rattle.gix_commands.specs.Chosen.{kept_in, page_choice}
 use Rattle.gix_commands.specs.Pages.{HaveTexts, page_objects}
 use Rattle.gix_commands.specs.TopoWalked as topo
-use Rattle.gix_commands.specs.Walked.{Walk, Answers, AsksForMore, Ends, EndsBy, IsWalkFault, StartsFrom, before, cut_short, enough, failed as fell, finished, given}
+use Rattle.gix_revwalk.specs.Infos.{given}
+use Rattle.gix_commands.specs.Walked.{Walk, Answers, AsksForMore, Ends, EndsBy, IsWalkFault, StartsFrom, before, cut_short, enough, failed as fell, finished}
 use Rattle.gix_commands.proofs.CheckedWalks.{IsChecked, enough_on, from_by, well, lacking}
 use Rattle.gix_commands.proofs.CommitRuns.{ids_in}
 use Rattle.gix_commands.proofs.RightRuns.{AreRead, down_there, simple_there}

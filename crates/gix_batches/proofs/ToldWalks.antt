@@ -11,7 +11,7 @@ use Rattle.gix_object.specs.Object.{Objects}
 use Rattle.gix_revwalk.specs.Agreeing.{IsAgreeing}
 use Rattle.gix_revwalk.specs.Commits.{by_mode, parents_of, time_of}
 use Rattle.gix_revwalk.specs.Ids.{ids_of}
-use Rattle.gix_revwalk.specs.Infos.{IsInfo, IsRowGeneration}
+use Rattle.gix_revwalk.specs.Infos.{IsInfo, IsRowGeneration, given}
 use Rattle.gix_revwalk.specs.Texts.{text_next}
 use Rattle.gix_revwalk.specs.declared.CommitTimeOrder.{CommitTimeOrder}
 use Rattle.gix_revwalk.specs.declared.Info.{Info}
@@ -29,7 +29,8 @@ use Rattle.gix_topo.specs.declared.Sorting.{Sorting as TopoSorting}
 use Rattle.gix_topo.proofs.Run.Theorem.{begins_text}
 use Rattle.gix_commands.specs.TopoWalked as topo
 use Rattle.gix_commands.specs.TopoWalked.{plan_from}
-use Rattle.gix_commands.specs.Walked.{Walk, Answers, StartsFrom, accepts_all, given, never_faulty, objects_of}
+use Rattle.gix_revwalk.specs.Asking.{accepts_all}
+use Rattle.gix_commands.specs.Walked.{Walk, Answers, StartsFrom, never_faulty, objects_of}
 use Rattle.gix_commands.proofs.SimpleBegins.{begun, gave, met_before}
 use Rattle.gix_commands.proofs.SimpleRuns.{from_pending}
 use Rattle.gix_commands.proofs.TopoRuns.{no_faults}

@@ -9,7 +9,8 @@ use Rattle.gix_batches.specs.declared.commit.Commit.{Commit}
 use Rattle.gix_batches.specs.declared.commit.CommitId.{CommitId}
 use Rattle.gix_batches.specs.declared.commit.Ending.{Ending}
 use Rattle.gix_batches.specs.declared.commit.Ending.TheVariants.{Ended, More, Small, Failed}
-use Rattle.gix_commands.specs.Walked.{AsksForMore, EndsBy, Ends, given}
+use Rattle.gix_revwalk.specs.Infos.{given}
+use Rattle.gix_commands.specs.Walked.{AsksForMore, EndsBy, Ends}
 use Rattle.gix_batches.specs.Slices.{Told, commits_of, ids_of, told_by}
 
 -- how many commits are passed, and how many are put at most

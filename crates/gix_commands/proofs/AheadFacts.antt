@@ -4,8 +4,9 @@ use Rattle.gix_commands.proofs.Common.{Yields, ObjectId, Objects, GraphRow, Info
 use Rattle.gix_revwalk.specs.declared.Parents.TheVariants as mode
 use Rattle.gix_simple.specs.declared.Sorting.TheVariants as sorting
 use Rattle.gix_words.specs.declared.fault.Fault.TheVariants as fault
+use Rattle.gix_revwalk.specs.Infos.{given}
 use Rattle.gix_commands.specs.Ahead.{Counts, FailsToCount, Numbers}
-use Rattle.gix_commands.specs.Walked.{Walk, Answers, IsWalkFault, given, failed}
+use Rattle.gix_commands.specs.Walked.{Walk, Answers, IsWalkFault, failed}
 
 module _ {W E : Type 0} (Steps : W → Option (Result Info E) → W → Type 0) (Tells : E → Fault → Type 0) (walk : W) (infos : List Info) where
   -- the walk's answer was a fault

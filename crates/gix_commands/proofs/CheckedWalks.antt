@@ -8,7 +8,8 @@ use Rattle.gix_simple.specs.declared.Error.{Error}
 use Rattle.gix_words.specs.declared.fault.Fault.TheVariants as fault
 use Rattle.gix_words.specs.Faults.{fault_of_walk}
 use Rattle.gix_commands.specs.Checked.{CheckedWalk, Checks, HasParents, HaveParents, LacksParent, Looks, gone_on, ended, failed, gave, lost}
-use Rattle.gix_commands.specs.Walked.{Walk, Answers, AsksForMore, IsWalkFault, given}
+use Rattle.gix_revwalk.specs.Infos.{given}
+use Rattle.gix_commands.specs.Walked.{Walk, Answers, AsksForMore, IsWalkFault}
 use Rattle.gix_commands.specs.Walked as walked
 
 -- which fault of a run a fault of a checked walk is: itself

@@ -19,17 +19,18 @@ pub use Rattle.gix_object.specs.Find.{IsExistingFault}
 pub use Rattle.gix_object.specs.Object.{Object, Objects}
 pub use Rattle.gix_records.specs.Records.{bad, IsRecordFault, kind_word, put_in, stored}
 pub use Rattle.gix_revwalk.specs.Agreeing.{IsAgreeing, RowAgrees, rows_in}
-pub use Rattle.gix_revwalk.specs.BreadthOrder.{first_new, IsBreadthOrder, named_by}
+pub use Rattle.gix_revwalk.specs.BreadthOrder.{first_new, named_by}
 pub use Rattle.gix_revwalk.specs.Commits.{by_mode, commit_at, commit_of_kind, commit_of_object, parents_in, parents_of, ReadsWhole, time_in, time_of}
 pub use Rattle.gix_revwalk.specs.Ids.{AreDistinct, ids_of, new_ids}
 pub use Rattle.gix_revwalk.specs.Pending.{Pending}
 pub use Rattle.gix_revwalk.specs.Texts.{next_in, scanned, text_next, text_parents_of_kind}
-pub use Rattle.gix_revwalk.specs.TimeOrder.{IsNoWorse, IsTimeOrder}
+pub use Rattle.gix_revwalk.specs.ListsByTurn.{IsBeginningBy, IsListBy}
+pub use Rattle.gix_revwalk.specs.TimeOrder.{IsNextOne, IsNoWorse}
 pub use Rattle.gix_revwalk.specs.declared.CommitTimeOrder.{CommitTimeOrder}
 pub use Rattle.gix_revwalk.specs.declared.CommitTimeOrder.TheVariants.{NewestFirst}
 pub use Rattle.gix_revwalk.specs.declared.Info.{Info}
 pub use Rattle.gix_revwalk.specs.declared.Parents.{Parents}
-pub use Rattle.gix_simple.specs.Laws.{GivesBeginning, IsBeginning, IsBegunRun, IsFresh, IsGivenBy, IsInOrder, IsNewWalk, next_of, ReadsParents}
+pub use Rattle.gix_simple.specs.Laws.{GivesBeginning, IsBegunRun, IsFresh, IsGivenBy, IsNewWalk, next_of, ReadsParents}
 pub use Rattle.gix_simple.specs.Walk.{accepted, broken, by_row, by_store, Chooses, Concludes, cutoff, dropped, enqueued, Enqueues, faulty_history, FirstStep, from_row, from_store, hidden, initial, is_older, known, later, more}
 pub use Rattle.gix_simple.specs.Walk.{no_memory_after, NoMemory, none, paints, ReadsTime, Steps, stops, store_fails, StoreFails, Takes, time_order, took, Treated, Treats, TreatsAll, unasked, unhidden, unrowed}
 pub use Rattle.gix_topo.specs.Walk.{Built, fresh_builder, IsCommitRead, IsFault, IsFirstReady, IsNextReady, IsNumberOf, IsReached, TopoBuilder, TopoPlan}
@@ -54,7 +55,7 @@ pub use Rattle.gix_records.proofs.RecordFacts.{no_bad_record, only_reading}
 pub use Rattle.gix_revwalk.proofs.Reached.{reach_more, reaches_from}
 pub use Rattle.gix_revwalk.proofs.ReadsWhole.{no_fault, row_parents, row_stands, scan_is, walked_within}
 pub use Rattle.gix_revwalk.proofs.Rows.{kept_either, none_agree}
-pub use Rattle.gix_revwalk.proofs.SomeOrder.{breadth_exists, reached_list}
+pub use Rattle.gix_revwalk.proofs.SomeOrder.{reached_list}
 pub use Rattle.gix_revwalk.proofs.TextParents.{commit_stored, text_whole}
 pub use Rattle.gix_simple.proofs.Corollaries.{all_kept, begun_once, each_once}
 pub use Rattle.gix_simple.proofs.Difference.{begun_whole, drawn_whole, loosened, no_start, whole_from}
@@ -66,5 +67,6 @@ pub use Rattle.gix_commands.specs.Output.{Adds, Grows, WritesAll}
 pub use Rattle.gix_commands.specs.Run.{bad_record, counted, disagrees, joined, no_command, not_ahead, not_behind, not_built, not_joined, not_listed, not_reaching, not_read, not_selected, not_walked, reaching, Runs, RunsOver, selected, served, unserved, walked, walked_down}
 pub use Rattle.gix_commands.specs.Run.{without_memory}
 pub use Rattle.gix_commands.specs.TopoWalked.{IsBuiltFrom, plan_from}
-pub use Rattle.gix_commands.specs.Walked.{accepts_all, before, cut_short, Ends, EndsBy, EndsWithin, enough, FailsAtStart, finished, IsMadeOf, IsStartFault, line_of, lines_of, never_faulty, objects_of, StartsFrom}
+pub use Rattle.gix_revwalk.specs.Asking.{accepts_all}
+pub use Rattle.gix_commands.specs.Walked.{before, cut_short, Ends, EndsBy, EndsWithin, enough, FailsAtStart, finished, IsMadeOf, IsStartFault, line_of, lines_of, never_faulty, objects_of, StartsFrom}
 pub use Rattle.gix_statement.specs.WholeStatement.{all, allowed, AreEntries, AreMadeReady, AreTips, by_bytes, bytes_in, commits, digits_in, Entry, entry_line, Follows, IsLimit, IsNumber, IsNumberShown, IsTree, since, Spells}

@@ -5,7 +5,8 @@ use Rattle.gix_commitgraph.specs.declared.ParentPlace.{ParentPlace}
 use Rattle.gix_commitgraph.specs.declared.ParentPlace.TheVariants.{At, Fault}
 use Rattle.gix_commitgraph.specs.PackedReading.{words_of}
 use Rattle.gix_commitgraph.proofs.Packed.Takes.{chosen}
-use Rattle.gix_graph_file.specs.FileRows.{no_parent, flag, place_named, Parents, with_parent, edge_list, long_edge_list, second_said, parents_said}
+use Rattle.gix_commitgraph.specs.Packed.{flag}
+use Rattle.gix_graph_file.specs.FileRows.{no_parent, place_named, Parents, with_parent, edge_list, long_edge_list, second_said, parents_said}
 use Rattle.gix_statement.specs.CommitGraph.{number_from, number_at, AreParents, none, single, pair, many, AreFurther, last, next}
 use Rattle.gix_commands.proofs.FileNumbers.{four}
 use Rattle.gix_commands.proofs.FileChunks.{eqb-false}

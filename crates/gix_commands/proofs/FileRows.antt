@@ -9,12 +9,12 @@ use Rattle.gix_hash.specs.Id.{id_len, id_of}
 use Rattle.gix_commitgraph.specs.declared.ParentPlace.{ParentPlace}
 use Rattle.gix_commitgraph.specs.declared.ParentPlace.TheVariants.{At}
 use Rattle.gix_commitgraph.specs.Rows.{GraphRow}
-use Rattle.gix_commitgraph.specs.PackedReading.{word_at, is_above}
+use Rattle.gix_commitgraph.specs.PackedReading.{word_at, is_above, with_row}
 use Rattle.gix_commitgraph.proofs.Packed.Takes.{chosen}
 use Rattle.gix_graph_file.specs.declared.error.Error.{Error}
 use Rattle.gix_graph_file.specs.declared.error.Error.TheVariants as error
 use Rattle.gix_graph_file.specs.FileTable.{long_at}
-use Rattle.gix_graph_file.specs.FileRows.{Parents, parents_said, row_said, with_row, row_then, rows_from}
+use Rattle.gix_graph_file.specs.FileRows.{Parents, parents_said, row_said, row_then, rows_from}
 use Rattle.gix_statement.specs.CommitGraph.{number_at, bytes_at, AreParents}
 use Rattle.gix_commands.proofs.FileNumbers.{word_is, long_is}
 use Rattle.gix_commands.proofs.FileParents.{NoFault, Left, parents_say}

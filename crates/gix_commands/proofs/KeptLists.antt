@@ -1,10 +1,11 @@
 -- Lists in order of what starts reach through what is followed, and hidden tips don't reach.
-use Rattle.std.proofs.Common.{◌≡◌, ℕ, zero, suc, ℤ, List, [], ◌∷◌, take, slice_get, filter, Bool, true, false, not, cond, ◌&&◌, ◌||◌, Option, None, Some, MatchOption, Contains, refl, sym, ap, ◌∙◌, true≢false}
+use Rattle.std.proofs.Common.{◌≡◌, ℤ, List, [], ◌∷◌, filter, Bool, true, false, not, cond, ◌&&◌, ◌||◌, Option, None, Contains, refl, sym, ap, ◌∙◌, true≢false}
 use Rattle.gix_commands.proofs.Common.{not-true, not_from_false, false_from_ne_true, cond-true, cond-false, ObjectId, is_same, step, same_is, no_member, filter_within, Objects, CommitTimeOrder, Parents}
-use Rattle.gix_commands.proofs.Common.{Pending, by_mode, time_of, first_new, named_by, ids_of, new_ids, walked_within, IsInOrder, cutoff, is_older, all_kept, each_once, IsInWalk}
+use Rattle.gix_commands.proofs.Common.{Pending, by_mode, time_of, ids_of, new_ids, walked_within, IsListBy, IsNextOne, cutoff, is_older, all_kept, each_once, IsInWalk}
 use Rattle.gix_hash.specs.Reach.{Reaches, Tells, start}
 use Rattle.gix_revwalk.specs.declared.Parents.TheVariants as mode
-use Rattle.gix_revwalk.specs.TimeOrder.{IsNextByTime, IsPending}
+use Rattle.gix_revwalk.proofs.Beginnings.{begins_empty}
+use Rattle.gix_revwalk.proofs.SomeOrder.{next_is_pending}
 use Rattle.gix_simple.specs.declared.Sorting.{Sorting}
 use Rattle.gix_simple.specs.Building.{recent, timed}
 use Rattle.gix_commands.proofs.SameOrders.{in_new, new_in, filtered, filtered_in}
@@ -78,18 +79,8 @@ cut_all mode.All by e = e
 cut_all mode.First by e = refl
 
 -- a list of nothing
-none_first : (next : ObjectId → List ObjectId) (k : ℕ) → ◌≡◌ {A = Option ObjectId} (slice_get [] k) (first_new (named_by next [] (take k [])) (take k []))
-none_first next zero = refl
-none_first next (suc k) = refl
-
-none_best : (order : CommitTimeOrder) (time : ObjectId → ℤ) (next : ObjectId → List ObjectId) (k : ℕ)
-    → MatchOption (slice_get [] k) ((i : ObjectId) → IsPending next [] (take k []) i → ⊥) (IsNextByTime order time next [] (take k []))
-none_best order time next zero = λ i p. no_member i p.0
-none_best order time next (suc k) = λ i p. no_member i p.0
-
-pub empty_order : (o : Option CommitTimeOrder) (time : ObjectId → ℤ) (next : ObjectId → List ObjectId) → IsInOrder o time next [] []
-empty_order None time next = λ k b. none_first next k
-empty_order (Some order) time next = λ k b. none_best order time next k
+pub empty_order : (o : Option CommitTimeOrder) (time : ObjectId → ℤ) (next : ObjectId → List ObjectId) → IsListBy (IsNextOne o time next []) []
+empty_order o time next = record { begins = begins_empty _; ends = λ i n. no_member i (next_is_pending next [] o time [] i n).0 }
 
 -- a list in order is one of what is reached, where it is decided what is hidden
 module _ (objects : Objects) (next follow : ObjectId → List ObjectId) (within : (c i : ObjectId) → Contains (follow c) i → Contains (next c) i) (from hidden : List ObjectId) (hides : ObjectId → Bool) (tells : Tells hides (Reaches next hidden)) where
@@ -113,7 +104,7 @@ module _ (objects : Objects) (next follow : ObjectId → List ObjectId) (within 
   shown_back i (start s) out = start (filtered_in (λ j. not (hides j)) (new_ids (λ j. false) from) i (new_in from i s) (open_to i out))
   shown_back i (step {c = c} r n) out = step (shown_back c r (λ h. out (step h (within c i n)))) (filtered_in (λ j. not (hides j)) (follow c) i n (open_to i out))
 
-  pub list_of : (order : Option CommitTimeOrder) (ids : List ObjectId) → IsInOrder order (time_of objects) kept starts_kept ids → ListsBy objects next follow order from hidden ids
+  pub list_of : (order : Option CommitTimeOrder) (ids : List ObjectId) → IsListBy (IsNextOne order (time_of objects) kept starts_kept) ids → ListsBy objects next follow order from hidden ids
   list_of order ids h =
       let each = each_once order (time_of objects) kept starts_kept ids h in
       record { once = each.0; exact = λ i. (λ c. is_shown i ((each.1 i).0 c), λ s. (each.1 i).1 (shown_back i s.reached s.outside)); in_order = (hides, tells, h) }

@@ -39,7 +39,6 @@ mod BasesRuns
 mod TextNumbers
 mod OverGraphs
 mod OverStores
-mod Turns
 mod TextLines
 mod FileNumbers
 mod FileChunks

@@ -5,14 +5,15 @@ use Rattle.gix_hash.specs.Reach.{Reaches, Tells}
 use Rattle.gix_object.specs.Object.{Objects}
 use Rattle.gix_revwalk.specs.Commits.{by_mode, parents_of, time_of}
 use Rattle.gix_revwalk.specs.Ids.{AreDistinct, new_ids}
+use Rattle.gix_revwalk.specs.ListsByTurn.{IsListBy}
+use Rattle.gix_revwalk.specs.TimeOrder.{IsNextOne}
 use Rattle.gix_revwalk.specs.Texts.{text_next}
 use Rattle.gix_revwalk.specs.declared.CommitTimeOrder.{CommitTimeOrder}
 use Rattle.gix_revwalk.specs.declared.Parents.{Parents}
 use Rattle.gix_revwalk.specs.declared.Parents.TheVariants as mode
-use Rattle.gix_simple.specs.Laws.{IsInOrder}
 use Rattle.gix_simple.specs.Walk.{time_order, cutoff, is_older}
 use Rattle.gix_simple.specs.declared.Sorting.{Sorting}
-use Rattle.gix_topo.specs.Laws.{IsSorted}
+use Rattle.gix_topo.specs.Laws.{IsNextBy}
 use Rattle.gix_topo.specs.WalkSet.{IsInWalk, IsAcyclicIn}
 use Rattle.gix_topo.specs.declared.Sorting.{Sorting as TopoSorting}
 use Rattle.gix_commands.specs.Walked.{line_of}
@@ -37,7 +38,7 @@ kept_tips objects by tips = filter (λ i. not (is_older (time_of objects i) (cut
 abbrev pub IsListedBy : Objects → (next follow : ObjectId → List ObjectId) → Option CommitTimeOrder → (from hidden ids : List ObjectId) → Type 0
 IsListedBy objects next follow order from hidden ids =
     (hides : ObjectId → Bool) × Tells hides (Reaches next hidden)
-    × IsInOrder order (time_of objects) (λ c. filter (λ i. not (hides i)) (follow c)) (filter (λ i. not (hides i)) (new_ids (λ i. false) from)) ids
+    × IsListBy (IsNextOne order (time_of objects) (λ c. filter (λ i. not (hides i)) (follow c)) (filter (λ i. not (hides i)) (new_ids (λ i. false) from))) ids
 
 -- each commit that the starts reach through what is followed, and the hidden tips don't reach through parents, is there once, and no other, in
 -- order
@@ -66,4 +67,4 @@ pub record ListsDown (objects : Objects) (next walked : ObjectId → List Object
   pub once : AreDistinct ids
   pub shown : (i : ObjectId) → Contains ids i → IsInWalk walked next tips ends i
   pub all : IsAcyclicIn walked (IsInWalk walked next tips ends) → (i : ObjectId) → IsInWalk walked next tips ends i → Contains ids i
-  pub in_order : IsSorted by (time_of objects) walked (IsInWalk walked next tips ends) tips ids
+  pub in_order : IsListBy (IsNextBy by (time_of objects) walked (IsInWalk walked next tips ends) tips) ids

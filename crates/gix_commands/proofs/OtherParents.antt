@@ -1,7 +1,7 @@
 -- A list by some parents is one by others that are the same of all that is reached.
-use Rattle.std.proofs.Common.{◌≡◌, ℕ, zero, suc, ℤ, List, [], ◌∷◌, ◌++◌, filter, take, slice_get, false, not, Option, None, Some, Contains, MatchOption, flat_map, refl, sym, ap, subst, ⊎_elim, ◌∙◌}
-use Rattle.gix_commands.proofs.Common.{Contains-append_left, Contains-append_right, ObjectId, Objects, CommitTimeOrder, Parents, step, IsBreadthOrder, first_new, by_mode}
-use Rattle.gix_commands.proofs.Common.{parents_of, time_of, new_ids, IsTimeOrder, IsInOrder, cutoff, is_older, Contains-here, Contains-there}
+use Rattle.std.proofs.Common.{◌≡◌, ℕ, zero, suc, ℤ, List, [], ◌∷◌, ◌++◌, filter, take, false, not, Option, None, Some, Contains, flat_map, refl, sym, ap, subst, ⊎_elim, ◌∙◌}
+use Rattle.gix_commands.proofs.Common.{Contains-append_left, Contains-append_right, ObjectId, Objects, CommitTimeOrder, Parents, step, first_new, by_mode}
+use Rattle.gix_commands.proofs.Common.{parents_of, time_of, new_ids, IsListBy, IsNextOne, cutoff, is_older, Contains-here, Contains-there}
 use Rattle.gix_commands.proofs.Common.{Contains-cons_cases, no_member, text_next, reach_more, text_whole, whole_from, AreWhole}
 use Rattle.gix_simple.specs.declared.Sorting.{Sorting}
 use Rattle.gix_hash.specs.Reach.{Reaches, start}
@@ -14,29 +14,22 @@ take_within zero xs i c = absurd (no_member i c)
 take_within (suc k) [] i c = c
 take_within (suc k) (x ∷ xs) i c = ⊎_elim (λ e. subst (λ y. Contains (x ∷ xs) y) e (Contains-here x xs)) (λ t. Contains-there i x xs (take_within k xs i t)) (Contains-cons_cases i x (take k xs) c)
 
--- an order goes by what is named behind the listed commits
+-- what comes next goes by what is named behind those taken
+next_same : (o : Option CommitTimeOrder) (time : ObjectId → ℤ) (next other : ObjectId → List ObjectId) (starts taken : List ObjectId) (i : ObjectId) → flat_map next taken ≡ flat_map other taken → IsNextOne o time next starts taken i → IsNextOne o time other starts taken i
+next_same None time next other starts taken i same h = ap (λ xs. first_new (starts ++ xs) taken) (sym same) ∙ h
+next_same (Some order) time next other starts taken i same h = subst (λ xs. IsFirstBest order time (λ j. Contains (starts ++ xs) j × (Contains taken j → ⊥)) (starts ++ xs) taken i) same h
+
 module _ (In : ObjectId → Type 0) (next other : ObjectId → List ObjectId) (time : ObjectId → ℤ) (starts ids : List ObjectId)
     (in_ids : (i : ObjectId) → Contains ids i → In i) (same_next : (c : ObjectId) → In c → next c ≡ other c) where
   named_same : (taken : List ObjectId) → ((c : ObjectId) → Contains taken c → In c) → flat_map next taken ≡ flat_map other taken
   named_same [] h = refl
   named_same (c ∷ taken) h = (λ k. same_next c (h c (Contains-here c taken)) k ++ named_same taken (λ j m. h j (Contains-there j c taken m)) k)
 
-  taken_in : (k : ℕ) (c : ObjectId) → Contains (take k ids) c → In c
-  taken_in k c m = in_ids c (take_within k ids c m)
-
-  breadth_same : IsBreadthOrder next starts ids → IsBreadthOrder other starts ids
-  breadth_same h k b = h k b ∙ ap (λ xs. first_new (starts ++ xs) (take k ids)) (named_same (take k ids) (taken_in k))
-
-  abbrev Among : List ObjectId → List ObjectId → ObjectId → Type 0
-  Among named taken i = Contains named i × (Contains taken i → ⊥)
-
-  time_same : (order : CommitTimeOrder) → IsTimeOrder order time next starts ids → IsTimeOrder order time other starts ids
-  time_same order h k b =
-      subst (λ xs. MatchOption (slice_get ids k) ((i : ObjectId) → Among (starts ++ xs) (take k ids) i → ⊥) (IsFirstBest order time (Among (starts ++ xs) (take k ids)) (starts ++ xs) (take k ids))) (named_same (take k ids) (taken_in k)) (h k b)
-
-  order_same : (o : Option CommitTimeOrder) → IsInOrder o time next starts ids → IsInOrder o time other starts ids
-  order_same None h = breadth_same h
-  order_same (Some order) h = time_same order h
+  order_same : (o : Option CommitTimeOrder) → IsListBy (IsNextOne o time next starts) ids → IsListBy (IsNextOne o time other starts) ids
+  order_same o h = record {
+    begins = λ taken rest i e. next_same o time next other starts taken i (named_same taken (λ c m. in_ids c (subst (λ xs. Contains xs c) (sym e) (Contains-append_left taken (i ∷ rest) c m)))) (h.begins taken rest i e);
+    ends = λ i n. h.ends i (next_same o time other next starts ids i (sym (named_same ids in_ids)) n);
+  }
 
 -- what is reached is the same by other parents, where these are the same of all that is reached
 module _ (next other : ObjectId → List ObjectId) (tips hidden : List ObjectId) (same_next : (c : ObjectId) → Reaches next (tips ++ hidden) c → next c ≡ other c) where

@@ -10,7 +10,8 @@ use Rattle.gix_words.specs.declared.words.Form.{Form}
 use Rattle.gix_words.specs.declared.words.Form.TheVariants as form
 use Rattle.gix_commands.specs.Chosen.{Writes}
 use Rattle.gix_commands.specs.Output.{AddsBegun, BreaksOff, Held, StopsWithin, Takes, TakesNone, WritesBegun, WritesWhole, added, broken_off, written, cut, unwritten}
-use Rattle.gix_commands.specs.Walked.{AsksForMore, given, failed}
+use Rattle.gix_revwalk.specs.Infos.{given}
+use Rattle.gix_commands.specs.Walked.{AsksForMore, failed}
 
 -- nothing was written
 pub grows_waiting : (old : Option (List ℕ)) (waiting waits bytes : List ℕ) → waits ≡ waiting ++ bytes → Grows old waiting old waits bytes

@@ -15,12 +15,13 @@ use Rattle.gix_statement.specs.WholeStatement.{Allows, InEach, IsThere, Reaches,
 use Rattle.gix_commands.specs.Checked.{GoesOnWhole, HaveParents}
 use Rattle.gix_commands.specs.Chosen.{line_in, page_form}
 use Rattle.gix_commands.specs.Run.{Serves, cut_off, lost}
-use Rattle.gix_commands.specs.Walked.{Walk, Answers, AsksForMore, IsWalkFault, failed, given}
+use Rattle.gix_revwalk.specs.Infos.{given}
+use Rattle.gix_commands.specs.Walked.{Walk, Answers, AsksForMore, IsWalkFault, failed}
 use Rattle.gix_commands.specs.Pages.{page_objects}
 use Rattle.gix_commands.proofs.CommitRuns.{ids_in, listed}
 use Rattle.gix_commands.proofs.CheckedWalks.{enough_on, less_on}
 use Rattle.gix_commands.proofs.PageCommits.{fed_history, whole_there}
-use Rattle.gix_commands.proofs.PageLists.{begins_so, whole_so}
+use Rattle.gix_commands.proofs.PageLists.{Lists, begins_so, whole_so}
 use Rattle.gix_commands.proofs.KeptLists.{followed_reaches}
 use Rattle.gix_commands.proofs.LostParents.{whole_all}
 use Rattle.gix_commands.proofs.OtherParents.{by_parents_reached, take_within}
@@ -28,7 +29,6 @@ use Rattle.gix_commands.proofs.SameLists.{is_followed, is_name_in, listed as is_
 use Rattle.gix_commands.proofs.SameOrders.{reaches_back}
 use Rattle.gix_commands.proofs.SameWords.{IsNameOf, IsOptionOf}
 use Rattle.gix_commands.proofs.OrderNames.{all_parents, is_order, simple_name}
-use Rattle.gix_commands.proofs.Turns.{Lists}
 use Rattle.gix_commands.proofs.Right.{IsRight, begun_right, cut_right}
 use Rattle.gix_commands.proofs.WrittenBytes.{allows_all, allows_fewer, allows_least, begun_bytes, ended_bytes, no_more}
 use Rattle.gix_commands.proofs.SimpleBegins.{front, take_less, first_given, given_first, met_before, none_given, read_first}

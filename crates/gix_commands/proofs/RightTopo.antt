@@ -9,13 +9,13 @@ use Rattle.gix_statement.specs.WholeStatement.{Allows, Chooses, InEach, IsThere,
 use Rattle.gix_commands.specs.Chosen.{line_in, page_form}
 use Rattle.gix_commands.specs.Run.{Serves, cut_off}
 use Rattle.gix_commands.specs.TopoWalked.{Walk, Answers, IsWalkFault}
-use Rattle.gix_commands.specs.Walked.{AsksForMore, failed, given}
+use Rattle.gix_revwalk.specs.Infos.{given}
+use Rattle.gix_commands.specs.Walked.{AsksForMore, failed}
 use Rattle.gix_commands.specs.Pages.{page_objects}
 use Rattle.gix_commands.proofs.CommitRuns.{ids_in}
 use Rattle.gix_commands.proofs.PageCommits.{fed_history}
-use Rattle.gix_commands.proofs.PageLists.{begins_so, whole_so}
+use Rattle.gix_commands.proofs.PageLists.{Lists, begins_so, whole_so}
 use Rattle.gix_commands.proofs.OrderNames.{down_name, is_order}
-use Rattle.gix_commands.proofs.Turns.{Lists}
 use Rattle.gix_commands.proofs.Right.{IsRight, begun_right, cut_right}
 use Rattle.gix_commands.proofs.WrittenBytes.{allows_all, allows_fewer, allows_least, begun_bytes, ended_bytes, no_more}
 use Rattle.gix_commands.proofs.SameLists.{is_followed_down, listed_down}
@@ -57,7 +57,7 @@ module _ (objects : Objects) (rows : List GraphRow) (agrees : IsAgreeing objects
       down_so : (ended : Bool) → (ended ≡ true) ⊎ (page_form shown.form ≡ page.Lines) → (ids more : List ObjectId) → IsList (ids ++ more) → Allows shown.limit (length (kept ids)) → ((ended ≡ true) × Allows shown.limit (suc (length (kept ids))) → more ≡ [])
           → AreListed ended ids
       down_so ended may ids more l allows all =
-          let those : ListsSo (ids ++ more) = listed_down objects (text_next objects) m name by named (followed_down objects m) tips ends (ids ++ more) l in
+          let those : ListsSo (ids ++ more) = listed_down objects (text_next objects) m name by named tips ends (ids ++ more) l in
           let there : All (IsThere (page_objects objects) []) ids =
           (λ k d few. let i = get_or ids k d in read_there i (inl (l.shown i (Contains-append_left ids more i (Contains-get_or ids k d few))).reached)) in (
             there,

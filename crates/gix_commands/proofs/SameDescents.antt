@@ -1,22 +1,22 @@
 -- Date order and topological order are those of the statement.
-use Rattle.std.proofs.Common.{◌≡◌, ℤ, ◌≤ℤ◌, int_le, List, [], ◌∷◌, ◌++◌, filter, reverse, slice_get, Bool, true, false, cond, not, ◌&&◌, MatchOption, Contains, refl, sym, ap, subst, ◌∙◌, ⊎_elim, arith}
-use Rattle.gix_commands.proofs.Common.{false≢true, ObjectId, is_among, among_from, among_is, Contains-here, Contains-there, Contains-cons_cases, no_member, NewestFirst, first_new, IsInWalk, AreMadeReady}
+use Rattle.std.proofs.Common.{◌≡◌, ℕ, ℤ, ◌≤ℤ◌, int_le, List, [], ◌∷◌, ◌++◌, codes, filter, reverse, Bool, true, false, cond, not, ◌&&◌, Contains, refl, sym, ap, subst, ◌∙◌, ⊎_elim, arith}
+use Rattle.gix_commands.proofs.Common.{false≢true, ObjectId, is_among, among_from, among_is, Contains-here, Contains-there, Contains-cons_cases, no_member, NewestFirst, IsListBy, IsInWalk, AreMadeReady}
 use Rattle.std.proofs.lemmas.Int.{ints}
 use Rattle.gix_revwalk.specs.TimeOrder as times
-use Rattle.gix_topo.specs.DateOrder.{IsDateOrder}
 use Rattle.gix_topo.specs.TopoOrder as topo
 use Rattle.gix_topo.specs.WalkSet as walk
-use Rattle.gix_statement.specs.WholeStatement.{IsBest, Keeps, empty, kept, passed, IsShown, IsReady, by_time}
-use Rattle.gix_commands.proofs.Turns.{IsFirst, IsFirstBest}
-use Rattle.gix_commands.proofs.SameOrders.{Throughout, reaches, reaches_back, cut, is_first, found_first, not_taken, no_worse_test}
+use Rattle.gix_topo.specs.declared.Sorting.{Sorting}
+use Rattle.gix_topo.specs.declared.Sorting.TheVariants as order
+use Rattle.gix_topo.specs.Laws.{IsNextBy}
+use Rattle.gix_topo.proofs.Readiness.IsReady.{in_walk_top}
+use Rattle.gix_topo.proofs.Run.ReadyInTurn.{ready_list}
+use Rattle.gix_statement.specs.WholeStatement.{IsBest, IsNext, Keeps, date, empty, kept, passed, IsShown, IsReady, by_time, topo as topo_next}
+use Rattle.gix_commands.proofs.SameOrders.{reaches, reaches_back, found_first, not_taken, no_worse_test}
 
-not_false : (b : Bool) → not b ≡ false → b ≡ true
-not_false true e = refl
-not_false false e = absurd (false≢true (sym e))
-
-not_true : (b : Bool) → not b ≡ true → b ≡ false
-not_true true e = absurd (false≢true e)
-not_true false e = refl
+-- the name of an order
+abbrev pub name_down : Sorting → List ℕ
+name_down order.DateOrder = codes "date"
+name_down order.TopoOrder = codes "topo"
 
 -- a list by rising time
 module _ (time : ObjectId → ℤ) where
@@ -171,31 +171,25 @@ module _ (parents followed : ObjectId → List ObjectId) (time : ObjectId → �
     keeps_last (walk.IsReady followed In (Contains (c ∷ taken))) (IsReady parents followed time tips hidden (c ∷ taken)) (ready (c ∷ taken)) (ready_back (c ∷ taken)) (followed c) [] h.1 h.3,
   )
 
-  -- of the ready ones the first of greatest time
-  abbrev AsLate : ObjectId → ObjectId → Type 0
-  AsLate i other = time other ≤ℤ time i
+  abbrev Turn : List ObjectId → List ℕ → ObjectId → Type 0
+  Turn taken name i = IsNext parents followed time tips hidden taken i name
 
-  abbrev FollowsByDate : List ObjectId → List ObjectId → Type 0
-  FollowsByDate taken rest = (made : List ObjectId) × AreMadeReady parents followed time tips hidden (reverse taken) made × IsFirstBest AsLate (IsReady parents followed time tips hidden taken) made rest
+  -- what comes next comes next on the page, where it is ready
+  next_there : (by : Sorting) (taken : List ObjectId) (i : ObjectId) → walk.IsReady followed In (Contains taken) i → IsNextBy by time followed In tips taken i → Turn taken (name_down by) i
+  next_there order.DateOrder taken i r h =
+      date h.0 (are_made_ready (reverse taken) h.0 h.1)
+      (found_first (λ j. not (is_among j taken) && times.is_no_worse NewestFirst (time j) (time i)) (IsBest (λ a b. time b ≤ℤ time a) (IsReady parents followed time tips hidden taken)) h.0 i h.2.first
+      (λ j b. ap (λ x. x && times.is_no_worse NewestFirst (time j) (time i)) (not_taken j taken b.0.1) ∙ no_worse_test NewestFirst (time j) (time i) (b.1 i (ready taken i r)))
+      (ready taken i r, λ other p. h.2.best.best other (ready_back taken other p)))
+  next_there order.TopoOrder taken i r h =
+      topo_next h.0 (are_made_ready (reverse taken) h.0 h.1)
+      (found_first (λ j. not (is_among j taken)) (IsReady parents followed time tips hidden taken) (reverse h.0) i h.2 (λ j p. not_taken j taken p.1) (ready taken i r))
 
-  best : (taken made rest : List ObjectId) → MatchOption (slice_get rest 0) ((i : ObjectId) → walk.IsReady followed In (Contains taken) i → ⊥) (times.IsFirstBest NewestFirst time (walk.IsReady followed In (Contains taken)) made taken)
-      → IsFirstBest AsLate (IsReady parents followed time tips hidden taken) made rest
-  best taken made [] h = (λ i p. h i (ready_back taken i p))
-  best taken made (i ∷ rest) h =
-      found_first (λ j. not (is_among j taken) && times.is_no_worse NewestFirst (time j) (time i)) (IsBest AsLate (IsReady parents followed time tips hidden taken)) made i rest h.first
-      (λ j b. ap (λ x. x && times.is_no_worse NewestFirst (time j) (time i)) (not_taken j taken b.0.1) ∙ no_worse_test NewestFirst (time j) (time i) (b.1 i (ready taken i h.best.among)))
-      (ready taken i h.best.among, λ other p. h.best.best other (ready_back taken other p))
+  ready_there : (by : Sorting) (taken : List ObjectId) (i : ObjectId) → Turn taken (name_down by) i → IsReady parents followed time tips hidden taken i
+  ready_there order.DateOrder taken i (date made is f) = f.4.0
+  ready_there order.TopoOrder taken i (topo_next made is f) = f.4
 
-  pub in_date_order : (ids : List ObjectId) → IsDateOrder time followed In tips ids → Throughout FollowsByDate ids
-  in_date_order ids h taken rest e =
-      let at = cut (λ before o. (made : List ObjectId) × topo.IsMadeReady time followed In tips (reverse before) made × MatchOption o ((i : ObjectId) → walk.IsReady followed In (Contains before) i → ⊥) (times.IsFirstBest NewestFirst time (walk.IsReady followed In (Contains before)) made before))
-      ids h taken rest e in
-      (at.0, are_made_ready (reverse taken) at.0 at.1, best taken at.0 rest at.2)
-
-  pub in_topo_order : (ids : List ObjectId) → topo.IsTopoOrder time followed In tips ids → Throughout (λ taken rest. (made : List ObjectId) × AreMadeReady parents followed time tips hidden (reverse taken) made × IsFirst (λ i. Contains taken i → ⊥) (reverse made) rest) ids
-  in_topo_order ids h taken rest e =
-      let at = cut (λ before o. (made : List ObjectId) × topo.IsMadeReady time followed In tips (reverse before) made × (o ≡ first_new (reverse made) before)) ids h taken rest e in (
-        at.0,
-        are_made_ready (reverse taken) at.0 at.1,
-        is_first (λ i. not (is_among i taken)) (λ i. Contains taken i → ⊥) (reverse at.0) (λ i m out c. false≢true (sym (not_true (is_among i taken) out) ∙ among_from i taken c)) (λ i f p. p (among_is i taken (not_false (is_among i taken) f))) rest at.2,
-      )
+  pub in_order_down : (within : (c i : ObjectId) → Contains (followed c) i → Contains (parents c) i) (by : Sorting) (ids : List ObjectId) → IsListBy (IsNextBy by time followed In tips) ids → IsListBy (λ taken. Turn taken (name_down by)) ids
+  in_order_down within by ids h =
+      let r = ready_list time followed In tips (in_walk_top followed parents tips hidden within) by ids h in
+      record { begins = λ taken rest i e. next_there by taken i (r.begins taken rest i e) (h.begins taken rest i e); ends = λ i n. r.ends i (ready_back ids i (ready_there by ids i n)) }

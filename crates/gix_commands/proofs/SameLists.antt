@@ -1,6 +1,6 @@
 -- The lists of commits, the numbers of commits and the lines are those of the statement.
 use Rattle.std.proofs.Common.{◌≡◌, ℕ, ℤ, List, [], ◌∷◌, ◌++◌, map, take, Contains, Option, Some, None, codes, flat_map, refl, sym, ap, subst, ◌∙◌, arith}
-use Rattle.gix_commands.proofs.Common.{transport, ObjectId, Objects, CommitTimeOrder, Parents, by_mode, time_of, cutoff, time_order, IsNumberOf, IsInWalk, Visit, Simple, Topo, EntryLines, allowed, file_line, file_lines, six_octal_digits}
+use Rattle.gix_commands.proofs.Common.{transport, ObjectId, IsListBy, Objects, CommitTimeOrder, Parents, by_mode, walked_within, time_of, cutoff, time_order, IsNumberOf, IsInWalk, Visit, Simple, Topo, EntryLines, allowed, file_line, file_lines, six_octal_digits}
 use Rattle.gix_commands.proofs.Common.{Follows, IsNumberShown, entry_line}
 use Rattle.gix_statement.specs.WholeStatement.{id_line}
 use Rattle.std.specs.List.{take-map}
@@ -11,17 +11,15 @@ use Rattle.gix_simple.specs.declared.Sorting.{Sorting}
 use Rattle.gix_simple.specs.declared.Sorting.TheVariants as sorting
 use Rattle.gix_topo.specs.declared.Sorting.{Sorting as TopoSorting}
 use Rattle.gix_topo.specs.declared.Sorting.TheVariants as topo
-use Rattle.gix_topo.specs.Laws.{IsSorted}
 use Rattle.gix_tree.specs.Recorder.{record_of}
 use Rattle.gix_statement.specs.WholeStatement as page
-use Rattle.gix_commands.proofs.Turns as turns
-use Rattle.gix_commands.proofs.Turns.{Comes}
+use Rattle.gix_commands.proofs.PageLists.{Lists}
 use Rattle.gix_commands.proofs.KeptLists.{all_followed, cut_all, tips_kept}
-use Rattle.gix_commands.proofs.SameOrders.{Throughout, reaches, reaches_back, are_distinct, in_breadth_order, in_time_order}
-use Rattle.gix_commands.proofs.SameDescents.{in_date_order, in_topo_order}
+use Rattle.gix_commands.proofs.SameOrders.{reaches, reaches_back, are_distinct, in_order_there, name_of}
+use Rattle.gix_commands.proofs.SameDescents.{in_order_down, name_down}
 use Rattle.gix_commands.proofs.SameTrees.{joined_behind, placed_by, same_bytes}
 use Rattle.gix_commands.proofs.SameWords.{IsCutoff, IsNameOf, IsOptionOf}
-use Rattle.gix_commands.proofs.ListedCommits.{IsListedBy, IsShownBy, ListsBy, ListsDown, followed, kept_tips, lines_of_ids}
+use Rattle.gix_commands.proofs.ListedCommits.{IsShownBy, ListsBy, ListsDown, followed, kept_tips, lines_of_ids}
 
 -- an order by its name
 abbrev IsTopological : List ℕ → Type 0
@@ -30,12 +28,6 @@ IsTopological name = Contains (codes "topo" ∷ codes "date" ∷ []) name
 is_topological : (name : List ℕ) (m : Parents) (by : TopoSorting) → IsNameOf name (Topo m by) → IsTopological name
 is_topological name m topo.TopoOrder e = subst IsTopological (sym e) (0, omega arith, refl)
 is_topological name m topo.DateOrder e = subst IsTopological (sym e) (1, omega arith, refl)
-
--- the name of an order by time, or of breadth order
-abbrev pub IsNameIn : List ℕ → Option CommitTimeOrder → Type 0
-IsNameIn name None = name ≡ codes "breadth"
-IsNameIn name (Some order.NewestFirst) = name ≡ codes "newest"
-IsNameIn name (Some order.OldestFirst) = name ≡ codes "oldest"
 
 -- what commits reach through these parents
 module _ (objects : Objects) (parents : ObjectId → List ObjectId) where
@@ -49,20 +41,11 @@ module _ (objects : Objects) (parents : ObjectId → List ObjectId) where
     shown_back : (from hidden : List ObjectId) (i : ObjectId) → page.IsShown parents followed time from hidden i → IsInWalk followed parents from hidden i
     shown_back from hidden i s = record { reached = reaches_back followed from i s.0; outside = λ r. s.1 (reaches parents hidden i r) }
 
-    -- the order of a name
-    abbrev IsInOrder : List ObjectId → List ObjectId → List ObjectId → List ℕ → Type 0
-    IsInOrder from hidden ids name = Throughout (λ taken rest. Comes parents followed time from hidden taken rest name) ids
-
-    in_order : (name : List ℕ) (o : Option CommitTimeOrder) → IsNameIn name o → (from hidden ids : List ObjectId) → IsListedBy objects parents followed o from hidden ids → IsInOrder from hidden ids name
-    in_order name None e from hidden ids l = subst (IsInOrder from hidden ids) (sym e) (λ taken rest c. turns.breadth (in_breadth_order parents followed time from hidden l.0 l.1 ids l.2 taken rest c))
-    in_order name (Some order.NewestFirst) e from hidden ids l = subst (IsInOrder from hidden ids) (sym e) (λ taken rest c. turns.newest (in_time_order parents followed time from hidden l.0 l.1 order.NewestFirst ids l.2 taken rest c))
-    in_order name (Some order.OldestFirst) e from hidden ids l = subst (IsInOrder from hidden ids) (sym e) (λ taken rest c. turns.oldest (in_time_order parents followed time from hidden l.0 l.1 order.OldestFirst ids l.2 taken rest c))
-
-    pub listed : (name : List ℕ) (o : Option CommitTimeOrder) → IsNameIn name o → (from hidden ids : List ObjectId) → ListsBy objects parents followed o from hidden ids → turns.Lists parents followed time from hidden name ids
+    pub listed : (name : List ℕ) (o : Option CommitTimeOrder) → name ≡ name_of o → (from hidden ids : List ObjectId) → ListsBy objects parents followed o from hidden ids → Lists parents followed time from hidden name ids
     listed name o named from hidden ids l = (
       are_distinct ids l.once,
       λ i m. shown from hidden i ((l.exact i).0 m),
-      in_order name o named from hidden ids l.in_order,
+      subst (λ n. IsListBy (λ taken i. page.IsNext parents followed time from hidden taken i n) ids) (sym named) (in_order_there parents followed time from hidden l.in_order.0 l.in_order.1 o ids l.in_order.2),
       λ acyclic i s. (l.exact i).1 (shown_back from hidden i s),
     )
 
@@ -95,7 +78,7 @@ module _ (objects : Objects) (parents : ObjectId → List ObjectId) where
   is_followed name option tips mode.First (sorting.ByCommitTimeCutoff by seconds) named chosen = absurd chosen
 
   -- the name says the order
-  pub is_name_in : (name : List ℕ) (option : List (List ℕ)) (m : Parents) (by : Sorting) → IsNameOf name (Simple m by) → IsOptionOf option (Simple m by) → IsNameIn name (time_order m by)
+  pub is_name_in : (name : List ℕ) (option : List (List ℕ)) (m : Parents) (by : Sorting) → IsNameOf name (Simple m by) → IsOptionOf option (Simple m by) → name ≡ name_of (time_order m by)
   is_name_in name option mode.All sorting.BreadthFirst named chosen = named
   is_name_in name option mode.First sorting.BreadthFirst named chosen = named
   is_name_in name option mode.All (sorting.ByCommitTime order.NewestFirst) named chosen = named
@@ -105,20 +88,20 @@ module _ (objects : Objects) (parents : ObjectId → List ObjectId) where
   is_name_in name option mode.First (sorting.ByCommitTime by) named chosen = absurd chosen
   is_name_in name option mode.First (sorting.ByCommitTimeCutoff by seconds) named chosen = absurd chosen
 
+  is_name_down : (name : List ℕ) (m : Parents) (by : TopoSorting) → IsNameOf name (Topo m by) → name ≡ name_down by
+  is_name_down name m topo.TopoOrder e = e
+  is_name_down name m topo.DateOrder e = e
+
   -- `topo` and `date`, through what is walked
   module _ (m : Parents) (name : List ℕ) (by : TopoSorting) (named : IsNameOf name (Topo m by)) where
-    in_order_down : (walked : ObjectId → List ObjectId) (tips ends ids : List ObjectId) → IsSorted by time walked (IsInWalk walked parents tips ends) tips ids → IsInOrder walked tips ends ids name
-    in_order_down walked tips ends ids l = go by named l
-      where
-        go : (by : TopoSorting) → IsNameOf name (Topo m by) → IsSorted by time walked (IsInWalk walked parents tips ends) tips ids → IsInOrder walked tips ends ids name
-        go topo.DateOrder e l = subst (IsInOrder walked tips ends ids) (sym e) (λ taken rest c. let t = in_date_order parents walked time tips ends ids l taken rest c in turns.date t.0 t.1 t.2)
-        go topo.TopoOrder e l = subst (IsInOrder walked tips ends ids) (sym e) (λ taken rest c. let t = in_topo_order parents walked time tips ends ids l taken rest c in turns.topo t.0 t.1 t.2)
+    abbrev walked : ObjectId → List ObjectId
+    walked c = by_mode m (parents c)
 
-    pub listed_down : (walked : ObjectId → List ObjectId) (tips ends ids : List ObjectId) → ListsDown objects parents walked by tips ends ids → turns.Lists parents walked time tips ends name ids
-    listed_down walked tips ends ids l = (
+    pub listed_down : (tips ends ids : List ObjectId) → ListsDown objects parents walked by tips ends ids → Lists parents walked time tips ends name ids
+    listed_down tips ends ids l = (
       are_distinct ids l.once,
       λ i c. shown walked tips ends i (l.shown i c),
-      in_order_down walked tips ends ids l.in_order,
+      subst (λ n. IsListBy (λ taken i. page.IsNext parents walked time tips ends taken i n) ids) (sym (is_name_down name m by named)) (in_order_down parents walked time tips ends (λ c i n. walked_within m (parents c) i n) by ids l.in_order),
       λ acyclic i s. l.all (λ j w r. acyclic (is_topological name m by named) j (shown walked tips ends j w) (reaches walked (walked j) j r)) i (shown_back walked tips ends i s),
     )
 

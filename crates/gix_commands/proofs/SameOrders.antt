@@ -1,20 +1,19 @@
 -- What commits reach, breadth order and time order are those of the statement.
-use Rattle.std.proofs.Common.{◌≡◌, ◌≢◌, ◌≤◌, ℕ, ℤ, List, [], ◌∷◌, ◌++◌, length, take, slice_get, find, filter, Bool, true, false, cond, not, ◌&&◌, ◌||◌, ◌⊎◌, Option, Some, None, MatchOption, AllPairs, Contains, flat_map, refl, sym, ap}
-use Rattle.std.proofs.Common.{subst, ◌∙◌, inl, inr, ⊎_elim, arith, length-append}
+use Rattle.std.proofs.Common.{◌≡◌, ◌≢◌, ℕ, ℤ, List, [], ◌∷◌, ◌++◌, find, filter, Bool, true, false, cond, not, ◌&&◌, ◌||◌, ◌⊎◌, Option, Some, None, AllPairs, Contains, flat_map, refl, sym, ap}
+use Rattle.std.proofs.Common.{subst, ◌∙◌, codes, ⊎_elim, arith}
 use Rattle.gix_commands.proofs.Common.{false≢true, All-nil, All-cons, Contains-append_left, Contains-append_right, Contains-append_cases, Contains-get_or, same_Some, none-some, ObjectId, is_among}
-use Rattle.gix_commands.proofs.Common.{is_same, among_from, among_is, Contains-here, Contains-there, Contains-cons_cases, no_member, CommitTimeOrder, IsBreadthOrder, named_by, new_ids, IsTimeOrder, IsNoWorse}
+use Rattle.gix_commands.proofs.Common.{is_same, among_from, among_is, Contains-here, Contains-there, Contains-cons_cases, no_member, CommitTimeOrder, IsListBy, IsNextOne, named_by, new_ids, IsNoWorse}
 use Rattle.std.proofs.lemmas.List.Kept.{AllPairs-cons}
-use Rattle.std.proofs.Math.Seq.{take-append_seam}
 use Rattle.gix_hash.specs.Reach as reach
 use Rattle.gix_hash.specs.Reach.{Tells}
 use Rattle.gix_revwalk.specs.Ids.{AreDistinct as AreApart}
 use Rattle.gix_revwalk.specs.TimeOrder as times
 use Rattle.gix_revwalk.specs.TimeOrder.{is_no_worse}
 use Rattle.gix_revwalk.proofs.NewIds.{find-filter, find-new, times_among, times-fresh}
-use Rattle.std.proofs.lemmas.List.Elements.{All-weaker}
 use Rattle.std.proofs.lemmas.Int.{ints}
-use Rattle.gix_statement.specs.WholeStatement.{Reaches, start, parent, IsBest, IsPending}
-use Rattle.gix_commands.proofs.Turns.{IsFirst, IsFirstBest}
+use Rattle.gix_revwalk.specs.declared.CommitTimeOrder.TheVariants.{NewestFirst, OldestFirst}
+use Rattle.gix_revwalk.proofs.SomeOrder.{next_is_pending, pending_list}
+use Rattle.gix_statement.specs.WholeStatement.{Reaches, start, parent, IsBest, IsFirst, IsNext, IsPending, breadth, newest, oldest}
 
 pub reaches : (parents : ObjectId → List ObjectId) (starts : List ObjectId) (i : ObjectId) → reach.Reaches parents starts i → Reaches parents starts i
 reaches parents starts i (reach.start s) = start s
@@ -24,43 +23,18 @@ pub reaches_back : (parents : ObjectId → List ObjectId) (starts : List ObjectI
 reaches_back parents starts i (start s) = reach.start s
 reaches_back parents starts i (parent {child = c} r n) = reach.step (reaches_back parents starts c r) n
 
-at_seam : (taken rest : List ObjectId) → slice_get (taken ++ rest) (length taken) ≡ slice_get rest 0
-at_seam [] rest = refl
-at_seam (i ∷ taken) rest = at_seam taken rest
-
--- however a list is cut in two, the second part begins as it has to behind the first
-abbrev pub Throughout : {I : Type 0} → (List I → List I → Type 0) → List I → Type 0
-Throughout {I} Follows ids = (taken rest : List I) → ids ≡ taken ++ rest → Follows taken rest
-
--- what holds at each place of a list holds wherever it is cut
-pub cut : (P : List ObjectId → Option ObjectId → Type 0) (ids : List ObjectId) → ((k : ℕ) → k ≤ length ids → P (take k ids) (slice_get ids k)) → Throughout (λ taken rest. P taken (slice_get rest 0)) ids
-cut P ids h taken rest e =
-    let within : length taken ≤ length (taken ++ rest) = omega (arith, length-append taken rest) in
-    let at : P (take (length taken) (taken ++ rest)) (slice_get (taken ++ rest) (length taken)) = subst (λ xs. P (take (length taken) xs) (slice_get xs (length taken))) e (h (length taken) (subst (λ xs. length taken ≤ length xs) (sym e) within)) in
-    subst (P taken) (at_seam taken rest) (subst (λ xs. P xs (slice_get (taken ++ rest) (length taken))) (take-append_seam taken rest) at)
-
 pub are_distinct : (ids : List ObjectId) → AreApart ids → AllPairs (λ i j. i ≢ j) ids
 are_distinct [] apart = λ i j d l m. absurd (omega (arith, m))
 are_distinct (x ∷ ids) apart = AllPairs-cons (λ i j. i ≢ j) x ids (λ k d l e. apart.0 (subst (Contains ids) (sym e) (Contains-get_or ids k d l))) (are_distinct ids apart.1)
 
--- the first that passes a test is the first that has P
-pub is_first : (test : ObjectId → Bool) (P : ObjectId → Type 0) (names : List ObjectId) → ((i : ObjectId) → Contains names i → test i ≡ true → P i) → ((i : ObjectId) → test i ≡ false → P i → ⊥)
-    → (rest : List ObjectId) → slice_get rest 0 ≡ find test names → IsFirst P names rest
-is_first test P [] passes fails [] e = All-nil (λ i. P i → ⊥)
-is_first test P [] passes fails (i ∷ rest) e = absurd (none-some i (sym e))
-is_first test P (j ∷ names) passes fails rest e = go rest (is_first test P names (λ i c. passes i (Contains-there i j names c)) fails rest) (test j) refl e
-  where
-    go : (those : List ObjectId) → (slice_get those 0 ≡ find test names → IsFirst P names those) → (t : Bool) → test j ≡ t → slice_get those 0 ≡ cond t (Some j) (find test names) → IsFirst P (j ∷ names) those
-    go [] more false f e = All-cons (λ i. P i → ⊥) j names (fails j f) (more e)
-    go (i ∷ those) more false f e = let r = more e in (j ∷ r.0, r.1, ap (λ xs. j ∷ xs) r.2, All-cons (λ k. P k → ⊥) j r.0 (fails j f) r.3, r.4)
-    go [] more true y e = absurd (none-some j e)
-    go (i ∷ those) more true y e = subst (λ x. IsFirst P (j ∷ names) (x ∷ those)) (sym (same_Some i j e)) ([], names, refl, All-nil (λ k. P k → ⊥), passes j (Contains-here j names) y)
-
 -- what is found first is the first that has P, where all that has P passes
-pub found_first : (test : ObjectId → Bool) (P : ObjectId → Type 0) (names : List ObjectId) (i : ObjectId) (rest : List ObjectId) → find test names ≡ Some i → ((j : ObjectId) → P j → test j ≡ true) → P i → IsFirst P names (i ∷ rest)
-found_first test P names i rest e passes p =
-    let f : IsFirst (λ j. test j ≡ true) names (i ∷ rest) = is_first test (λ j. test j ≡ true) names (λ j c t. t) (λ j o t. false≢true (sym o ∙ t)) (i ∷ rest) (sym e) in
-    (f.0, f.1, f.2, All-weaker (λ j. test j ≡ true → ⊥) (λ j. P j → ⊥) (λ j n q. n (passes j q)) f.0 f.3, p)
+pub found_first : (test : ObjectId → Bool) (P : ObjectId → Type 0) (names : List ObjectId) (i : ObjectId) → find test names ≡ Some i → ((j : ObjectId) → P j → test j ≡ true) → P i → IsFirst P names i
+found_first test P [] i e passes p = absurd (none-some i e)
+found_first test P (j ∷ names) i e passes p = go (λ f. found_first test P names i f passes p) (test j) refl e
+  where
+    go : (find test names ≡ Some i → IsFirst P names i) → (t : Bool) → test j ≡ t → cond t (Some j) (find test names) ≡ Some i → IsFirst P (j ∷ names) i
+    go more false f e = let r = more e in (j ∷ r.0, r.1, ap (λ xs. j ∷ xs) r.2, All-cons (λ k. P k → ⊥) j r.0 (λ q. false≢true (sym f ∙ passes j q)) r.3, p)
+    go more true t e = ([], names, ap (λ x. x ∷ names) (same_Some j i e), All-nil (λ k. P k → ⊥), p)
 
 abbrev or_else : Option ObjectId → Option ObjectId → Option ObjectId
 or_else None o = o
@@ -105,21 +79,9 @@ filtered_in pass (j ∷ ids) i c p = go (λ t. filtered_in pass ids i t p) (pass
     go more true q = ⊎_elim (λ e. subst (Contains (j ∷ filter pass ids)) e (Contains-here j (filter pass ids))) (λ t. Contains-there i j (filter pass ids) (more t)) (Contains-cons_cases i j ids c)
     go more false q = ⊎_elim (λ e. absurd (false≢true (sym q ∙ ap pass e ∙ p))) more (Contains-cons_cases i j ids c)
 
-not_false : (b : Bool) → not b ≡ false → b ≡ true
-not_false true e = refl
-not_false false e = absurd (false≢true (sym e))
-
 not_true : (b : Bool) → not b ≡ true → b ≡ false
 not_true true e = absurd (false≢true e)
 not_true false e = refl
-
-and_parts : (a b : Bool) → (a && b) ≡ true → (a ≡ true) × (b ≡ true)
-and_parts true b e = (refl, e)
-and_parts false b e = absurd (false≢true e)
-
-and_fails : (a b : Bool) → (a && b) ≡ false → (a ≡ false) ⊎ (b ≡ false)
-and_fails true b e = inr e
-and_fails false b e = inl refl
 
 both : {a b : Bool} → a ≡ true → b ≡ true → (a && b) ≡ true
 both {a} {b} e f = ap (λ x. x && b) e ∙ f
@@ -133,6 +95,12 @@ not_taken i taken out = go (is_among i taken) refl
 
 pub no_worse_test : (order : CommitTimeOrder) (a b : ℤ) → IsNoWorse order a b → is_no_worse order a b ≡ true
 no_worse_test order a b h = grind (arith, ints)
+
+-- the name of an order by time, or of breadth order
+abbrev pub name_of : Option CommitTimeOrder → List ℕ
+name_of None = codes "breadth"
+name_of (Some NewestFirst) = codes "newest"
+name_of (Some OldestFirst) = codes "oldest"
 
 module _ (parents followed : ObjectId → List ObjectId) (time : ObjectId → ℤ) (from hidden : List ObjectId) (hides : ObjectId → Bool) (tells : Tells hides (reach.Reaches parents hidden)) where
   hidden_is : (i : ObjectId) → hides i ≡ true → Reaches parents hidden i
@@ -154,9 +122,6 @@ module _ (parents followed : ObjectId → List ObjectId) (time : ObjectId → �
   abbrev starts : List ObjectId
   starts = filter (λ i. not (hides i)) (new_ids (λ i. false) from)
 
-  abbrev is_left : List ObjectId → ObjectId → Bool
-  is_left taken i = not (hides i) && not (is_among i taken)
-
   find_next : (test : ObjectId → Bool) (those : List ObjectId) → find test (flat_map next those) ≡ find (λ i. not (hides i) && test i) (flat_map followed those)
   find_next test [] = refl
   find_next test (c ∷ those) = find-both _ _ (next c) (flat_map next those) (followed c) (flat_map followed those) (find-filter test (λ i. not (hides i)) (followed c)) (find_next test those)
@@ -165,16 +130,6 @@ module _ (parents followed : ObjectId → List ObjectId) (time : ObjectId → �
   find_named test taken =
       find-both _ _ starts (flat_map next taken) from (flat_map followed taken)
       (find-filter test (λ i. not (hides i)) (new_ids (λ i. false) from) ∙ find-new (λ i. not (hides i) && test i) (λ i. false) from (λ i e. absurd (false≢true e))) (find_next test taken)
-
-  pub in_breadth_order : (ids : List ObjectId) → IsBreadthOrder next starts ids → Throughout (λ taken. IsFirst (IsPending parents followed time from hidden taken) (from ++ flat_map followed taken)) ids
-  in_breadth_order ids h taken rest e =
-      is_first (is_left taken) (IsPending parents followed time from hidden taken) (from ++ flat_map followed taken) yes no rest (cut (λ before o. o ≡ find (λ i. not (is_among i before)) (named_by next starts before)) ids h taken rest e ∙ find_named (λ i. not (is_among i taken)) taken)
-    where
-      yes : (i : ObjectId) → Contains (from ++ flat_map followed taken) i → is_left taken i ≡ true → IsPending parents followed time from hidden taken i
-      yes i named o = let both = and_parts (not (hides i)) (not (is_among i taken)) o in (named, λ c. false≢true (sym (not_true (is_among i taken) both.1) ∙ among_from i taken c), not_hidden i both.0)
-
-      no : (i : ObjectId) → is_left taken i ≡ false → IsPending parents followed time from hidden taken i → ⊥
-      no i o p = ⊎_elim (λ f. p.2 (hidden_is i (not_false (hides i) f))) (λ f. p.1 (among_is i taken (not_false (is_among i taken) f))) (and_fails (not (hides i)) (not (is_among i taken)) o)
 
   named_next : (those : List ObjectId) (i : ObjectId) → Contains (flat_map next those) i → Contains (flat_map followed those) i × (not (hides i) ≡ true)
   named_next [] i c = absurd (no_member i c)
@@ -202,23 +157,38 @@ module _ (parents followed : ObjectId → List ObjectId) (time : ObjectId → �
         p.1,
       )
 
+  abbrev Turn : List ObjectId → List ℕ → ObjectId → Type 0
+  Turn taken name i = IsNext parents followed time from hidden taken i name
+
   -- of all that are pending the first of best time
   abbrev AsGood : CommitTimeOrder → ObjectId → ObjectId → Type 0
   AsGood order i other = IsNoWorse order (time i) (time other)
 
-  abbrev Follows : CommitTimeOrder → List ObjectId → List ObjectId → Type 0
-  Follows order taken rest = IsFirstBest (AsGood order) (IsPending parents followed time from hidden taken) (from ++ flat_map followed taken) rest
-
   abbrev as_good : CommitTimeOrder → List ObjectId → ObjectId → ObjectId → Bool
   as_good order taken i j = not (is_among j taken) && is_no_worse order (time j) (time i)
 
-  best : (order : CommitTimeOrder) (taken rest : List ObjectId) → MatchOption (slice_get rest 0) ((i : ObjectId) → times.IsPending next starts taken i → ⊥) (times.IsNextByTime order time next starts taken) → Follows order taken rest
-  best order taken [] h = (λ i p. h i (pending_back taken i p))
-  best order taken (i ∷ rest) h =
-      found_first (λ j. not (hides j) && as_good order taken i j) (IsBest (AsGood order) (IsPending parents followed time from hidden taken)) (from ++ flat_map followed taken) i rest
+  best : (order : CommitTimeOrder) (taken : List ObjectId) (i : ObjectId) → IsNextOne (Some order) time next starts taken i → IsFirst (IsBest (AsGood order) (IsPending parents followed time from hidden taken)) (from ++ flat_map followed taken) i
+  best order taken i h =
+      found_first (λ j. not (hides j) && as_good order taken i j) (IsBest (AsGood order) (IsPending parents followed time from hidden taken)) (from ++ flat_map followed taken) i
       (sym (find_named (as_good order taken i) taken) ∙ h.first)
       (λ j b. both (is_not_hidden j b.0.2) (both (not_taken j taken b.0.1) (no_worse_test order (time j) (time i) (b.1 i (pending taken i h.best.among)))))
       (pending taken i h.best.among, λ other p. h.best.best other (pending_back taken other p))
 
-  pub in_time_order : (order : CommitTimeOrder) (ids : List ObjectId) → IsTimeOrder order time next starts ids → Throughout (Follows order) ids
-  in_time_order order ids h taken rest e = best order taken rest (cut (λ before o. MatchOption o ((i : ObjectId) → times.IsPending next starts before i → ⊥) (times.IsNextByTime order time next starts before)) ids h taken rest e)
+  -- what comes next comes next on the page, where it is pending
+  next_there : (o : Option CommitTimeOrder) (taken : List ObjectId) (i : ObjectId) → IsNextOne o time next starts taken i → Turn taken (name_of o) i
+  next_there None taken i h =
+      breadth (found_first (λ j. not (hides j) && not (is_among j taken)) (IsPending parents followed time from hidden taken) (from ++ flat_map followed taken) i (sym (find_named (λ j. not (is_among j taken)) taken) ∙ h)
+      (λ j p. both (is_not_hidden j p.2) (not_taken j taken p.1)) (pending taken i (next_is_pending next starts None time taken i h)))
+  next_there (Some NewestFirst) taken i h = newest (best NewestFirst taken i h)
+  next_there (Some OldestFirst) taken i h = oldest (best OldestFirst taken i h)
+
+  pending_there : (o : Option CommitTimeOrder) (taken : List ObjectId) (i : ObjectId) → Turn taken (name_of o) i → IsPending parents followed time from hidden taken i
+  pending_there None taken i (breadth f) = f.4
+  pending_there (Some NewestFirst) taken i (newest f) = f.4.0
+  pending_there (Some OldestFirst) taken i (oldest f) = f.4.0
+
+  pub in_order_there : (o : Option CommitTimeOrder) (ids : List ObjectId) → IsListBy (IsNextOne o time next starts) ids → IsListBy (λ taken. Turn taken (name_of o)) ids
+  in_order_there o ids h = record {
+    begins = λ taken rest i e. next_there o taken i (h.begins taken rest i e);
+    ends = λ i n. (pending_list next starts o time ids h).ends i (pending_back ids i (pending_there o ids i n));
+  }

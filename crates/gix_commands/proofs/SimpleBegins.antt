@@ -1,7 +1,7 @@
 -- What a simple walk over records gives up to a limit: the first commits of a list of what is reached.
-use Rattle.std.proofs.Common.{◌≡◌, ◌≢◌, ◌≤◌, ◌-◌, ℕ, zero, suc, ⊎_elim, ℤ, List, [], ◌∷◌, ◌++◌, length, map, take, filter, Bool, true, false, not, Option, None, Some, Ok, Contains, refl, sym, ap, subst, ◌∙◌, arith}
+use Rattle.std.proofs.Common.{◌≡◌, ◌≢◌, ◌≤◌, ◌-◌, ℕ, zero, suc, ⊎_elim, List, [], ◌∷◌, ◌++◌, length, map, take, filter, Bool, true, false, not, Option, Some, Ok, Contains, refl, sym, ap, subst, ◌∙◌, arith}
 use Rattle.gix_commands.proofs.Common.{by_mode, ReadsParents, Yields, transport, false≢true, Contains-append_left, Contains-cons_cases, Contains-here, Contains-there, no_member, ObjectId, is_among, among_from, among_is, filter_within, Objects, GraphRow, CommitTimeOrder, Info, Parents, IsAgreeing, parents_of, time_of}
-use Rattle.gix_commands.proofs.Common.{ids_of, new_ids, text_next, reach_more, reached_list, text_whole, GivesBeginning, IsBeginning, IsBegunRun, time_order, all_kept, begun_once, begun_whole, no_start, whole_from, named_all}
+use Rattle.gix_commands.proofs.Common.{ids_of, new_ids, text_next, reach_more, reached_list, text_whole, GivesBeginning, IsBeginningBy, IsNextOne, IsBegunRun, time_order, all_kept, begun_once, begun_whole, no_start, whole_from, named_all}
 use Rattle.gix_commands.proofs.Common.{reached_known, AreWhole, StartsFrom, objects_of, never_faulty, accepts_all}
 use Rattle.std.proofs.lemmas.List.{length-map}
 use Rattle.gix_hash.specs.Reach.{Reaches, Tells}
@@ -9,7 +9,9 @@ use Rattle.gix_simple.specs.declared.Sorting.{Sorting}
 use Rattle.gix_simple.specs.Laws.{BeginsTextOrder}
 use Rattle.gix_simple.proofs.Corollaries.{begins}
 use Rattle.gix_simple.proofs.Faultless.{text_beginning}
-use Rattle.gix_commands.specs.Walked.{Walk, Answers, given}
+use Rattle.gix_revwalk.specs.Infos.{given}
+use Rattle.gix_commands.specs.Walked.{Walk, Answers}
+use Rattle.gix_revwalk.proofs.Beginnings.{begins_empty}
 use Rattle.gix_commands.proofs.GoesOn.{order_goes_on}
 use Rattle.gix_commands.proofs.KeptLists.{followed_within, kept, list_of, starts_kept}
 use Rattle.gix_commands.proofs.OtherParents.{by_texts}
@@ -40,32 +42,28 @@ module _ (objects : Objects) (next follow : ObjectId → List ObjectId) (within 
   abbrev begun_from : List ObjectId
   begun_from = starts_kept objects next follow within from hidden hides tells
 
-  pub first_of : (ids : List ObjectId) → IsBeginning order (time_of objects) through begun_from ids → AreFirstOf (ListsBy objects next follow order from hidden) ids
+  pub first_of : (ids : List ObjectId) → IsBeginningBy (IsNextOne order (time_of objects) through begun_from) ids → AreFirstOf (ListsBy objects next follow order from hidden) ids
   first_of ids h =
       let on = order_goes_on through begun_from (begun_from ++ named_all objects) (reached_known objects through begun_from (λ c i n. named c i (within c i (filter_within _ (follow c) i n)))) order (time_of objects) ids h in
       (on.0, list_of objects next follow within from hidden hides tells order on.0 on.1, on.2)
-
-none_begins : (o : Option CommitTimeOrder) (time : ObjectId → ℤ) (next : ObjectId → List ObjectId) (starts : List ObjectId) → IsBeginning o time next starts []
-none_begins None time next starts = λ k b. absurd (omega arith)
-none_begins (Some order) time next starts = λ k i e. cc
 
 module _ (objects : Objects) (m : Parents) (by : Sorting) (tips hidden : List ObjectId) where
   abbrev texts : ObjectId → List ObjectId
   texts = followed objects (text_next objects) m by
 
   -- without hidden tips what begins a list by the parents that texts name begins such a list
-  pub first_of_text : hidden ≡ [] → (ids : List ObjectId) → IsBeginning (time_order m by) (time_of objects) texts (new_ids (λ i. false) (kept_tips objects by tips)) ids → AreFirstOf (IsSimpleBy objects (text_next objects) m by tips hidden) ids
+  pub first_of_text : hidden ≡ [] → (ids : List ObjectId) → IsBeginningBy (IsNextOne (time_order m by) (time_of objects) texts (new_ids (λ i. false) (kept_tips objects by tips))) ids → AreFirstOf (IsSimpleBy objects (text_next objects) m by tips hidden) ids
   first_of_text none ids h =
       first_of objects (text_next objects) texts (followed_within objects (text_next objects) m by) (λ c i n. n) (time_order m by) (kept_tips objects by tips) hidden (λ i. false)
       (λ i. (λ e. absurd (false≢true e), λ r. absurd (no_start (text_next objects) hidden i r none))) ids
-      (transport (λ k. IsBeginning (time_order m by) (time_of objects) (λ c. sym (all_kept (texts c)) k) (sym (all_kept (new_ids (λ i. false) (kept_tips objects by tips))) k) ids) h)
+      (transport (λ k. IsBeginningBy (IsNextOne (time_order m by) (time_of objects) (λ c. sym (all_kept (texts c)) k) (sym (all_kept (new_ids (λ i. false) (kept_tips objects by tips))) k)) ids) h)
 
   -- no commit was asked for
   pub first_none : AreFirstOf (IsSimpleBy objects (text_next objects) m by tips hidden) []
   first_none =
       let below = reached_list (text_next objects) hidden (hidden ++ named_all objects) (reached_known objects (text_next objects) hidden (λ c i n. n)) in
       first_of objects (text_next objects) texts (followed_within objects (text_next objects) m by) (λ c i n. n) (time_order m by) (kept_tips objects by tips) hidden (λ i. is_among i below.0)
-      (λ i. (λ e. (below.1 i).0 (among_is i below.0 e), λ r. among_from i below.0 ((below.1 i).1 r))) [] (none_begins (time_order m by) (time_of objects) _ _)
+      (λ i. (λ e. (below.1 i).0 (among_is i below.0 e), λ r. among_from i below.0 ((below.1 i).1 r))) [] (begins_empty _)
 
 module _ (objects : Objects) (rows : List GraphRow) (m : Parents) (by : Sorting) (tips hidden : List ObjectId) (walk : Walk) (starts : StartsFrom objects rows m by tips hidden walk) (agreeing : IsAgreeing objects rows) where
   abbrev before : Walk
@@ -96,8 +94,8 @@ module _ (objects : Objects) (rows : List GraphRow) (m : Parents) (by : Sorting)
       text_ids : ids ≡ begun.ids
       text_ids = same_ids objects (text_next objects) rows m (time_order m by) infos begun.ids begun.given
 
-      pub begun_text : IsBeginning (time_order m by) (time_of objects) (followed objects (text_next objects) m by) (new_ids (λ i. false) left) ids
-      begun_text = transport (λ k. IsBeginning (time_order m by) (time_of objects) (followed objects (text_next objects) m by) (pending_tips k) (sym text_ids k)) begun.begins
+      pub begun_text : IsBeginningBy (IsNextOne (time_order m by) (time_of objects) (followed objects (text_next objects) m by) (new_ids (λ i. false) left)) ids
+      begun_text = transport (λ k. IsBeginningBy (IsNextOne (time_order m by) (time_of objects) (followed objects (text_next objects) m by) (pending_tips k)) (sym text_ids k)) begun.begins
 
       first_by_text : AreFirstOf (IsSimpleBy objects (text_next objects) m by tips hidden) ids
       first_by_text = first_of_text objects m by tips hidden none ids begun_text
@@ -145,7 +143,7 @@ module _ (objects : Objects) (rows : List GraphRow) (m : Parents) (by : Sorting)
       first_whole : AreWhole objects (left ++ hidden) → AreFirstOf (IsSimpleBy objects (text_next objects) m by tips hidden) ids
       first_whole all =
           let f = first_of objects (parents_of objects) (followed objects (parents_of objects) m by) (followed_within objects (parents_of objects) m by) by_text (time_order m by) left hidden hides tells ids
-          (transport (λ k. IsBeginning (time_order m by) (time_of objects) (names_kept objects rows m by tips hidden walk starts k) (filter (λ i. not (hides i)) (pending_tips k)) (sym ids_are k)) gave.begins) in
+          (transport (λ k. IsBeginningBy (IsNextOne (time_order m by) (time_of objects) (names_kept objects rows m by tips hidden walk starts k) (filter (λ i. not (hides i)) (pending_tips k))) (sym ids_are k)) gave.begins) in
           (f.0, by_texts objects m by left hidden (time_order m by) f.0 all f.1, f.2)
 
       -- where no tip is left none was given

@@ -29,7 +29,8 @@ use Rattle.gix_revwalk.specs.Texts.{scanned}
 use Rattle.gix_commands.specs.Checked.{first_lost}
 use Rattle.gix_commands.specs.Run as run
 use Rattle.gix_commands.specs.Run.{Serves}
-use Rattle.gix_commands.specs.Walked.{Walk, Answers, IsWalkFault, failed, given as all_given}
+use Rattle.gix_revwalk.specs.Infos.{given as all_given}
+use Rattle.gix_commands.specs.Walked.{Walk, Answers, IsWalkFault, failed}
 use Rattle.gix_commands.proofs.CommitRuns.{ends_whole}
 use Rattle.gix_commands.proofs.InternalFacts.{next_sound}
 use Rattle.gix_commands.proofs.LostParents.{all_there}

@@ -2,7 +2,7 @@
 use Rattle.std.proofs.Common.{◌≡◌, ◌≢◌, ◌≤◌, ℕ, zero, suc, length, take, take_all, arith, List, [], ◌∷◌, ◌++◌, map, filter, Bool, true, false, not, Option, None, Ok, Err, Contains, All, IsSome, refl, sym, ap, subst, ◌∙◌, ⊎_elim}
 use Rattle.gix_commands.proofs.Common.{All-contains, commit_at, Pending, Contains-there, Drains, Yields, transport, false≢true, All-nil, All-cons, Contains-append_left, Contains-append_right, Contains-append_cases, among_from, among_is, Contains-here, Contains-cons_cases, no_member}
 use Rattle.gix_commands.proofs.Common.{ObjectId, is_among, Objects, GraphRow, Info, Parents, CommitTimeOrder, ReadsWhole, by_mode, parents_of, time_of, IsAgreeing, new_ids, ids_of, text_next, IsFresh, IsGivenBy, IsNewWalk}
-use Rattle.gix_commands.proofs.Common.{ReadsParents, IsInOrder, next_of, is_older, cutoff, time_order, reached_list, all_kept, drawn_whole, loosened, no_start, named_all, reached_known, AreWhole}
+use Rattle.gix_commands.proofs.Common.{ReadsParents, IsListBy, IsNextOne, next_of, is_older, cutoff, time_order, reached_list, all_kept, drawn_whole, loosened, no_start, named_all, reached_known, AreWhole}
 use Rattle.gix_commands.proofs.Common.{StartsFrom, objects_of, never_faulty, accepts_all, filter_within, filter_all, reach_more}
 use Rattle.std.specs.List.{AllZip}
 use Rattle.std.proofs.lemmas.List.{length-map}
@@ -19,7 +19,8 @@ use Rattle.gix_simple.proofs.Corollaries.{gives}
 use Rattle.gix_simple.proofs.Faultless.{faultless}
 use Rattle.gix_simple.proofs.ReachDecided.{reach_test}
 use Rattle.gix_simple.proofs.MadeOfTips.{is_new_walk}
-use Rattle.gix_commands.specs.Walked.{Walk, Answers, IsSorted, given}
+use Rattle.gix_revwalk.specs.Infos.{given}
+use Rattle.gix_commands.specs.Walked.{Walk, Answers, IsSorted}
 use Rattle.gix_commands.proofs.KeptLists.{empty_order, filter_both, followed_within, kept, kept_ids, list_of, new_kept}
 use Rattle.gix_commands.proofs.SameOrders.{in_new, new_in}
 use Rattle.gix_commands.proofs.ListedCommits.{IsSimpleBy, followed, kept_tips}
@@ -91,7 +92,7 @@ none_listed objects m by tips hidden none =
     let below = reached_list texts hidden (hidden ++ named_all objects) (reached_known objects texts hidden (λ c i n. n)) in
     let hidden_so : ObjectId → Bool = (λ i. is_among i below.0) in
     list_of objects texts (followed objects texts m by) (followed_within objects texts m by) (kept_tips objects by tips) hidden hidden_so (λ i. (λ e. (below.1 i).0 (among_is i below.0 e), λ r. among_from i below.0 ((below.1 i).1 r))) (time_order m by) []
-    (transport (λ k. IsInOrder (time_order m by) (time_of objects) (λ c. filter (λ i. not (hidden_so i)) (followed objects texts m by c)) (filter (λ i. not (hidden_so i)) (new_ids (λ i. false) (sym none k))) [])
+    (transport (λ k. IsListBy (IsNextOne (time_order m by) (time_of objects) (λ c. filter (λ i. not (hidden_so i)) (followed objects texts m by c)) (filter (λ i. not (hidden_so i)) (new_ids (λ i. false) (sym none k)))) [])
     (empty_order (time_order m by) (time_of objects) (λ c. filter (λ i. not (hidden_so i)) (followed objects texts m by c))))
 
 pub each_id : (P : ObjectId → Type 0) (ps : List Pending) → ((p : Pending) → Contains ps p → P p.id) → (i : ObjectId) → Contains (ids_of ps) i → P i
@@ -238,7 +239,7 @@ module _ (objects : Objects) (rows : List GraphRow) (m : Parents) (by : Sorting)
       pub listed_whole : IsSimpleBy objects (parents_of objects) m by tips hidden ids
       listed_whole =
           list_of objects (parents_of objects) (followed objects (parents_of objects) m by) (followed_within objects (parents_of objects) m by) left hidden test.0 test.1 (time_order m by) ids
-          (transport (λ k. IsInOrder (time_order m by) (time_of objects) (names_kept k) (filter (λ i. not (test.0 i)) (pending k)) (sym ids_are k)) gave.in_order)
+          (transport (λ k. IsListBy (IsNextOne (time_order m by) (time_of objects) (names_kept k) (filter (λ i. not (test.0 i)) (pending k))) (sym ids_are k)) gave.in_order)
 
       -- where no tip is left nothing is listed
       pub listed_none : left ≡ [] → IsSimpleBy objects (text_next objects) m by tips hidden ids
@@ -263,7 +264,7 @@ module _ (objects : Objects) (rows : List GraphRow) (m : Parents) (by : Sorting)
       listed_text =
           list_of objects (text_next objects) through (followed_within objects (text_next objects) m by) left hidden (λ i. false)
           (λ i. (λ e. absurd (false≢true e), λ r. absurd (no_start (text_next objects) hidden i r none))) (time_order m by) ids
-          (transport (λ k. IsInOrder (time_order m by) (time_of objects) (λ c. sym (all_kept (through c)) k) (starts_are k) (sym told_ids k)) told.in_order)
+          (transport (λ k. IsListBy (IsNextOne (time_order m by) (time_of objects) (λ c. sym (all_kept (through c)) k) (starts_are k)) (sym told_ids k)) told.in_order)
 
       -- what is named behind a commit was given with it
       pub given_with : (c : ObjectId) → Reaches through left c → (info : Info) × Contains infos info × (info.parent_ids.items ≡ by_mode m (text_next objects c))

@@ -13,13 +13,15 @@ use Rattle.gix_object.specs.declared.find.existing_iter.Error.TheVariants as exi
 use Rattle.gix_topo.specs.declared.Error.{Error}
 use Rattle.gix_topo.specs.declared.Error.TheVariants as error
 use Rattle.gix_topo.specs.declared.Sorting.{Sorting}
-use Rattle.gix_topo.specs.Laws.{IsTakenByText, IsTextGiven, GivesTextOrder}
+use Rattle.gix_topo.specs.Laws.{IsNextByText, IsTextGiven, GivesTextOrder}
+use Rattle.gix_revwalk.specs.ListsByTurn.{IsListBy}
 use Rattle.gix_topo.specs.Walk.{IsSound, ended, given, refused, failed}
 use Rattle.gix_topo.proofs.Run.Corollaries.{each_by_text}
 use Rattle.gix_topo.proofs.Run.Theorem.{gives_text}
 use Rattle.gix_commands.specs.Run.{Serves}
 use Rattle.gix_commands.specs.TopoWalked.{Walk, Answers, IsWalkFault}
-use Rattle.gix_commands.specs.Walked.{failed as fell, given as all_given}
+use Rattle.gix_revwalk.specs.Infos.{given as all_given}
+use Rattle.gix_commands.specs.Walked.{failed as fell}
 use Rattle.gix_commands.proofs.CommitRuns.{ends_whole}
 use Rattle.gix_commands.proofs.ListedCommits.{ListsDown, followed_down}
 
@@ -62,7 +64,7 @@ module _ (objects : Objects) (rows : List GraphRow) (agree : IsAgreeing objects 
   listed_read infos (finished new h) =
       let g : GivesTextOrder objects_of walk.plan (λ i. true) (all_given infos) =
       gives_text objects_of never_faulty accepts_all (λ i. true) walk (all_given infos) (λ mid last i answer b a. a.0) built.1 (subst (λ (plan : TopoPlan Objects). IsAgreeing plan.store plan.rows) (sym built.0.plan) agree) (no_faults infos) (new, h) in
-      let order : IsTakenByText objects_of (plan_from objects rows m by tips ends) g.ids = subst (λ plan. IsTakenByText objects_of plan g.ids) built.0.plan g.in_order in
+      let order : IsListBy (IsNextByText objects_of (plan_from objects rows m by tips ends)) g.ids = subst (λ plan. IsListBy (IsNextByText objects_of plan) g.ids) built.0.plan g.in_order in
       let each = each_by_text objects_of (plan_from objects rows m by tips ends) g.ids order in
       subst (ListsDown objects (text_next objects) (followed_down objects m) by tips ends) (sym (same_read walk.plan infos g.ids g.given)) (record {
         once = each.0;

@@ -11,7 +11,8 @@ use Rattle.gix_words.specs.declared.words.Form.{Form}
 use Rattle.gix_words.specs.declared.words.Form.TheVariants as form
 use Rattle.gix_commands.specs.declared.output.Sink.{Sink}
 use Rattle.gix_commands.specs.Chosen.{Writes}
-use Rattle.gix_commands.specs.Walked.{AsksForMore, EndsBy, given}
+use Rattle.gix_revwalk.specs.Infos.{given}
+use Rattle.gix_commands.specs.Walked.{AsksForMore, EndsBy}
 
 -- the writer's bytes, followed by the buffered ones, grew by these bytes
 abbrev pub Grows : Option (List ℕ) → List ℕ → Option (List ℕ) → List ℕ → List ℕ → Type 0

@@ -12,7 +12,8 @@ use Rattle.gix_topo.specs.Walk.{TopoPlan, TopoWalk, Next, Built}
 use Rattle.gix_words.specs.declared.fault.Fault.{Fault}
 use Rattle.gix_words.specs.declared.fault.Fault.TheVariants as fault
 use Rattle.gix_words.specs.Faults.{fault_of_topo_walk}
-use Rattle.gix_commands.specs.Walked.{objects_of, never_faulty, accepts_all}
+use Rattle.gix_revwalk.specs.Asking.{accepts_all}
+use Rattle.gix_commands.specs.Walked.{objects_of, never_faulty}
 
 -- a walk over stored objects, whose look-ups don't fail, that gives all commits
 abbrev pub Walk : Type 0

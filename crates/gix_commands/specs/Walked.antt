@@ -1,11 +1,13 @@
 -- A walk over records, and the lines that it writes.
-use Rattle.std.specs.Prelude.{◌≡◌, ◌≢◌, ℕ, List, [], ◌∷◌, ◌++◌, map, length, ◌<◌, Bool, true, Option, Some, None, Result, Ok, Err}
+use Rattle.std.specs.Prelude.{◌≡◌, ◌≢◌, ℕ, List, [], ◌∷◌, ◌++◌, length, ◌<◌, Option, Some, None, Result, Ok, Err}
 use Rattle.std.specs.List.{flat_map}
 use Rattle.std.specs.Iterator.{Yields, YieldsThen}
 use Rattle.gix_hash.specs.declared.ObjectId.{ObjectId}
 use Rattle.gix_hash.specs.Id.{hex_of}
 use Rattle.gix_object.specs.Object.{Objects}
 use Rattle.gix_commitgraph.specs.Rows.{GraphRow}
+use Rattle.gix_revwalk.specs.Asking.{accepts_all}
+use Rattle.gix_revwalk.specs.Infos.{given}
 use Rattle.gix_revwalk.specs.declared.Info.{Info}
 use Rattle.gix_revwalk.specs.declared.Parents.{Parents}
 use Rattle.gix_revwalk.specs.declared.Unfiltered.{Unfiltered}
@@ -27,9 +29,6 @@ objects_of objects = objects
 
 abbrev pub never_faulty : Objects → ObjectId → Type 0
 never_faulty objects i = ⊥
-
-abbrev pub accepts_all : Unfiltered → ObjectId → Bool → Unfiltered → Type 0
-accepts_all old i answer new = (answer ≡ true) × (new ≡ old)
 
 -- one answer of a walk
 abbrev pub Answers : Walk → Option (Result Info Error) → Walk → Type 0
@@ -68,9 +67,6 @@ IsWalkFault e f = f ≡ fault_of_walk e
 -- a walk may fail so before its first step, unless memory ran out
 abbrev pub IsStartFault : Objects → Sorting → List ObjectId → Fault → Type 0
 IsStartFault objects by tips e = e ≢ fault.Memory → (why : Error) × FailsAtStart objects by tips why × (e ≡ fault_of_walk why)
-
-abbrev pub given : {E : Type 0} → List Info → List (Result Info E)
-given infos = map Ok infos
 
 -- How a walk ended that gave these commits, by its steps and the meaning of its faults: it has no more commits, its next answer is a
 -- fault, or its next answer is a commit for which there was no memory.

@@ -1,7 +1,7 @@
 use Rattle.std.proofs.Common.{◌≡◌, ◌≤◌, ◌++◌, List, length, drop}
 use Rattle.std.specs.Iterator.{Yields}
 use Rattle.gix_revwalk.specs.declared.Info.{Info}
-use Rattle.gix_commands.specs.Walked.{given}
+use Rattle.gix_revwalk.specs.Infos.{given}
 use Rattle.gix_batches.specs.Draws.{most_of}
 use Rattle.gix_batches.specs.Slices.{commits_of, ids_of, told_by}
 use Rattle.gix_batches.proofs.fill.fill.Given as goal

@@ -1,7 +1,7 @@
 use Rattle.std.proofs.Common.{◌≡◌, ◌+◌, List, length}
 use Rattle.std.specs.Iterator.{Yields}
 use Rattle.gix_revwalk.specs.declared.Info.{Info}
-use Rattle.gix_commands.specs.Walked.{given}
+use Rattle.gix_revwalk.specs.Infos.{given}
 use Rattle.gix_batches.proofs.fill.pass.Given as goal
 
 -- so many commits were drawn

@@ -1,6 +1,6 @@
 use Rattle.std.proofs.Common.{◌≡◌, length, List}
 use Rattle.gix_commands.proofs.Common.{Yields, Info}
-use Rattle.gix_commands.specs.Walked.{given}
+use Rattle.gix_revwalk.specs.Infos.{given}
 use Rattle.gix_commands.proofs.ahead.number_of_commits.Given as goal
 
 -- the walk gave commits, and they were counted

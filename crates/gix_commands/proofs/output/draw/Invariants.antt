@@ -3,7 +3,7 @@ use Rattle.std.specs.Iterator.{IsFinite, size}
 use Rattle.gix_commands.proofs.Common.{Yields, Info, kept_in}
 use Rattle.gix_commands.specs.Chosen.{line_in}
 use Rattle.gix_commands.specs.Output.{Takes, held_in}
-use Rattle.gix_commands.specs.Walked.{given}
+use Rattle.gix_revwalk.specs.Infos.{given}
 use Rattle.gix_commands.proofs.ChosenFacts.{IsAt}
 use Rattle.gix_commands.proofs.output.draw.Given as goal
 
