@@ -146,7 +146,8 @@ fn batch_of(
     parents: &mut [CommitId],
 ) -> Result<Batch, Fault>
     ensures ok { IfOk result (λ batch. FillsBy (readable (reads_all_lines (Commits listing.order (all_lines_to listing.limit) listing.tips.items listing.hidden.items)) (with_rows [] store.now)) listing.limit listing.tips.items listing.hidden.items skip commits.old commits.new parents.old parents.new batch listing.order) }
-    ensures err { IfErr result (λ e. ServesOver store.now [] (Some []) (Commits listing.order (all_lines_to listing.limit) listing.tips.items listing.hidden.items) (Err e) (Some [])) }
+    ensures err { IfErr result (λ e. ServesOver store.now [] (Some [])
+        (Commits listing.order (all_lines_to listing.limit) listing.tips.items listing.hidden.items) (Err e) (Some [])) }
     ensures unwritten { IfErr result (λ e. e ≢ Fault.Write) }
     ensures commits_stay { IfErr result (λ e. commits.new ≡ commits.old) }
     ensures parents_stay { IfErr result (λ e. parents.new ≡ parents.old) }

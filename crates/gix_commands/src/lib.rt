@@ -109,7 +109,8 @@ fn serve<W: Write>(
     graph: Option<&Graph>,
     writer: &mut W,
 ) -> Result<(), Fault>
-    ensures { ServesOver store.now (rows_in graph.entry) (W.contents writer.old) (request_of_command command) result (W.contents writer.new) }
+    ensures { ServesOver store.now (rows_in graph.entry) (W.contents writer.old)
+        (request_of_command command) result (W.contents writer.new) }
 {
     match command {
         Command::Commits {
@@ -148,7 +149,8 @@ fn serve_commits<W: Write>(
     graph: Option<&Graph>,
     writer: &mut W,
 ) -> Result<(), Fault>
-    ensures { ServesOver store.now (rows_in graph.entry) (W.contents writer.old) (Commits listing.order listing.shown listing.ends.tips.items listing.ends.hidden.items) result (W.contents writer.new) }
+    ensures { ServesOver store.now (rows_in graph.entry) (W.contents writer.old)
+        (Commits listing.order listing.shown listing.ends.tips.items listing.ends.hidden.items) result (W.contents writer.new) }
 {
     let Listing { order, shown, ends } = listing;
     match order {
