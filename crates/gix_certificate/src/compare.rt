@@ -118,18 +118,18 @@ impl Report {
         let alloc = self.alloc;
         for revision in then {
             let what = format!(in alloc; "revision {:?}", revision.word)?;
-            let stood = meaning(alloc, revision)?;
-            let stands = match now.iter().find(|other| is_alike(other, revision)) {
+            let meant = meaning(alloc, revision)?;
+            let means = match now.iter().find(|other| is_alike(other, revision)) {
                 Some(other) => meaning(alloc, other)?,
                 None => String::from_str(alloc, "not there")?,
             };
-            self.add(what.as_str(), stood.as_str(), stands.as_str())?;
+            self.add(what.as_str(), meant.as_str(), means.as_str())?;
         }
         for revision in now {
             if !then.iter().any(|other| is_alike(other, revision)) {
                 let what = format!(in alloc; "revision {:?}", revision.word)?;
-                let stands = meaning(alloc, revision)?;
-                self.add(what.as_str(), "not there", stands.as_str())?;
+                let means = meaning(alloc, revision)?;
+                self.add(what.as_str(), "not there", means.as_str())?;
             }
         }
         Ok(())

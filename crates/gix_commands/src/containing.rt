@@ -28,8 +28,8 @@ pub fn write_containing<W: Write>(
     graph: Option<&Graph>,
     writer: &mut W,
 ) -> Result<(), Fault>
-    ensures { ServesOver store.now (rows_in graph.entry) (W.contents writer.old) (Containing target tips.items) result
-        (W.contents writer.new) }
+    ensures { ServesOver store.now (rows_in graph.entry) (W.contents writer.old)
+        (Containing target tips.items) result (W.contents writer.new) }
 {
     let objects = Lent::over(store, graph, Parents::All);
     let those = containing(alloc, target, tips.as_slice(), &objects, graph)?;

@@ -112,8 +112,8 @@ fn serve<W: Write>(
     graph: Option<&Graph>,
     writer: &mut W,
 ) -> Result<(), Fault>
-    ensures { ServesOver store.now (rows_in graph.entry) (W.contents writer.old) (request_of_command command) result
-        (W.contents writer.new) }
+    ensures { ServesOver store.now (rows_in graph.entry) (W.contents writer.old)
+        (request_of_command command) result (W.contents writer.new) }
 {
     match command {
         Command::Commits {
