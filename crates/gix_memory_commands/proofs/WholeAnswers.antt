@@ -22,20 +22,7 @@ room_stays lines room = go (nat_le (length lines) (length room))
 -- each fault has another number than 0 and 1
 pub numbered : (e : Fault) → (of_fault e).number ≤ 1 → ⊥
 numbered fault.Usage = λ h. omega arith
-numbered (fault.Id n) = λ h. omega arith
-numbered (fault.Record n) = λ h. omega arith
-numbered (fault.Missing i) = λ h. omega arith
-numbered (fault.WrongKind i) = λ h. omega arith
-numbered fault.Broken = λ h. omega arith
-numbered (fault.Cycle i) = λ h. omega arith
-numbered (fault.Name i) = λ h. omega arith
-numbered (fault.Graph e) = λ h. omega arith
-numbered (fault.Row i) = λ h. omega arith
-numbered (fault.Disagrees i) = λ h. omega arith
-numbered fault.Memory = λ h. omega arith
-numbered fault.Read = λ h. omega arith
-numbered fault.Write = λ h. omega arith
-numbered fault.Internal = λ h. omega arith
+numbered e = λ h. omega arith
 
 pub trouble_numbered : (t : Trouble) → (of_trouble t).number ≤ 1 → ⊥
 trouble_numbered (trouble.Command e) = numbered e
