@@ -5,7 +5,7 @@ use Rattle.std.proofs.lemmas.List.{reverse-append}
 use Rattle.gix_hash.proofs.Ids.Membership.{no_member, Contains-cons_cases, Contains-here, Contains-there}
 use Rattle.gix_statement.specs.WholeStatement.{all, first, since, Follows, AreMadeReady, Begins, by_time, IsBest, IsNext, IsReady, IsShown, IsWhole, Keeps, empty, kept, passed, Reaches, start, parent, breadth, newest, oldest, date, topo}
 use Rattle.gix_statement.proofs.EachHistory.{filter_in, filter_same}
-use Rattle.gix_statement.proofs.Heart.{first_same}
+use Rattle.gix_statement.proofs.Heart.{back_from, first_same, there_from}
 
 -- `topo` and `date`
 abbrev pub IsDown : List ℕ → Type 0
@@ -39,16 +39,6 @@ reverse_in (x ∷ ids) i m = ⊎_elim
     (λ n. Contains-there i x ids (reverse_in ids i n))
     (λ e. subst (Contains (x ∷ ids)) e (Contains-here x ids))
     (Contains-push_cases (reverse ids) x i (subst (λ xs. Contains xs i) (reverse-append (x ∷ []) ids) m))
-
--- what the same names lead to
-module _ {I : Type 0} (parents other : I → List I) (from : List I) (same : (c : I) → Reaches parents from c → parents c ≡ other c) where
-  there_from : (i : I) → Reaches parents from i → Reaches other from i
-  there_from i (start s) = start s
-  there_from i (parent {child = c} r m) = parent (there_from c r) (subst (λ ps. Contains ps i) (same c r) m)
-
-  back_from : (i : I) → Reaches other from i → Reaches parents from i
-  back_from i (start s) = start s
-  back_from i (parent {child = c} r m) = let before = back_from c r in parent before (subst (λ ps. Contains ps i) (sym (same c before)) m)
 
 module _ {I : Type 0} (parents other followed follow : I → List I) (time times : I → ℤ) (starts hidden : List I)
     (up : (c : I) → Reaches followed starts c → followed c ≡ follow c) (down : (c : I) → Reaches parents hidden c → parents c ≡ other c) (timed : (c : I) → Reaches followed starts c → time c ≡ times c) where

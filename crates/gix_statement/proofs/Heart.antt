@@ -9,6 +9,16 @@ use Rattle.gix_statement.specs.WholeStatement.{Begins, IsBest, IsFirst, IsNext, 
 pub first_same : {I : Type 0} (P Q : I → Type 0) (names : List I) (i : I) → ((j : I) → P j → Q j) → ((j : I) → Q j → P j) → IsFirst P names i → IsFirst Q names i
 first_same P Q names i there back (before, after, is, none, p) = (before, after, is, (λ k d below q. none k d below (back _ q)), there i p)
 
+-- what the same names lead to
+module _ {I : Type 0} (parents other : I → List I) (from : List I) (same : (c : I) → Reaches parents from c → parents c ≡ other c) where
+  pub there_from : (i : I) → Reaches parents from i → Reaches other from i
+  there_from i (start s) = start s
+  there_from i (parent {child = c} r m) = parent (there_from c r) (subst (λ ps. Contains ps i) (same c r) m)
+
+  pub back_from : (i : I) → Reaches other from i → Reaches parents from i
+  back_from i (start s) = start s
+  back_from i (parent {child = c} r m) = let before = back_from c r in parent before (subst (λ ps. Contains ps i) (sym (same c before)) m)
+
 -- What an order of a walk that isn't topological is called
 abbrev pub IsSimple : List ℕ → Type 0
 IsSimple by = Contains (codes "topo" ∷ codes "date" ∷ []) by → ⊥
@@ -16,14 +26,6 @@ IsSimple by = Contains (codes "topo" ∷ codes "date" ∷ []) by → ⊥
 module _ {I : Type 0} (parents other followed follows : I → List I) (time times : I → ℤ) (starts hidden ids : List I)
     (within : (c i : I) → Contains (follows c) i → Contains (other c) i)
     (same_hidden : (c : I) → Reaches parents hidden c → parents c ≡ other c) where
-  hidden_there : (i : I) → Reaches parents hidden i → Reaches other hidden i
-  hidden_there i (start s) = start s
-  hidden_there i (parent {child = c} r m) = parent (hidden_there c r) (subst (λ ps. Contains ps i) (same_hidden c r) m)
-
-  hidden_back : (i : I) → Reaches other hidden i → Reaches parents hidden i
-  hidden_back i (start s) = start s
-  hidden_back i (parent {child = c} r m) = let before = hidden_back c r in parent before (subst (λ ps. Contains ps i) (sym (same_hidden c before)) m)
-
   same_names : (taken : List I) → ((c : I) → Contains taken c → followed c ≡ follows c) → flat_map followed taken ≡ flat_map follows taken
   same_names [] h = refl
   same_names (c ∷ taken) h = (λ k. h c (Contains-here c taken) k ++ same_names taken (λ i m. h i (Contains-there i c taken m)) k)
@@ -39,10 +41,10 @@ module _ {I : Type 0} (parents other followed follows : I → List I) (time time
     names = ap (λ ns. starts ++ ns) (same_names taken part)
 
     pending_there : (i : I) → Was i → Is i
-    pending_there i (named, untaken, out) = (subst (λ ns. Contains ns i) names named, untaken, λ r. out (hidden_back i r))
+    pending_there i (named, untaken, out) = (subst (λ ns. Contains ns i) names named, untaken, λ r. out (back_from parents other hidden same_hidden i r))
 
     pending_back : (i : I) → Is i → Was i
-    pending_back i (named, untaken, out) = (subst (λ ns. Contains ns i) (sym names) named, untaken, λ r. out (hidden_there i r))
+    pending_back i (named, untaken, out) = (subst (λ ns. Contains ns i) (sym names) named, untaken, λ r. out (there_from parents other hidden same_hidden i r))
 
     module _ (same_time : (i : I) → Contains (starts ++ flat_map followed taken) i → time i ≡ times i) where
       new_there : (i : I) → IsBest (λ a b. time b ≤ℤ time a) Was i → IsBest (λ a b. times b ≤ℤ times a) Is i
@@ -123,7 +125,7 @@ module _ {I : Type 0} (parents other followed follows : I → List I) (time time
 
     pub begins_there : Begins parents followed time starts hidden by ids → Begins other follows times starts hidden by ids
     begins_there (shown, apart, next) = (
-      λ k d below. (all_reached next [] ids refl (λ c m. absurd (no_member c m)) _ (Contains-get_or ids k d below), λ r. (shown k d below).1 (hidden_back _ r)),
+      λ k d below. (all_reached next [] ids refl (λ c m. absurd (no_member c m)) _ (Contains-get_or ids k d below), λ r. (shown k d below).1 (back_from parents other hidden same_hidden _ r)),
       apart,
       λ taken rest i is. next_there taken (same_followed taken rest i is) by i simple (λ late. timed late taken rest i is) (next taken rest i is),
     )
@@ -139,8 +141,8 @@ module _ {I : Type 0} (parents other followed follows : I → List I) (time time
         all_listed = all (λ down. absurd (simple down))
 
         found : (i : I) → Reaches follows starts i → (Reaches other hidden i → ⊥) → Contains ids i
-        found i (start s) out = all_listed i (start s, λ r. out (hidden_there i r))
+        found i (start s) out = all_listed i (start s, λ r. out (there_from parents other hidden same_hidden i r))
         found i (parent {child = c} r m) out =
             let listed : Contains ids c = found c r (λ h. out (parent h (within c i m))) in
             let was : IsShown parents followed time starts hidden c = All-contains (IsShown parents followed time starts hidden) ids c shown listed in
-            all_listed i (parent was.0 (subst (λ ps. Contains ps i) (sym (same_all c listed)) m), λ h. out (hidden_there i h))
+            all_listed i (parent was.0 (subst (λ ps. Contains ps i) (sym (same_all c listed)) m), λ h. out (there_from parents other hidden same_hidden i h))
