@@ -4,7 +4,7 @@ use Rattle.std.proofs.lemmas.List.Elements.{All-contains, Contains-append_cases,
 use Rattle.gix_hash.proofs.Ids.Membership.{Contains-cons_cases, Contains-here, Contains-there, no_member}
 use Rattle.gix_hash.specs.declared.ObjectId.{ObjectId}
 use Rattle.gix_statement.specs.WholeStatement.{Objects, Row, IsThere, IsHistory, IsBase, Begins, IsWhole, Follows, all, first, since, Keeps, empty, kept, passed, Reaches, start, parent, IsNumberShown}
-use Rattle.gix_statement.proofs.Heart.{IsSimple, begins_there, whole_there}
+use Rattle.gix_statement.proofs.Heart.{IsSimple, back_from, begins_there, there_from, whole_there}
 
 -- a member of what a test keeps
 pub filter_in : {I : Type 0} (p : I → Bool) (xs : List I) (i : I) → Contains (filter p xs) i → Contains xs i
@@ -45,19 +45,14 @@ module _ (objects : Objects) (rows : List Row) (parents other : ObjectId → Lis
 
   -- REACH: over what is there all histories are one
   module _ (starts : List ObjectId) (there : (i : ObjectId) → Reaches parents starts i → IsThere objects rows i) where
+    same_over : (c : ObjectId) → Reaches parents starts c → parents c ≡ other c
+    same_over c r = same_parents c (there c r)
+
     pub reach_there : (i : ObjectId) → Reaches parents starts i → Reaches other starts i
-    reach_there i (start s) = start s
-    reach_there i (parent {child = c} r m) = parent (reach_there c r) (subst (λ ps. Contains ps i) (same_parents c (there c r)) m)
+    reach_there = there_from parents other starts same_over
 
     pub reach_back : (i : ObjectId) → Reaches other starts i → Reaches parents starts i
-    reach_back i (start s) = start s
-    reach_back i (parent {child = c} r m) = let before = reach_back c r in parent before (subst (λ ps. Contains ps i) (sym (same_parents c (there c before))) m)
-
-    -- `contains`
-    pub kept_there : (before ids those : List ObjectId) → Keeps (λ before i after. Reaches parents starts i) before ids those → Keeps (λ before i after. Reaches other starts i) before ids those
-    kept_there before ids those empty = empty
-    kept_there before ids those (kept {i = i} r k) = kept (reach_there i r) (kept_there _ _ _ k)
-    kept_there before ids those (passed {i = i} n k) = passed (λ r. n (reach_back i r)) (kept_there _ _ _ k)
+    reach_back = back_from parents other starts same_over
 
   -- `containing`
   module _ (target : ObjectId) (tips : List ObjectId) (there : (i : ObjectId) → Reaches parents tips i → IsThere objects rows i) where

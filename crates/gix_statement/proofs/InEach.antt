@@ -8,7 +8,7 @@ use Rattle.gix_hash.proofs.Ids.Membership.{no_member}
 use Rattle.gix_hash.specs.declared.ObjectId.{ObjectId}
 use Rattle.gix_statement.specs.WholeStatement.{IsLimit, allowed, Objects, Row, IsThere, IsHistory, InEach, Allows, AreTips, Begins, IsWhole, IsNext, breadth, newest, oldest, date, topo, parent, Follows, all, id_line, digits_in, Spells, Keeps, Lists, lists, Serves, ahead, contains, containing, bases, IsBase, by_bytes, files, Reaches, start, IsNumberShown, IsTree, Unfolds, Entry, entry_line, Choice, Chooses, Lines, chosen, commit_line, written}
 use Rattle.gix_statement.proofs.Heart.{IsSimple}
-use Rattle.gix_statement.proofs.EachHistory.{base_back, base_there, containing_there, counted_there, kept_there, moved, same_parents, same_time, filter_same}
+use Rattle.gix_statement.proofs.EachHistory.{base_back, base_there, containing_there, counted_there, moved, same_parents, same_time, filter_same}
 use Rattle.gix_statement.proofs.Descents.{IsDown, begins_down, followed_down, whole_down}
 use Rattle.gix_statement.proofs.SameLines.{chosen_in, same_line, written_same}
 
@@ -118,11 +118,6 @@ module _ (objects : Objects) (rows : List Row) (parents : ObjectId → List Obje
       ahead n m a b (there left (start (0, omega arith, refl))) (others right (start (0, omega arith, refl)))
       (counted_there objects rows parents other time times one another (left ∷ []) (right ∷ []) there others n ns)
       (counted_there objects rows parents other time times one another (right ∷ []) (left ∷ []) others there m ms) written
-
-  pub contains_each : {words : List (List ℕ)} {tip : ObjectId} {ids those : List ObjectId} → AreTips words (tip ∷ ids) [] → ids ≢ [] → AreThere (tip ∷ []) → All (IsThere objects rows) (tip ∷ ids)
-      → Keeps (λ before i after. Reaches parents (tip ∷ []) i) [] ids those → Appends old new (flat_map id_line those) → Each (codes "contains" ∷ words)
-  contains_each {tip = tip} {ids = ids} {those = those} are some there all_there keeps written other times another =
-      contains are some all_there (kept_there objects rows parents other time times one another (tip ∷ []) there [] ids those keeps) written
 
   pub containing_each : {words : List (List ℕ)} {target : ObjectId} {tips those : List ObjectId} → AreTips words (target ∷ tips) [] → tips ≢ [] → AreThere tips → All (IsThere objects rows) (target ∷ tips)
       → Keeps (λ before i after. Reaches parents (i ∷ []) target) [] tips those → Appends old new (flat_map id_line those) → Each (codes "containing" ∷ words)
