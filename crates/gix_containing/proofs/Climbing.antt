@@ -15,9 +15,6 @@ use Rattle.gix_merge_base.proofs.NewAmong.{new_one, old_one}
 use Rattle.gix_revwalk.specs.Ids.{new_ids}
 use Rattle.gix_revwalk.proofs.NewIds.{fresh_agree, new_less, among_flat}
 
-pub marks_none : (marks : set.FinSet id_cmp) (waiting : List ObjectId) → MarksNew [] marks waiting marks waiting
-marks_none marks waiting = record { marked = λ i. refl; waits = sym (append-nil waiting) }
-
 joined : (added : Bool) (before new : List ObjectId) (i : ObjectId) → cond added ((before ++ new) ++ i ∷ []) (before ++ new) ≡ before ++ cond added (new ++ i ∷ []) new
 joined true before new i = append_assoc before new (i ∷ [])
 joined false before new i = refl
