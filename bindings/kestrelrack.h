@@ -72,8 +72,8 @@ struct kestrelrack_answer {
  *          "--merges" leaves out those of fewer than two parents, and "--no-merges" those of more than one. "--skip" and a number of 1 to 9
  *          digits leaves out so many of the others first. After "-n" and such a number no more lines are written than it says. With
  *          "--reverse" the last of these lines comes first. With "--count" their number is the only line. With "--timestamp" a line begins
- *          with the committer's seconds and a space. With "--parents" a space and the id of each parent follow its id. With "-z" it ends in
- *          a zero byte.
+ *          with the committer's seconds and a space. With "--parents" a space and the id of each parent follow its id. With "--oneline" a
+ *          space and the commit's subject are behind these. With "-z" it ends in a zero byte.
  * records  The objects, as `git cat-file --batch='%(objecttype) %(objectname) %(objectsize)'` prints them. They are read where they
  *          are: only an object that the walk looks up is copied, one at a time.
  * room     For the lines, each with a newline and none with a zero byte, except with "-z". The lines of a list and of "merge-base" are never longer than the
@@ -108,7 +108,7 @@ enum { KESTRELRACK_TIME = 1, KESTRELRACK_GENERATION = 2 };
  * ids of their parents at the front of `parents`, as many commits as both have room for.
  *
  * words    A list with its options and ids, as for kestrelrack_run. Another command is KESTRELRACK_USAGE, and so are "--until", "--merges",
- *          "--no-merges", "--skip", "--reverse", "--count", "--timestamp", "--parents" and "-z": a caller has each commit's time and parents, and chooses by itself. The
+ *          "--no-merges", "--skip", "--reverse", "--count", "--timestamp", "--parents", "--oneline" and "-z": a caller has each commit's time and parents, and chooses by itself. The
  *          number behind "-n" also counts commits that are skipped.
  * records  As for kestrelrack_run.
  *

@@ -209,7 +209,7 @@ class Repository:
         if command in WALKS:
             order = {"topo": ["--topo-order"], "date": ["--date-order"]}.get(command, [])
             rest = [{"--since": "--max-age", "--until": "--min-age"}.get(word, word) for word in rest if word != "--stdin"]
-            listed = self.git("rev-list", *order, *(word for word in rest if word != "-z"), *input.split())
+            listed = self.git("rev-list", *order, *(word for word in rest if word != "-z"), "--no-abbrev-commit", *input.split())
             return listed.replace("\n", "\0") + "\0" if "-z" in rest and "--count" not in rest else listed, 0
         if command == "ahead":
             pair = "...".join(revisions)

@@ -105,7 +105,7 @@ record AreOne (told others : List Told) (ended end : Bool) : Type 0 where
 are_one : (objects others : Objects) (clash : Clash objects others → ⊥) (words : List (List ℕ)) (told more : List Told) (ended end : Bool) → Shows objects words told ended → Shows others words more end → AreSpelled told → AreSpelled more → AreOne told more ended end
 are_one objects others clash words told more ended end a b s t =
     let h = have_history (all objects others clash words) [] (both_agree objects others [] (no_rows objects) (no_rows others) clash) in
-    let one = lists_are_one h.0 h.1 objects others [] [] (lines told) (lines more) ended end words words
+    let one = lists_are_one h.0 h.1 objects others clash [] [] (lines told) (lines more) ended end words words
     (a.lists h.0 h.1 (λ r c. h.2 r (commit_of_one objects others [] (no_rows objects) (no_rows others) clash r c)))
     (b.lists h.0 h.1 (λ r c. h.2 r (commit_of_other objects others [] (no_rows objects) (no_rows others) clash r c))) refl in
     let up : (left : List ℕ) → lines more ≡ lines told ++ left → (rest : List Told) × (more ≡ told ++ rest) = λ left e. let p = ids_front told more left s t e in told_front objects others clash words told more p.0 a.texts b.texts p.1 in

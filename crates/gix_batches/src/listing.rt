@@ -58,5 +58,6 @@ fn are_all_lines(shown: Shown) -> bool
         && matches!(shown.form, Form::Lines)
         && !shown.line.time
         && !shown.line.parents
+        && !shown.line.subject
         && shown.line.ending == b'\n'
 }

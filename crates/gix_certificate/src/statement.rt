@@ -8,7 +8,7 @@ use std::alloc::Global;
 pub const PAGES: &[(&str, &str)] = &[
     (
         "crates/gix_statement/specs/WholeStatement.antt",
-        "452bc6e2d69feda7a601ae085c05983e01901fa11ae6860034546192d32d93b9",
+        "0fa68a87df87afceca770a3db0493ea680bd5d544ec43dcbe15f8066c46a1782",
     ),
     (
         "crates/gix_statement/specs/CommitGraph.antt",

@@ -59,6 +59,7 @@ mod SameContained
 mod SameContaining
 mod SameBases
 mod SameLists
+mod SubjectWords
 mod RightTrees
 mod Right
 pub mod PageCommits

@@ -1,5 +1,5 @@
 -- A lister adds the lines of what a recorder would record, and notes the first tree that has a name that is none.
-use Rattle.std.proofs.Common.{◌≡◌, ℕ, ◌+◌, ◌-◌, List, [], ◌∷◌, ◌++◌, length, length-append, flat_map, zero, suc, take, arith, Option, Some, None, Result, Ok, Err, IfErr, refl, sym, ap, subst, inl, inr, ◌∙◌, append-nil}
+use Rattle.std.proofs.Common.{◌≡◌, ℕ, ◌+◌, ◌-◌, List, [], ◌∷◌, ◌++◌, length, length-append, flat_map, zero, suc, take, arith, Option, Some, None, Result, Ok, Err, IfErr, refl, sym, ap, subst, inl, inr, ◌∙◌}
 use Rattle.std.proofs.Math.Seq.{take-nil}
 use Rattle.std.proofs.lemmas.Grind.{flat_map-append}
 use Rattle.gix_commands.proofs.Common.{ObjectId, Objects, Action, Call, PushPath, PopPath, PushBack, PopBack, PopFront, VisitTree, VisitNontree, Refused, Run, Tracked, Tracks, fresh_recorder, DepthFirst, LookUpFails, trees_of, Fault, fault_of_tree_walk}

@@ -1,6 +1,6 @@
 -- What is read of a commit again is what its text says.
-use Rattle.std.proofs.Common.{◌≡◌, ◌≢◌, ℕ, ℤ, pos, List, [], Option, Some, None, Result, Ok, Err, IfOk, refl, sym, ap, subst, ◌∙◌}
-use Rattle.gix_commands.proofs.Common.{Fault, get, Object, ObjectId, Objects, Commit, IsExistingFault, commit_of_object, kind_of, never_faulty, next_in, read_commit, text_next, time_in, time_of}
+use Rattle.std.proofs.Common.{◌≡◌, ◌≢◌, ℕ, pos, List, [], Option, Some, None, Result, Ok, Err, IfOk, refl, sym, ap, ◌∙◌}
+use Rattle.gix_commands.proofs.Common.{Fault, get, Object, ObjectId, Objects, Commit, IsExistingFault, commit_of_object, kind_of, never_faulty, next_in, read_commit, time_in}
 use Rattle.gix_object.specs.CommitItems.{commit_items}
 use Rattle.gix_object.specs.CommitRefIter.{first_committer}
 use Rattle.gix_object.specs.declared.Kind.{Kind}

@@ -13,11 +13,9 @@ use Rattle.gix_records.specs.Reading as reading
 use Rattle.gix_records.specs.Records.{Record, AreRecords}
 use Rattle.gix_words.specs.declared.fault.Fault.TheVariants as fault
 use Rattle.gix_commands.specs.Opening.{Opens, FailsToOpen}
-use Rattle.gix_commands.specs.Readable.{reads_all_lines}
 use Rattle.gix_commands.specs.Run.{ServesOver, not_opened}
 use Rattle.gix_commands.proofs.MemoryFaults.{failed_so}
-use Rattle.gix_commands.proofs.ReadableObjects.{readable_agrees}
-use Rattle.gix_commands.proofs.RunFacts.{err_same, told_same, serves_sound}
+use Rattle.gix_commands.proofs.RunFacts.{err_same, told_same, over_is_sound}
 use Rattle.gix_commands.proofs.WalkFaults.{OfWalk, serves_of_walk}
 use Rattle.gix_commands.proofs.SameWords.{OfWords, request_words}
 
@@ -32,7 +30,7 @@ over_sound {layers = layers} (not_opened request t f) = λ same. subst (FailsToO
 over_sound (not_read request rows t o) = λ e. cc
 over_sound (bad_record request rows input n t o i b) = λ e. cc
 over_sound (disagrees request rows input records i t o h are d) = λ e. cc
-over_sound {layers = layers} (served request rows input records t o i are agree s) = serves_sound (readable_agrees (reads_all_lines request) (with_rows rows (stored records)) rows (opened_agree layers rows (stored records) o agree)) s
+over_sound {layers = layers} (served request rows input records t o i are agree s) = over_is_sound (stored records) rows request (opened_agree layers rows (stored records) o agree) s
 
 -- where the reader has records, none is reported as bad
 pub over_spelled : {words layers : List (List ℕ)} {has old : Option (List ℕ)} {answer : Result (Unit {0}) Fault} {new : Option (List ℕ)} → RunsOver words layers has old answer new

@@ -3,7 +3,6 @@ use Rattle.std.proofs.Common.{◌≡◌, ◌≢◌, ◌<◌, ℕ, ℤ, List, [],
 use Rattle.gix_commands.proofs.Common.{Contains-get_or, Contains-append_left, IsBeginningBy, IsListBy, ObjectId}
 use Rattle.std.proofs.Math.ListN.{get_or, get_or-append}
 use Rattle.gix_revwalk.proofs.Beginnings.{begins_less}
-use Rattle.gix_statement.proofs.HaveHistory.{below}
 use Rattle.gix_statement.specs.WholeStatement.{Begins, IsNext, IsShown, IsWhole, Reaches}
 
 module _ (parents followed : ObjectId → List ObjectId) (time : ObjectId → ℤ) (starts hidden : List ObjectId) where

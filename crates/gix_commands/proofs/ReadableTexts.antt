@@ -1,7 +1,7 @@
 -- What is read of objects has the commits and the trees of the page that the objects have, and no other; and each of its commits has the
 -- text of one, as far as it is asked for.
-use Rattle.std.proofs.Common.{◌≡◌, ◌≢◌, ℕ, Bool, true, false, List, [], ◌∷◌, ◌++◌, Option, Some, None, codes, option_map, refl, sym, ap, subst, ◌∙◌}
-use Rattle.gix_commands.proofs.Common.{get, none-some, same_Some, ObjectId, kind_of, Object, Objects, kind_word, scanned, Request}
+use Rattle.std.proofs.Common.{◌≡◌, ◌≢◌, ℕ, Bool, true, false, List, [], ◌∷◌, ◌++◌, Option, Some, None, codes, option_map, inl, inr, refl, sym, ap, subst, ◌∙◌}
+use Rattle.gix_commands.proofs.Common.{get, no_member, none-some, same_Some, ObjectId, kind_of, Object, Objects, kind_word, scanned, Request}
 use Rattle.gix_hash.specs.declared.Kind.{Kind as HashKind}
 use Rattle.gix_object.specs.declared.Kind.{Kind}
 use Rattle.gix_object.specs.declared.Kind.TheVariants as kind
@@ -9,7 +9,7 @@ use Rattle.gix_object.specs.declared.decode.Error.{Error as DecodeError}
 use Rattle.gix_object.specs.CommitItems.{commit_items}
 use Rattle.gix_revwalk.specs.declared.Parents.TheVariants as mode
 use Rattle.gix_statement.specs.WholeStatement as page
-use Rattle.gix_statement.specs.WholeStatement.{Entry, IsText, IsThere, IsTree, Row}
+use Rattle.gix_statement.specs.WholeStatement.{Entry, IsText, IsThere, IsTree, Row, subject_in}
 use Rattle.gix_commands.specs.Pages.{AreCommits, HaveTexts, as_page, page_objects}
 use Rattle.gix_commands.specs.Readable.{is_faultless, is_text, or_zero, readable, readable_bytes, readable_object, reads_all_lines}
 use Rattle.gix_commands.proofs.PageTexts.{text_there}
@@ -57,6 +57,16 @@ module _ (all_lines : Bool) (objects : Objects) where
   text_kept r (id, lines, rest, spells, parents, time, is) =
       let o = found r.id (codes "commit") (codes "tree " ++ id ++ 10 ∷ lines) is in
       (id, lines, rest, spells, parents, time, kept r.id (codes "commit") (codes "tree " ++ id ++ 10 ∷ lines) o (unchanged r.id o.object.kind 116 o.object.bytes _ (λ e. let no : ◌≡◌ {A = ℕ} 116 0 = e in cc) o.are_bytes))
+
+  -- a commit that is there by its text has the subject that it had
+  pub subject_kept : (i : ObjectId) → IsThere (page_objects seen) [] i → IsThere (page_objects objects) [] i × (subject_in (page_objects seen i) ≡ subject_in (page_objects objects i))
+  unfolding text_kept
+  subject_kept i (r, is, inr (none, row)) = absurd (no_member r row)
+  subject_kept i (r, is, inl text) =
+      let before = text_kept r text in
+      let seen_so = text.6 in
+      let stored_so = before.6 in
+      ((r, is, inl before), subst (λ j. subject_in (page_objects seen j) ≡ subject_in (page_objects objects j)) is (ap subject_in (seen_so ∙ sym stored_so)))
 
   tree_bytes : (i : ObjectId) (k : Kind) (text : List ℕ) → kind_word k ≡ codes "tree" → readable_bytes all_lines i k text ≡ text
   tree_bytes i kind.Commit text e = cc

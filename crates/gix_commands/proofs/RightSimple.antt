@@ -178,7 +178,7 @@ module _ (objects : Objects) (rows : List GraphRow) (agrees : IsAgreeing objects
     first_each ended may walk starts ids more l r allows all =
         let those = lists_so (ids ++ more) l in (
           r.there,
-          simple_each (page_objects objects) [] texts (time_of objects) (fed_history objects) None None name option words (page_choice shown) place tips hidden ids (is_order name (Simple m by) named) chooses some r.there allows ended may (bytes_of ids) refl tt
+          simple_each (page_objects objects) [] texts (time_of objects) (fed_history objects) None None name option words (page_choice shown) place tips hidden ids (is_order name (Simple m by) named) chooses some r.there (λ e. r.there) allows ended may (bytes_of ids) refl tt
               (simple_name name m by named) (is_followed objects texts name option tips m by named chosen_by)
               (begins_so texts through (time_of objects) left hidden name (ids ++ more) those ids more refl)
               (λ one_more. let same : ids ++ more ≡ ids = ap (λ xs. ids ++ xs) (all one_more).0 ∙ append-nil ids in whole_so texts through (time_of objects) left hidden name ids (subst ListsSo same those))
@@ -191,7 +191,7 @@ module _ (objects : Objects) (rows : List GraphRow) (agrees : IsAgreeing objects
     none_each_so ended may walk starts ids none allows unstarted =
         let there : All IsHere ids = (λ k d few. absurd (omega (arith, few, ap length none))) in (
           there,
-          none_each (page_objects objects) [] texts (time_of objects) (fed_history objects) None None name option words (page_choice shown) place tips hidden ids (is_order name (Simple m by) named) chooses some there allows ended may (bytes_of ids) refl tt
+          none_each (page_objects objects) [] texts (time_of objects) (fed_history objects) None None name option words (page_choice shown) place tips hidden ids (is_order name (Simple m by) named) chooses some there (λ e. there) allows ended may (bytes_of ids) refl tt
               (simple_name name m by named) (is_followed objects texts name option tips m by named chosen_by) none unstarted (λ late. tips_there walk starts (by_time late)),
         )
 

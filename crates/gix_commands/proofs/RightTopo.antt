@@ -61,7 +61,7 @@ module _ (objects : Objects) (rows : List GraphRow) (agrees : IsAgreeing objects
           let there : All (IsThere (page_objects objects) []) ids =
           (λ k d few. let i = get_or ids k d in read_there i (inl (l.shown i (Contains-append_left ids more i (Contains-get_or ids k d few))).reached)) in (
             there,
-            down_each (page_objects objects) [] (text_next objects) (time_of objects) (fed_history objects) None None name option words (page_choice shown) place tips ends ids (is_order name (Topo m by) named) chooses some there allows ended may (bytes_of ids) refl tt (down_name name m by named) (is_followed_down objects (text_next objects) m name by named option tips picked)
+            down_each (page_objects objects) [] (text_next objects) (time_of objects) (fed_history objects) None None name option words (page_choice shown) place tips ends ids (is_order name (Topo m by) named) chooses some there (λ e. there) allows ended may (bytes_of ids) refl tt (down_name name m by named) (is_followed_down objects (text_next objects) m name by named option tips picked)
                 (begins_so (text_next objects) (followed_down objects m) (time_of objects) tips ends name (ids ++ more) those ids more refl)
                 (λ one_more. let same : ids ++ more ≡ ids = ap (λ xs. ids ++ xs) (all one_more) ∙ append-nil ids in whole_so (text_next objects) (followed_down objects m) (time_of objects) tips ends name ids (subst ListsSo same those))
                 (λ i r. read_there i (inl (reaches_back (followed_down objects m) tips i r))) (λ i r. read_there i (inr (reaches_back (text_next objects) ends i r))),

@@ -1,5 +1,5 @@
 -- What a run may answer.
-use Rattle.std.proofs.Common.{◌≡◌, ◌≢◌, ℕ, List, [], ◌∷◌, Option, Some, None, Result, Ok, Err, refl, sym, subst, ap, ◌∙◌}
+use Rattle.std.proofs.Common.{◌≡◌, ◌≢◌, ℕ, Bool, true, false, List, [], ◌∷◌, Option, Some, None, Result, Ok, Err, refl, sym, subst, ap, ◌∙◌}
 use Rattle.gix_commands.proofs.Common.{get, same_map, ObjectId, Object, Objects, id_total, id_apart, with_rows, GraphRow, IsAgreeing, none_agree, Info, Parents, Fault, Order, Simple, Topo, fault_of_records, fault_of_walk, fault_of_topo_walk, WritesAll, stored, walked, not_walked, walked_down, not_built, not_listed, not_ahead, not_behind, not_selected, not_reaching, not_joined, unserved, Runs, without_memory, no_command, Shown, Writes, kept_in}
 use Rattle.gix_commands.proofs.Common.{not_read, bad_record, served, StartsFrom, FailsAtStart, IsStartFault, Ends, EndsBy, finished, cut_short, enough, before, Request, Commits, request_of, no_bad_record}
 use Rattle.std.specs.Option.{option_or}
@@ -21,7 +21,8 @@ use Rattle.gix_commands.specs.Output as output
 use Rattle.gix_commands.specs.Output.{WritesBegun, cut}
 use Rattle.gix_commands.specs.Readable.{readable, reads_all_lines}
 use Rattle.gix_commands.specs.Run as run
-use Rattle.gix_commands.specs.Run.{Serves, cut_off}
+use Rattle.gix_commands.specs.Run.{Serves, ServesOver, cut_off, shows_subjects, used_if, used_rows}
+use Rattle.gix_commands.proofs.ReadableObjects.{readable_agrees}
 use Rattle.gix_commands.specs.TopoWalked as topo
 use Rattle.gix_commands.specs.Walked.{Walk, Answers, IsWalkFault, failed}
 use Rattle.gix_commands.proofs.CheckedWalks.{IsChecked, IsItself, from_by, well, lacking}
@@ -44,6 +45,21 @@ without_rows objects = same_map id_total id_apart _ _ (λ i. get-with_rows [] ob
     alone : (o : Option Object) → option_or o None ≡ o
     alone None = refl
     alone (Some object) = refl
+
+-- where there are no rows none are used
+pub none_used : (objects : Objects) (old : Option (List ℕ)) (request : Request) (result : Result (Unit {0}) Fault) (new : Option (List ℕ)) → ServesOver objects [] old request result new
+    → Serves (readable (reads_all_lines request) (with_rows [] objects)) [] old request result new
+none_used objects old request result new = subst (λ rows. Serves (readable (reads_all_lines request) (with_rows rows objects)) rows old request result new) (none (shows_subjects request))
+  where
+    none : (t : Bool) → ◌≡◌ {A = List GraphRow} (used_if t []) []
+    none true = refl
+    none false = refl
+
+-- a list over the rows that are used
+pub over_used : (objects : Objects) (rows used : List GraphRow) (order : Order) (shown : Shown) (tips hidden : List ObjectId) (old : Option (List ℕ)) (result : Result (Unit {0}) Fault) (new : Option (List ℕ)) → used ≡ used_if shown.line.subject rows
+    → Serves (readable (reads_all_lines (Commits order shown tips hidden)) (with_rows used objects)) used old (Commits order shown tips hidden) result new → ServesOver objects rows old (Commits order shown tips hidden) result new
+over_used objects rows used order shown tips hidden old result new is =
+    subst (λ those. Serves (readable (reads_all_lines (Commits order shown tips hidden)) (with_rows those objects)) those old (Commits order shown tips hidden) result new) is
 
 -- no walk over records ends by an internal fault
 ends_sound : {walk : Walk} {infos : List Info} {answer : Result (Unit {0}) Fault} → Ends Answers IsWalkFault walk infos answer → answer ≢ Err fault.Internal
@@ -85,6 +101,15 @@ serves_sound {objects} {rows} agreeing (not_reaching {target = target} {tips = t
 serves_sound {objects} {rows} agreeing (not_joined {one = one} {others = others} why f) = λ same. bases_sound objects rows agreeing one others why f (err_same same)
 serves_sound agreeing s = λ e. cc
 
+-- the same over rows that are used, if they are
+pub over_is_sound : (objects : Objects) (rows : List GraphRow) (request : Request) {old new : Option (List ℕ)} {answer : Result (Unit {0}) Fault} → IsAgreeing (with_rows rows objects) rows → ServesOver objects rows old request answer new → answer ≢ Err fault.Internal
+over_is_sound objects rows request agreeing =
+    serves_sound (readable_agrees (reads_all_lines request) (with_rows (used_rows request rows) objects) (used_rows request rows) (used (shows_subjects request)))
+  where
+    used : (t : Bool) → IsAgreeing (with_rows (used_if t rows) objects) (used_if t rows)
+    used true = none_agree (with_rows [] objects) [] refl
+    used false = agreeing
+
 pub runs_sound : {words : List (List ℕ)} {has old : Option (List ℕ)} {answer : Result (Unit {0}) Fault} {new : Option (List ℕ)} → Runs words has old answer new → answer ≢ Err fault.Internal
 runs_sound without_memory = λ e. cc
 runs_sound {words} (no_command t) = λ same. subst OfWords (t ∙ ap (λ x. Err x) (err_same same)) (request_words words)
@@ -120,8 +145,8 @@ module _ (words : List (List ℕ)) (has old : Option (List ℕ)) where
 
   module _ (request : Request) (t : request_of words ≡ Ok request) (objects : Objects) (read : IsReadFrom has objects) (new : Option (List ℕ)) where
     -- what was asked for was served
-    pub runs_served : (result : Result (Unit {0}) Fault) → Serves (readable (reads_all_lines request) (with_rows [] objects)) [] old request result new → Runs words has old result new
-    runs_served result s = served request read.0 read.1 t read.2 read.3 (subst (λ (o : Objects). Serves (readable (reads_all_lines request) o) [] old request result new) (without_rows objects ∙ read.4) s)
+    pub runs_served : (result : Result (Unit {0}) Fault) → ServesOver objects [] old request result new → Runs words has old result new
+    runs_served result s = served request read.0 read.1 t read.2 read.3 (subst (λ (o : Objects). Serves (readable (reads_all_lines request) o) [] old request result new) (without_rows objects ∙ read.4) (none_used objects old request result new s))
 
 module _ (objects : Objects) (rows : List GraphRow) (old : Option (List ℕ)) (order : Order) (shown : Shown) (tips hidden : List ObjectId) where
   -- the walk was drawn, and all that is asked for was written or a beginning of it

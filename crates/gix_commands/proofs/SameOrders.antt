@@ -1,5 +1,5 @@
 -- What commits reach, breadth order and time order are those of the statement.
-use Rattle.std.proofs.Common.{◌≡◌, ◌≢◌, ℕ, ℤ, List, [], ◌∷◌, ◌++◌, find, filter, Bool, true, false, cond, not, ◌&&◌, ◌||◌, ◌⊎◌, Option, Some, None, AllPairs, Contains, flat_map, refl, sym, ap}
+use Rattle.std.proofs.Common.{◌≡◌, ◌≢◌, ℕ, ℤ, List, [], ◌∷◌, ◌++◌, find, filter, Bool, true, false, cond, not, ◌&&◌, ◌||◌, Option, Some, None, AllPairs, Contains, flat_map, refl, sym, ap}
 use Rattle.std.proofs.Common.{subst, ◌∙◌, codes, ⊎_elim, arith}
 use Rattle.gix_commands.proofs.Common.{false≢true, All-nil, All-cons, Contains-append_left, Contains-append_right, Contains-append_cases, Contains-get_or, same_Some, none-some, ObjectId, is_among}
 use Rattle.gix_commands.proofs.Common.{is_same, among_from, among_is, Contains-here, Contains-there, Contains-cons_cases, no_member, CommitTimeOrder, IsListBy, IsNextOne, named_by, new_ids, IsNoWorse}

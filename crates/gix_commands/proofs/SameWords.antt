@@ -12,7 +12,7 @@ use Rattle.gix_simple.specs.declared.Sorting.TheVariants as sorting
 use Rattle.gix_topo.specs.declared.Sorting.TheVariants as topo
 use Rattle.gix_statement.specs.WholeStatement as page
 use Rattle.gix_statement.specs.WholeStatement.{Chooses}
-use Rattle.gix_words.specs.Words.{WordReader, changed_by, changed_by_number, either_of, ended_of, first_number, formed_of, limited_of, merges_of, named_of, number_option_of, numbered_of, option_of, skipped_of, timed_of, until_of}
+use Rattle.gix_words.specs.Words.{WordReader, changed_by, changed_by_number, either_of, ended_of, first_number, formed_of, limited_of, merges_of, named_of, number_option_of, numbered_of, option_of, skipped_of, timed_of, titled_of, until_of}
 use Rattle.gix_words.specs.declared.fault.Fault.TheVariants as fault
 use Rattle.gix_words.specs.declared.words.Merges.{Merges}
 use Rattle.gix_words.specs.declared.words.Merges.TheVariants as merges
@@ -192,13 +192,13 @@ AreChosen lowest words (Ok a) = IsChosen lowest words a
 abbrev Reads : ℕ → WordReader → Type 0
 Reads lowest read = (n : ℕ) (words : List (List ℕ)) → AreChosen lowest words (read n words)
 
-plain_reads : Reads 8 plain_of
+plain_reads : Reads 9 plain_of
 plain_reads n words = go (list_all begins_with_caret words) refl
   where
-    from : (r : Result Ids Fault) → list_all begins_with_caret words ≡ false → AreIdsOf words r → AreChosen 8 words (chosen_from r)
+    from : (r : Result Ids Fault) → list_all begins_with_caret words ≡ false → AreIdsOf words r → AreChosen 9 words (chosen_from r)
     from (Err e) some h = h
     from (Ok ids) some h = record {
-      place = 8;
+      place = 9;
       chooses = page.everything h;
       late = omega arith;
       some = λ e. false≢true (sym some ∙ all_hidden words ids.0 ids.1 h e);
@@ -206,7 +206,7 @@ plain_reads n words = go (list_all begins_with_caret words) refl
       all = λ k. refl;
     }
 
-    go : (t : Bool) → list_all begins_with_caret words ≡ t → AreChosen 8 words (cond t (Err fault.Usage) (chosen_from (ids_from n words)))
+    go : (t : Bool) → list_all begins_with_caret words ≡ t → AreChosen 9 words (cond t (Err fault.Usage) (chosen_from (ids_from n words)))
     go true e = tt
     go false e = from (ids_from n words) e (ids_are n words)
 
@@ -261,13 +261,17 @@ module _ (place : ℕ) where
             go None e = tt
             go (Some m) e = changed_are (name ∷ number ∷ []) (change m) (adds number m (is_number digits number m e)) rest (next (n + 2) rest) (reads (n + 2) rest)
 
-ended_reads : Reads 7 ended_of
+ended_reads : Reads 8 ended_of
 unfolding ended_of
-ended_reads = option_reads 7 (codes "-z") _ plain_of plain_of (late_adds 7 (omega arith) (codes "-z" ∷ []) _ (λ shown. refl) (λ shown. refl) (λ words a p late chooses. page.zero_ended late chooses)) plain_reads (higher 7 plain_of plain_reads)
+ended_reads = option_reads 8 (codes "-z") _ plain_of plain_of (late_adds 8 (omega arith) (codes "-z" ∷ []) _ (λ shown. refl) (λ shown. refl) (λ words a p late chooses. page.zero_ended late chooses)) plain_reads (higher 8 plain_of plain_reads)
+
+titled_reads : Reads 7 titled_of
+unfolding titled_of
+titled_reads = option_reads 7 (codes "--oneline") _ ended_of ended_of (late_adds 7 (omega arith) (codes "--oneline" ∷ []) _ (λ shown. refl) (λ shown. refl) (λ words a p late chooses. page.with_subject late chooses)) ended_reads (higher 7 ended_of ended_reads)
 
 named_reads : Reads 6 named_of
 unfolding named_of
-named_reads = option_reads 6 (codes "--parents") _ ended_of ended_of (late_adds 6 (omega arith) (codes "--parents" ∷ []) _ (λ shown. refl) (λ shown. refl) (λ words a p late chooses. page.with_parents late chooses)) ended_reads (higher 6 ended_of ended_reads)
+named_reads = option_reads 6 (codes "--parents") _ titled_of titled_of (late_adds 6 (omega arith) (codes "--parents" ∷ []) _ (λ shown. refl) (λ shown. refl) (λ words a p late chooses. page.with_parents late chooses)) titled_reads (higher 6 titled_of titled_reads)
 
 timed_reads : Reads 5 timed_of
 unfolding timed_of

@@ -1,8 +1,8 @@
 -- What a run over rows answers is what the page promises: over a store, or over the files of a commit-graph and records.
-use Rattle.std.proofs.Common.{◌≡◌, ℕ, List, [], ◌∷◌, Option, Result, Ok, Contains, refl, inl, inr, ⊎_elim}
+use Rattle.std.proofs.Common.{◌≡◌, ℕ, Bool, true, false, List, [], ◌∷◌, Option, Result, Ok, Contains, refl, sym, subst, ◌∙◌, inl, inr, ⊎_elim}
 use Rattle.std.specs.List.{AllByRecursion}
 use Rattle.std.proofs.lemmas.List.Elements.{All-contains}
-use Rattle.gix_commands.proofs.Common.{Fault, GraphRow, IsAgreeing, Contains-cons_cases, no_member, Objects, ObjectId, Request, request_of, stored, with_rows}
+use Rattle.gix_commands.proofs.Common.{Fault, false≢true, GraphRow, IsAgreeing, Contains-cons_cases, no_member, Objects, ObjectId, Request, request_of, stored, with_rows}
 use Rattle.gix_commitgraph.specs.Packed.{AreGraphRows}
 use Rattle.gix_commitgraph.specs.Renumbering.{HasSameRows, HaveDistinctIds, HavePlacesWithin}
 use Rattle.gix_commitgraph.specs.declared.ParentPlace.{ParentPlace}
@@ -16,13 +16,17 @@ use Rattle.gix_words.specs.declared.fault.Fault.TheVariants as fault
 use Rattle.gix_commands.specs.Pages.{AreRows, page_objects, page_rows}
 use Rattle.gix_commands.specs.Readable.{readable, reads_all_lines}
 use Rattle.gix_commands.specs.Run as run
-use Rattle.gix_commands.specs.Run.{RunsOver, Serves}
+use Rattle.gix_commands.specs.Run.{RunsOver, Serves, ServesOver, shows_subjects, used_if}
 use Rattle.gix_commands.specs.StoredRuns as store
 use Rattle.gix_commands.specs.StoredRuns.{RunsStored}
 use Rattle.gix_commands.proofs.PageCommits.{whole_text}
 use Rattle.gix_commands.proofs.RightRuns.{right}
 use Rattle.gix_commands.proofs.FileOrder.{opened_layers}
 use Rattle.gix_commands.proofs.Promised.{promised}
+use Rattle.gix_commands.proofs.PromisedRuns.{unrowed_promises}
+use Rattle.gix_commands.proofs.RunFacts.{without_rows}
+use Rattle.gix_commands.proofs.SameWords.{AreWordsOf, are_words}
+use Rattle.gix_commands.proofs.SubjectWords.{shows_asked}
 use Rattle.gix_commands.proofs.ReadableObjects.{readable_agrees}
 use Rattle.gix_commands.proofs.ReachedIsRead.{reached_is_read}
 use Rattle.gix_commands.proofs.ReadableTexts.{have_texts, text_kept, tree_kept}
@@ -35,7 +39,7 @@ abbrev pub seen : Request → List GraphRow → Objects → Objects
 seen request rows objects = readable (reads_all_lines request) (with_rows rows objects)
 
 module _ (words : List (List ℕ)) (request : Request) (asked : request_of words ≡ Ok request) (rows : List GraphRow) (objects : Objects) (graph : AreGraphRows rows) (sound : AreSound rows) (agree : StoredAgree rows objects)
-    (AreGiven : page.Objects → List Row → Type 0) (old : Option (List ℕ)) (answer : Result (Unit {0}) Fault) (new : Option (List ℕ)) (served : Serves (seen request rows objects) rows old request answer new) where
+    (AreGiven : page.Objects → List Row → Type 0) (old : Option (List ℕ)) (answer : Result (Unit {0}) Fault) (new : Option (List ℕ)) (served : ServesOver objects rows old request answer new) where
   seen_agrees : IsAgreeing (seen request rows objects) rows
   seen_agrees = readable_agrees (reads_all_lines request) (with_rows rows objects) rows (every_agree whole_text rows objects graph sound agree)
 
@@ -53,9 +57,16 @@ module _ (words : List (List ℕ)) (request : Request) (asked : request_of words
     tree_on i entries tree = tree_is_tree whole_text rows objects graph sound agree i entries (tree_kept (reads_all_lines request) (with_rows rows objects) i entries tree)
 
     served_over : Promises fault.Write words AreGiven old answer new
-    served_over =
-        promised (page_objects (seen request rows objects)) (page_objects objects) those commit_on tree_on AreGiven given consistent words old answer new
-        (right (seen request rows objects) rows seen_agrees (reached_is_read (seen request rows objects) rows seen_agrees) old words request asked (have_texts request (with_rows rows objects)) answer new served)
+    served_over = go (shows_subjects request) refl served
+      where
+        go : (t : Bool) → shows_subjects request ≡ t → Serves (seen request (used_if t rows) objects) (used_if t rows) old request answer new → Promises fault.Write words AreGiven old answer new
+        go true shows s =
+            unrowed_promises words request asked objects those consistent AreGiven given old answer new
+            (subst (λ (o : Objects). Serves (readable (reads_all_lines request) o) [] old request answer new) (without_rows objects) s)
+        go false shows s =
+            promised (page_objects (seen request rows objects)) (page_objects objects) those commit_on tree_on AreGiven given consistent words
+            (λ asks. absurd (false≢true (sym shows ∙ shows_asked words request (subst (AreWordsOf words) asked (are_words words)) asks))) old answer new
+            (right (seen request rows objects) rows seen_agrees (reached_is_read (seen request rows objects) rows seen_agrees) old words request asked (have_texts request (with_rows rows objects)) answer new s)
 
   pub served_sorted : AreGiven (page_objects objects) (page_rows rows) → Promises fault.Write words AreGiven old answer new
   served_sorted given = served_over (page_rows rows) (λ r c. c) (rows_agree whole_text rows objects graph sound agree) given

@@ -1,5 +1,5 @@
 -- What a run of `topo` or `date` writes, by what commits reach.
-use Rattle.std.proofs.Common.{◌≡◌, ℕ, List, [], ◌∷◌, ◌++◌, map, filter, false, true, Option, Some, None, Result, Ok, Err, Contains, IsSome, refl, sym, ap, subst, ⊎_elim, ◌∙◌}
+use Rattle.std.proofs.Common.{◌≡◌, ℕ, List, [], ◌∷◌, ◌++◌, map, filter, true, Option, Some, None, Result, Ok, Err, Contains, IsSome, refl, sym, ap, subst, ⊎_elim, ◌∙◌}
 use Rattle.gix_commands.proofs.Common.{kept_in, Shown, EndsBy, Yields, Contains-append_left, Contains-append_right, ObjectId, IsExistingFault, id_cmp, Objects, GraphRow, Info, Parents, Commit, commit_at}
 use Rattle.gix_commands.proofs.Common.{parents_in, parents_of, text_next, step, walked_within, no_member, Contains-cons_cases, TopoPlan, IsCommitRead, IsReached, IsFault, IsFirstReady, IsNextReady, IsAgreeing, Fault, Topo}
 use Rattle.gix_commands.proofs.Common.{fault_of_topo_walk, AreWhole, TopoSucceeds, EndsWell, IsOutside, walked_down, not_built, IsBuiltFrom}

@@ -1,5 +1,5 @@
 -- What is written of commits, in the words of the page.
-use Rattle.std.proofs.Common.{◌≡◌, ◌⊎◌, ◌≤◌, ℕ, suc, List, Option, Some, None, Ok, Err, reverse, refl, sym, subst, inl, inr, arith}
+use Rattle.std.proofs.Common.{◌≡◌, ◌⊎◌, ◌≤◌, ℕ, suc, List, Option, Some, None, Ok, Err, refl, sym, subst, inl, inr, arith}
 use Rattle.gix_commands.proofs.Common.{Appends, Fault, ObjectId, Writes}
 use Rattle.gix_statement.specs.WholeStatement as page
 use Rattle.gix_statement.specs.WholeStatement.{Allows}

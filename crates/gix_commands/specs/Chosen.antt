@@ -1,5 +1,5 @@
 -- Which of the commits that a walk gives are written, and how.
-use Rattle.std.specs.Prelude.{◌≡◌, ◌-◌, ◌<◌, ◌&&◌, ℕ, ℤ, pos, int_le, nat_lt, nat_le, List, [], ◌∷◌, ◌++◌, length, map, reverse, Bool, true, false, Option, Some, None, Result, Ok, Err}
+use Rattle.std.specs.Prelude.{◌≡◌, ◌-◌, ◌<◌, ◌&&◌, ℕ, ℤ, pos, int_le, nat_lt, nat_le, List, [], ◌∷◌, ◌++◌, length, map, reverse, Bool, true, false, Option, Some, None, Result, Ok, Err, codes}
 use Rattle.std.specs.Fmt.{digits}
 use Rattle.std.specs.Io.KnownBytes.{Appends}
 use Rattle.std.specs.List.{flat_map}
@@ -12,6 +12,7 @@ use Rattle.gix_revwalk.specs.Commits.{time_of}
 use Rattle.gix_revwalk.specs.Texts.{text_next}
 use Rattle.gix_statement.specs.WholeStatement as page
 use Rattle.gix_statement.specs.WholeStatement.{chosen, commit_line}
+use Rattle.gix_commands.specs.Pages.{page_objects}
 use Rattle.gix_words.specs.declared.fault.Fault.{Fault}
 use Rattle.gix_words.specs.declared.words.Form.{Form}
 use Rattle.gix_words.specs.declared.words.Form.TheVariants as form
@@ -39,7 +40,7 @@ page_form form.Count = page.Number
 page_form form.Reverse = page.Reversed
 
 abbrev pub page_line : Line → page.Line
-page_line has = record { has_time = has.time; has_parents = has.parents; ending = has.ending }
+page_line has = record { has_time = has.time; has_parents = has.parents; has_subject = has.subject; ending = has.ending }
 
 -- what is written, in the words of the page
 abbrev pub page_choice : Shown → page.Choice
@@ -49,9 +50,13 @@ page_choice shown = record { keeps = λ parents time. is_kept shown parents time
 abbrev pub kept_in : Objects → Shown → List Info → List ObjectId
 kept_in objects shown infos = chosen (text_next objects) (time_of objects) (page_choice shown) (map (λ info. info.id) infos)
 
+-- a commit that has this text
+abbrev pub commit_with : List ℕ → page.Object
+commit_with text = record { kind = codes "commit"; bytes = text }
+
 -- the line of a commit, by the texts that are stored
 abbrev pub line_in : Objects → Shown → ObjectId → List ℕ
-line_in objects shown = commit_line (text_next objects) (time_of objects) (page_line shown.line)
+line_in objects shown = commit_line (page_objects objects) (text_next objects) (time_of objects) (page_line shown.line)
 
 -- What is written of them: their lines, these with the last first, or their number. Of a list that hasn't ended well only lines are.
 abbrev pub Writes : (line : ObjectId → List ℕ) → Form → Result (Unit {0}) Fault → List ObjectId → (old new : Option (List ℕ)) → Type 0

@@ -1,5 +1,5 @@
 -- What a run of the program may answer and write.
-use Rattle.std.specs.Prelude.{◌≡◌, ◌≢◌, ℕ, List, [], ◌∷◌, length, Option, Result, Ok, Err}
+use Rattle.std.specs.Prelude.{◌≡◌, ◌≢◌, ℕ, Bool, true, false, List, [], ◌∷◌, length, Option, Result, Ok, Err}
 use Rattle.std.specs.Io.KnownBytes.{Appends}
 use Rattle.std.specs.Iterator.{Yields}
 use Rattle.std.specs.List.{flat_map}
@@ -105,9 +105,26 @@ pub data Serves (objects : Objects) (rows : List GraphRow) (old : Option (List �
       → Serves objects rows old request answer full → Appends old new some → Appends new full more
       → Serves objects rows old request (Err fault.Write) new
 
--- The same where each row is of a commit: the commit is there too if nothing is stored at the row's id.
+-- whether subjects are asked for
+abbrev pub shows_subjects : Request → Bool
+shows_subjects (Commits order shown tips hidden) = shown.line.subject
+shows_subjects (Files shown tree) = false
+shows_subjects (Ahead one other) = false
+shows_subjects (Contained tip ids) = false
+shows_subjects (Containing target tips) = false
+shows_subjects (Bases one others) = false
+
+-- the rows that are used: none where subjects are asked for, which no row has
+abbrev pub used_if : (has_subject : Bool) → List GraphRow → List GraphRow
+used_if true rows = []
+used_if false rows = rows
+
+abbrev pub used_rows : Request → List GraphRow → List GraphRow
+used_rows request rows = used_if (shows_subjects request) rows
+
+-- The same where each row is of a commit: the commit is there too if nothing is stored at the row's id, and if the rows are used.
 abbrev pub ServesOver : Objects → List GraphRow → (old : Option (List ℕ)) → Request → Result (Unit {0}) Fault → Option (List ℕ) → Type 0
-ServesOver objects rows old request = Serves (readable (reads_all_lines request) (with_rows rows objects)) rows old request
+ServesOver objects rows old request = Serves (readable (reads_all_lines request) (with_rows (used_rows request rows) objects)) (used_rows request rows) old request
 
 -- Over these words, a reader that has the bytes `has` and a writer that has the bytes `old`: which answers a run may give, and which bytes
 -- the writer then has.

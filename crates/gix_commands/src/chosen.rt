@@ -1,7 +1,8 @@
 //! Which of the commits that a walk gives are written.
 ghost use Rattle.std.specs.Prelude.{◌≡◌, ◌≢◌, ◌++◌, ◌∷◌, [], ℕ, ℤ, true, Some, IfOk, IfErr, MatchBool, OnOk, pos};
-ghost use Rattle.gix_commands.specs.Chosen.{Passes, IsHeaderOf, fresh_choosing, is_kept, keeps, line_in, page_line, seconds_or_zero};
-ghost use Rattle.gix_statement.specs.WholeStatement.{commit_line};
+ghost use Rattle.gix_commands.specs.Chosen.{Passes, IsHeaderOf, commit_with, fresh_choosing, is_kept, keeps, line_in, page_line, seconds_or_zero};
+ghost use Rattle.gix_commands.specs.Pages.{page_objects};
+ghost use Rattle.gix_statement.specs.WholeStatement.{commit_line, subject, subject_in};
 ghost use Rattle.std.specs.Bool.{if◌then◌else◌};
 ghost use Rattle.std.specs.Fmt.{signed_decimal};
 ghost use Rattle.std.specs.List.{flat_map};
@@ -15,7 +16,8 @@ use crate::commits::Lent;
 use crate::digits::add_id;
 use gix_commitgraph::Graph;
 use gix_hash::ObjectId;
-use gix_object::find::existing_iter;
+use gix_message::add_subject;
+use gix_object::find::{self, Find, existing_iter};
 use gix_records::LentStore;
 use gix_revwalk::read::{Header, find_header};
 use gix_revwalk::{ParentIds, Parents};
@@ -131,13 +133,35 @@ impl<'a> Chooser<'a> {
         ensures err { IfErr result (λ e. (e ≡ Fault.Memory) × (lines.new.items ≡ lines.old.items)) }
     {
         let has = self.shown.line;
-        if !has.time && !has.parents {
+        if !has.time && !has.parents && !has.subject {
             return Ok(add_id(lines, id, has.ending)?);
         }
         let mut text = Vec::new(self.alloc);
         let header = look_at(self.alloc, &self.objects, id, &mut text)?;
-        let line = line_of(self.alloc, has, id, &header)?;
+        text.clear();
+        if has.subject {
+            read_text(&self.objects, id, &mut text)?;
+        }
+        let line = line_of(self.alloc, has, id, &header, text.as_slice())?;
         Ok(lines.extend_from_slice(line.as_slice())?)
+    }
+}
+
+/// Reads the bytes of an object: none where there is no object.
+///
+/// # Errors
+/// `Memory`.
+fn read_text(objects: &Lent<'_>, id: &ObjectId, text: &mut Vec<u8>) -> Result<(), Fault>
+    ensures ok { OnOk result (subject text.new.items ≡ subject_in (page_objects objects.now id.now)) }
+    ensures err { IfErr result (λ e. e ≡ Fault.Memory) }
+{
+    match objects.find_into(id, text) {
+        Ok(Some(_)) => Ok(()),
+        Err(find::Error::Memory) => Err(Fault::Memory),
+        Ok(None) | Err(find::Error::Store) => {
+            text.clear();
+            Ok(())
+        }
     }
 }
 
@@ -184,16 +208,27 @@ fn no_header(alloc: Global, why: existing_iter::Error) -> Result<Header, Fault>
     }
 }
 
-/// The line of a commit that has this header.
-fn line_of(alloc: Global, has: Line, id: &ObjectId, header: &Header) -> Result<Vec<u8>, AllocError>
-    ensures { IfOk result (λ line. line.items ≡ commit_line (λ i. header.now.parent_ids.items) (λ i. seconds_or_zero header.now.time)
-        (page_line has) id.now) }
+/// The line of a commit that has this header and this text.
+fn line_of(
+    alloc: Global,
+    has: Line,
+    id: &ObjectId,
+    header: &Header,
+    text: &[u8],
+) -> Result<Vec<u8>, AllocError>
+    ensures { IfOk result (λ line. line.items ≡ commit_line (λ i. Some (commit_with text.now)) (λ i. header.now.parent_ids.items)
+        (λ i. seconds_or_zero header.now.time) (page_line has) id.now) }
 {
     let mut line = time_before(alloc, has.time, header)?;
+    let behind = if has.subject { b' ' } else { has.ending };
     if has.parents {
-        add_ids(&mut line, id, header.parent_ids.as_slice(), has.ending)?;
+        add_ids(&mut line, id, header.parent_ids.as_slice(), behind)?;
     } else {
-        add_id(&mut line, id, has.ending)?;
+        add_id(&mut line, id, behind)?;
+    }
+    if has.subject {
+        add_subject(&mut line, text)?;
+        line.extend_from_slice(&[has.ending])?;
     }
     Ok(line)
 }

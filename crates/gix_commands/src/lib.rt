@@ -8,7 +8,7 @@
 
 ghost use Rattle.std.specs.Prelude.{◌≡◌, ◌≢◌, ℕ, List, [], map, Some, Err, string_bytes};
 ghost use Rattle.gix_records.specs.Records.{Record, AreRecords};
-ghost use Rattle.gix_commands.specs.Run.{Runs, ServesOver};
+ghost use Rattle.gix_commands.specs.Run.{Runs, ServesOver, used_if};
 ghost use Rattle.gix_statement.specs.WholeStatement.{AreFed, Objects, Promises, Row};
 ghost use Rattle.gix_words.specs.Words.{Commits, request_of, request_of_command};
 ghost use Rattle.gix_revwalk.specs.Agreeing.{rows_in};
@@ -64,12 +64,13 @@ pub use stored::{run_named, run_stored};
 /// seconds are above it, `--merges` those of commits with fewer than two parents, and `--no-merges` those of commits with more than one.
 /// `--skip` and a number leave out the first lines of these, and `-n` and a number those behind as many; behind the last nothing is read.
 /// With `--reverse` the last of these lines comes first, and with `--count` one line says how many they are. With `--timestamp` a line
-/// begins with the committer's seconds and a space, with `--parents` a space and the id of each parent follow its id, and with `-z` a byte
-/// 0 is at its end. `files` writes the mode, the id and the path of each entry of the tree and of the trees in it, one a line, and with
-/// `-n` and a number the first of these lines alone, though it reads all trees. `ahead` writes how many commits the first id reaches and
-/// the second doesn't, a space, and how many the second reaches and the first doesn't. `contains` writes those of its further ids that the
-/// first reaches, in the order given, one a line, and `containing` those that reach the first. `merge-base` writes the best common
-/// ancestors of the first id and of any of the others, in rising order: what these reach, and no other such commit reaches.
+/// begins with the committer's seconds and a space, with `--parents` a space and the id of each parent follow its id, with `--oneline` a space
+/// and the commit's subject are behind these, and with `-z` a byte 0 is at its end. `files` writes the mode, the id and the path of each
+/// entry of the tree and of the trees in it, one a line, and with `-n` and a number the first of these lines alone, though it reads all
+/// trees. `ahead` writes how many commits the first id reaches and the second doesn't, a space, and how many the second reaches and the
+/// first doesn't. `contains` writes those of its further ids that the first reaches, in the order given, one a line, and `containing` those
+/// that reach the first. `merge-base` writes the best common ancestors of the first id and of any of the others, in rising order: what these
+/// reach, and no other such commit reaches.
 ///
 /// # Errors
 /// `Usage` and `Id` where the words are no command, `Read` where the reader fails or gives no end when it is asked for the last time,
@@ -135,6 +136,13 @@ fn serve<W: Write>(
     }
 }
 
+/// The rows that are used: none where subjects are asked for, which no row has.
+fn used_graph(shown: Shown, graph: Option<&Graph>) -> Option<&Graph>
+    ensures { rows_in result ≡ used_if shown.line.subject (rows_in graph.entry) }
+{
+    if shown.line.subject { None } else { graph }
+}
+
 /// A list of commits that is asked for.
 #[derive(Drop)]
 struct Listing {
@@ -156,6 +164,7 @@ fn serve_commits<W: Write>(
         (Commits listing.order listing.shown listing.ends.tips.items listing.ends.hidden.items) result (W.contents writer.new) }
 {
     let Listing { order, shown, ends } = listing;
+    let graph = used_graph(shown, graph);
     match order {
         Order::Simple { parents, sorting } => {
             let walk = walk_from(alloc, parents, sorting, ends, store, graph)?;

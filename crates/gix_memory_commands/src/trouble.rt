@@ -58,7 +58,7 @@ impl From<gix_gather::Fault> for Trouble {
 
 impl From<gix_repository::Fault> for Trouble {
     fn from(fault: gix_repository::Fault) -> Trouble {
-        match fault {
+        match &fault {
             gix_repository::Fault::Memory => Trouble::Command(Fault::Memory),
             gix_repository::Fault::Odb(_) => Trouble::Objects,
             _ => Trouble::Repository,

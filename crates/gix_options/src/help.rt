@@ -171,6 +171,8 @@ with a name that is empty or holds a slash.
   --count      writes the number of these lines and not the lines
   --timestamp  writes the committer's seconds and a space before each id, in the first five commands
   --parents    writes behind each id a space and the id of each parent, as the commit names them, in the first five commands
+  --oneline    writes behind these a space and the commit's subject, in the first five commands; no commit-graph has subjects, so all
+               commits are read themselves. Not with --border
   --names      writes behind each id of contains and containing a space and the revision as it was given, or the name of
                the ref
   --first-parent

@@ -36,7 +36,7 @@ pub enum Misuse {
     /// `--` would separate revisions from paths.
     #[error("paths aren't known: what follows the command are revisions")]
     Paths,
-    /// This option doesn't go with the command.
+    /// This option doesn't go with the command, or with another option.
     #[error("{0} doesn't go with {1}")]
     Misfit(&'static str, &'static str),
     /// A revision is a word without letters, or `^` alone.

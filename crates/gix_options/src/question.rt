@@ -71,8 +71,10 @@ pub struct Options {
     pub is_reversed: bool,
     /// Whether a line begins with the committer's seconds.
     pub gives_time: bool,
-    /// Whether a line ends with the ids of the parents.
+    /// Whether a line has the ids of the parents.
     pub gives_parents: bool,
+    /// Whether a line ends with the commit's subject.
+    pub gives_subject: bool,
     /// Whether a byte 0 ends each line.
     pub ends_in_zero: bool,
     /// Whether each line says how its revision was called.
@@ -93,6 +95,7 @@ impl Options {
             (self.is_reversed, "--reverse"),
             (self.gives_time, "--timestamp"),
             (self.gives_parents, "--parents"),
+            (self.gives_subject, "--oneline"),
         ];
         for (is_given, option) in given {
             if is_given {
@@ -235,6 +238,7 @@ impl Arguments {
                 is_reversed: false,
                 gives_time: false,
                 gives_parents: false,
+                gives_subject: false,
                 ends_in_zero: false,
                 gives_names: false,
                 certificate: None,
@@ -268,6 +272,7 @@ impl Arguments {
             "--reverse" => self.options.is_reversed = true,
             "--timestamp" => self.options.gives_time = true,
             "--parents" => self.options.gives_parents = true,
+            "--oneline" => self.options.gives_subject = true,
             "--help" | "-h" => self.needs_help = true,
             "--no-graph" => self.options.rows = Rows::Unused,
             "--trust-graph" => self.options.rows = Rows::Trusted,
@@ -435,6 +440,9 @@ impl Arguments {
         }
         if self.options.counts && self.options.is_reversed {
             return Err(Misuse::Count);
+        }
+        if self.options.gives_subject && self.options.takes_border {
+            return Err(Misuse::Misfit("--oneline", "--border"));
         }
         if self.options.by_first_parents
             && !matches!(name, Name::Breadth | Name::Topo | Name::Date)

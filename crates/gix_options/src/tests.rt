@@ -72,6 +72,15 @@ const CASES: &[(&str, &str)] = &[
         "--timestamp doesn't go with contains",
     ),
     ("-C . files --parents a", "--parents doesn't go with files"),
+    ("-C . topo -z --oneline HEAD --reverse", ""),
+    (
+        "-C . ahead --oneline a b",
+        "--oneline doesn't go with ahead",
+    ),
+    (
+        "-C . newest --oneline --border HEAD",
+        "--oneline doesn't go with --border",
+    ),
     ("-C . files -n 1 HEAD -z", ""),
     ("-C . ahead -n 1 a b", "-n doesn't go with ahead"),
     (

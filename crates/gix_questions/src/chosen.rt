@@ -245,6 +245,7 @@ fn push_options(
     push_flag(alloc, options.is_reversed, "--reverse", words)?;
     push_flag(alloc, options.gives_time, "--timestamp", words)?;
     push_flag(alloc, options.gives_parents, "--parents", words)?;
+    push_flag(alloc, options.gives_subject, "--oneline", words)?;
     push_flag(alloc, options.ends_in_zero, "-z", words)
 }
 

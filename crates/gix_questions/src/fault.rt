@@ -49,9 +49,9 @@ impl From<gix_gather::Fault> for Fault {
 
 impl From<gix_repository::Fault> for Fault {
     fn from(fault: gix_repository::Fault) -> Fault {
-        match fault {
+        match &fault {
             gix_repository::Fault::Memory => Fault::Memory,
-            fault => Fault::Repository(fault),
+            _ => Fault::Repository(fault),
         }
     }
 }

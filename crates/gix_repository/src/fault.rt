@@ -7,13 +7,13 @@ use thiserror::Error;
 #[derive(Drop, Debug, Error)]
 pub enum Damage {
     /// It can't be read.
-    #[error("{0}")]
+    #[error(transparent)]
     File(gix_files::Damage),
     /// It says no ref, no path, or no ids.
-    #[error("{0}")]
+    #[error(transparent)]
     Ref(RefFault),
     /// The config can't be read, or says a format that isn't known.
-    #[error("{0}")]
+    #[error(transparent)]
     Config(ConfigFault),
     /// It leads to this path, where no repository is.
     #[error("no repository is at {0:?}")]
@@ -45,7 +45,7 @@ impl<T: Drop> From<AllocFailed<T>> for Damage {
 }
 
 /// Why a repository can't be opened, or doesn't say a ref. Paths and names are written in quotes, so that each text is one line.
-#[derive(Drop, Debug, Error)]
+#[derive(Debug, Error)]
 pub enum Fault {
     /// No repository is at this path, or at a folder above it.
     #[error("no repository is at {0:?}")]
@@ -70,11 +70,21 @@ pub enum Fault {
     #[error("broken ref: too many symbolic refs lead to {0:?}")]
     RefLoop(String),
     /// The objects can't be read.
-    #[error("{0}")]
+    #[error(transparent)]
     Odb(gix_odb::Fault),
     /// Memory ran out.
     #[error("out of memory")]
     Memory,
+}
+
+/// A call drops a fault. Else each function that may drop one would go through all of them itself, and so would its proof.
+impl Drop for Fault {
+    fn drop(self) {
+        match self {
+            Fault::NoRepository(_) | Fault::RefLoop(_) | Fault::Odb(_) | Fault::Memory => {}
+            Fault::Damaged { file: _, damage: _ } | Fault::BrokenRef { file: _, damage: _ } => {}
+        }
+    }
 }
 
 impl Fault {

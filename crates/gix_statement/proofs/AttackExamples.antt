@@ -39,12 +39,12 @@ module _ (objects : Objects) (rows : List Row) (parents : ObjectId → List Obje
   no_lines : Serves objects rows parents time (Some []) (Some []) (codes "breadth" ∷ codes "-n" ∷ codes "0" ∷ tip ∷ [])
   no_lines = commits []
       (lists [] (codes "-n" ∷ codes "0" ∷ tip ∷ []) _ [] {hidden = []} (0, omega arith, refl)
-      (page.at_most 0 (omega arith, omega arith, all_digits 10 (codes "0") refl, refl) (omega arith) (page.everything (inl (child, [], refl, spelled, (refl, refl))))) (λ e. cc) page.all (All-nil _) (nothing_begun [])
+      (page.at_most 0 (omega arith, omega arith, all_digits 10 (codes "0") refl, refl) (omega arith) (page.everything (inl (child, [], refl, spelled, (refl, refl))))) (λ e. cc) page.all (All-nil _) (λ e. cc) (nothing_begun [])
       (omega arith) (λ ended more. absurd (omega (arith, more))) (inl refl) refl) refl
 
   tip_hidden : Serves objects rows parents time (Some []) (Some []) (codes "breadth" ∷ tip ∷ (94 ∷ tip) ∷ [])
   tip_hidden = commits []
-      (lists [] (tip ∷ (94 ∷ tip) ∷ []) _ [] {hidden = child ∷ []} (0, omega arith, refl) (page.everything (inl (child, [], refl, spelled, inr (child, [], refl, tip, refl, spelled, (refl, refl))))) (λ e. cc) page.all (All-nil _)
+      (lists [] (tip ∷ (94 ∷ tip) ∷ []) _ [] {hidden = child ∷ []} (0, omega arith, refl) (page.everything (inl (child, [], refl, spelled, inr (child, [], refl, tip, refl, spelled, (refl, refl))))) (λ e. cc) page.all (All-nil _) (λ e. cc)
       (nothing_begun (child ∷ [])) tt (λ ended more. (none_next, λ acyclic i s. absurd (s.1 (up i s.0)))) (inl refl) refl) refl
     where
       up : (i : ObjectId) → Reaches parents (child ∷ []) i → Reaches parents (child ∷ []) i

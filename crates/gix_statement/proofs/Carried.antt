@@ -1,6 +1,9 @@
 -- What is right of the objects that were read is right of all objects that have them.
 use Rattle.std.proofs.Common.{◌≡◌, ◌≢◌, ◌⊎◌, ℕ, ℤ, List, [], ◌∷◌, Option, Some, None, All, Contains, refl, sym, ap, ◌∙◌, inl, inr, ⊎_elim, zero, suc, true}
+use Rattle.std.proofs.lemmas.List.Elements.{All-contains}
+use Rattle.gix_hash.proofs.Ids.Membership.{no_member}
 use Rattle.gix_hash.specs.declared.ObjectId.{ObjectId}
+use Rattle.gix_statement.proofs.SameLines.{same_subjects, text_same}
 use Rattle.gix_statement.specs.WholeStatement.{Object, Objects, Row, IsText, IsCommit, IsThere, IsHistory, Clash, Carries, Lists, lists, Serves, commits, ahead, contains, containing, bases, files, IsTree, Unfolds, whole, other, tree, Entry}
 
 module _ (read objects : Objects) (rows others : List Row) (all : (i : ObjectId) (o : Object) → read i ≡ Some o → objects i ≡ Some o) (agree : (r : Row) → Contains rows r → IsCommit objects others r) where
@@ -17,6 +20,9 @@ module _ (read objects : Objects) (rows others : List Row) (all : (i : ObjectId)
   all_there : (ids : List ObjectId) → All (IsThere read rows) ids → All (IsThere objects others) ids
   all_there ids h k d below = there_too _ (h k d below)
 
+  all_texts : (ids : List ObjectId) → All (IsThere read []) ids → All (IsThere objects []) ids
+  all_texts ids h k d below = let (r, is, c) = h k d below in (r, is, ⊎_elim (λ text. inl (text_too r text)) (λ row. absurd (no_member r row.1)) c)
+
   tree_too : (i : ObjectId) (entries : List Entry) → IsTree read i entries → IsTree objects i entries
   tree_too i entries (text, is, are) = (text, all i _ is, are)
 
@@ -30,7 +36,9 @@ module _ (read objects : Objects) (rows others : List Row) (all : (i : ObjectId)
 
   module _ (parents : ObjectId → List ObjectId) (time : ObjectId → ℤ) where
     lists_too : (bytes : List ℕ) (words : List (List ℕ)) → Lists read rows parents time bytes true words → Lists objects others parents time bytes true words
-    lists_too bytes words (lists option more c ids named chooses some follows there begins allows ended may is_written) = lists option more c ids named chooses some follows (all_there ids there) begins allows ended may is_written
+    lists_too bytes words (lists option more c ids named chooses some follows there texts begins allows ended may is_written) =
+        lists option more c ids named chooses some follows (all_there ids there) (λ e. all_texts ids (texts e)) begins allows ended may
+        (is_written ∙ same_subjects read objects parents time c ids (λ e i m. text_same read objects i (All-contains (IsThere read []) ids i (texts e) m) (all i)))
 
     serves_too : (old new : Option (List ℕ)) (words : List (List ℕ)) → Serves read rows parents time old new words → Serves objects others parents time old new words
     serves_too old new words (commits ids l appends) = commits ids (lists_too ids words l) appends
@@ -72,3 +80,21 @@ pub carries : Carries
 carries read objects rows others words old new has clash agree right parents time history =
     let all = same_unless read objects has clash in
     serves_too read objects rows others all agree parents time old new words (right parents time (history_too read objects rows others all agree parents time history))
+
+abbrev or_of : Option Object → Option Object → Option Object
+or_of None second = second
+or_of (Some o) second = Some o
+
+-- what the first has, and what the second has where the first has nothing
+abbrev pub both_of : Objects → Objects → Objects
+both_of read objects i = or_of (read i) (objects i)
+
+pub first_kept : (read objects : Objects) (i : ObjectId) (o : Object) → read i ≡ Some o → both_of read objects i ≡ Some o
+first_kept read objects i o e = ap (λ found. or_of found (objects i)) e
+
+pub second_kept : (read objects : Objects) → (Clash read objects → ⊥) → (i : ObjectId) (o : Object) → objects i ≡ Some o → both_of read objects i ≡ Some o
+second_kept read objects clash i o e = go (read i) refl
+  where
+    go : (found : Option Object) → read i ≡ found → or_of found (objects i) ≡ Some o
+    go None n = e
+    go (Some a) n = ap Some (same_object a o (λ differ. clash (i, a, o, n, e, differ)))

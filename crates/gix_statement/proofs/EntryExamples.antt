@@ -1,5 +1,5 @@
 -- From bytes to bytes: the entries of a tree, up to a limit.
-use Rattle.std.proofs.Common.{◌≡◌, ◌≢◌, ◌⊎◌, ℕ, List, [], ◌∷◌, ◌++◌, replicate, Bool, true, false, Option, Some, None, Ok, All, codes, cond, flat_map, refl, ap, ◌∙◌, sym, subst, arith, inl, inr}
+use Rattle.std.proofs.Common.{◌≡◌, ◌≢◌, ◌⊎◌, ℕ, List, [], ◌∷◌, ◌++◌, replicate, Bool, true, false, Some, None, Ok, All, codes, cond, flat_map, refl, ap, ◌∙◌, sym, subst, arith, inl, inr}
 use Rattle.std.proofs.lemmas.Bool.{false≢true}
 use Rattle.std.proofs.lemmas.List.Elements.{All-cons, All-nil}
 use Rattle.std.specs.Fmt.{digits}
@@ -7,9 +7,9 @@ use Rattle.hex.proofs.OnLiterals.{hex_on_literals}
 use Rattle.gix_hash.proofs.Ids.Membership.{no_member, same_from, same_is}
 use Rattle.gix_hash.specs.declared.ObjectId.{ObjectId}
 use Rattle.gix_hash.specs.Id.{is_same}
-use Rattle.gix_statement.specs.WholeStatement.{AreEntries, AreFed, AreRecords, Entry, IsLast, IsNumber, IsTree, Object, Objects, Promises, Unfolds, allowed, entry_line, files, other, whole}
+use Rattle.gix_statement.specs.WholeStatement.{AreFed, Entry, IsLast, IsNumber, IsTree, Object, Objects, Promises, Unfolds, allowed, entry_line, files, other, whole}
 use Rattle.gix_statement.proofs.Tests.{all_digits, not_among}
-use Rattle.gix_statement.proofs.RunExamples.{child, id_of, root, spelled}
+use Rattle.gix_statement.proofs.RunExamples.{child, root, spelled}
 
 -- a tree of two files
 abbrev text : List ℕ

@@ -1,6 +1,6 @@
 -- FIRST PARENTS ALONE: a merge whose second parent is on no other line. `topo` and `date` list the merge and its first parent, whatever the
 -- times are, and never the second parent; and a merge that is hidden hides both.
-use Rattle.std.proofs.Common.{◌≡◌, ◌≢◌, ◌≤ℤ◌, ℕ, ℤ, List, [], ◌∷◌, ◌++◌, filter, reverse, take, not, int_le, All, AllPairs, Contains, codes, refl, sym, ap, subst, ◌∙◌, arith, ⊎_elim}
+use Rattle.std.proofs.Common.{◌≡◌, ◌≢◌, ◌≤ℤ◌, ℕ, ℤ, List, [], ◌∷◌, take, Contains, codes, refl, sym, ap, subst, ◌∙◌, arith, ⊎_elim}
 use Rattle.std.proofs.lemmas.Int.{ints}
 use Rattle.std.proofs.lemmas.List.Elements.{All-cons, All-nil}
 use Rattle.gix_hash.proofs.Ids.Membership.{Contains-cons_cases, Contains-here, Contains-there, no_member}

@@ -62,12 +62,12 @@ module _ (objects : Objects) (rows : List Row) (nothing : (i : ObjectId) → obj
   of_none line Reversed = inl refl
   of_none line Number = inr refl
 
-  written_of_none : (c : Choice) (ids : List ObjectId) → ids ≡ [] → IsNothing (written (commit_line none no_time c.line) c.form (chosen none no_time c ids))
-  written_of_none c ids is = subst (λ xs. IsNothing (written (commit_line none no_time c.line) c.form xs)) (sym (none_chosen c.skip) ∙ ap (chosen none no_time c) (sym is)) (of_none (commit_line none no_time c.line) c.form)
+  written_of_none : (c : Choice) (ids : List ObjectId) → ids ≡ [] → IsNothing (written (commit_line objects none no_time c.line) c.form (chosen none no_time c ids))
+  written_of_none c ids is = subst (λ xs. IsNothing (written (commit_line objects none no_time c.line) c.form xs)) (sym (none_chosen c.skip) ∙ ap (chosen none no_time c) (sym is)) (of_none (commit_line objects none no_time c.line) c.form)
 
   -- so no word but the name of a list is served, and of a list nothing is written, or that it has none
   pub served_nothing : (words : List (List ℕ)) (out : List ℕ) → Serves objects rows none no_time (Some []) (Some out) words → IsNothing out
-  served_nothing words out (commits bytes (lists option more c ids named chooses some follows there begins allows ended may is_written) appends) =
+  served_nothing words out (commits bytes (lists option more c ids named chooses some follows there texts begins allows ended may is_written) appends) =
       subst IsNothing (sym (appends ∙ is_written)) (written_of_none c ids (none_there ids there))
   served_nothing words out (ahead {one = one} n m a b there other ns ms appends) = absurd (not_there one there)
   served_nothing words out (contains {tip = tip} {ids = ids} are some there keeps appends) = absurd (not_there tip (there 0 tip (omega arith)))
@@ -82,7 +82,7 @@ module _ (objects : Objects) (rows : List Row) (nothing : (i : ObjectId) → obj
   none_of_five = not_among (codes "contains") (codes "breadth") (codes "newest" ∷ codes "oldest" ∷ codes "topo" ∷ codes "date" ∷ []) (λ e. cc) (not_among (codes "contains") (codes "newest") (codes "oldest" ∷ codes "topo" ∷ codes "date" ∷ []) (λ e. cc) (not_among (codes "contains") (codes "oldest") (codes "topo" ∷ codes "date" ∷ []) (λ e. cc) (not_among (codes "contains") (codes "topo") (codes "date" ∷ []) (λ e. cc) (not_among (codes "contains") (codes "date") ([]) (λ e. cc) (no_member (codes "contains"))))))
 
   not_contained : (words rest : List (List ℕ)) (out : List ℕ) → words ≡ codes "contains" ∷ rest → Serves objects rows none no_time (Some []) (Some out) words → ⊥
-  not_contained words rest out is (commits bytes (lists {by = by} option more c ids named chooses some follows there begins allows ended may is_written) appends) =
+  not_contained words rest out is (commits bytes (lists {by = by} option more c ids named chooses some follows there texts begins allows ended may is_written) appends) =
       let same : by ≡ codes "contains" = cc in
       none_of_five (subst (Contains five) same named)
   not_contained words rest out is (ahead {one = one} n m a b there other ns ms appends) = not_there one there

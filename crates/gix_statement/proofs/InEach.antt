@@ -6,7 +6,7 @@ use Rattle.std.specs.Io.KnownBytes.{Appends}
 use Rattle.std.proofs.lemmas.List.Elements.{All-contains, All-nil}
 use Rattle.gix_hash.proofs.Ids.Membership.{no_member}
 use Rattle.gix_hash.specs.declared.ObjectId.{ObjectId}
-use Rattle.gix_statement.specs.WholeStatement.{IsLimit, allowed, Objects, Row, IsThere, IsHistory, InEach, Allows, AreTips, Begins, IsWhole, IsNext, breadth, newest, oldest, date, topo, parent, Follows, all, id_line, digits_in, Spells, Keeps, Lists, lists, Serves, ahead, contains, containing, bases, IsBase, by_bytes, files, Reaches, start, IsNumberShown, IsTree, Unfolds, Entry, entry_line, Choice, Chooses, Lines, chosen, commit_line, written}
+use Rattle.gix_statement.specs.WholeStatement.{IsLimit, allowed, Objects, Row, IsThere, IsHistory, InEach, Allows, AreTips, Begins, IsWhole, IsNext, breadth, newest, oldest, date, topo, parent, Follows, id_line, digits_in, Spells, Keeps, Lists, lists, Serves, ahead, containing, bases, IsBase, by_bytes, files, Reaches, start, IsNumberShown, IsTree, Unfolds, Entry, entry_line, Choice, Chooses, Lines, chosen, commit_line, written}
 use Rattle.gix_statement.proofs.Heart.{IsSimple}
 use Rattle.gix_statement.proofs.EachHistory.{base_back, base_there, containing_there, counted_there, moved, same_parents, same_time, filter_same}
 use Rattle.gix_statement.proofs.Descents.{IsDown, begins_down, followed_down, whole_down}
@@ -21,9 +21,9 @@ module _ (objects : Objects) (rows : List Row) (parents : ObjectId → List Obje
 
   module _ (by : List ℕ) (option words : List (List ℕ)) (c : Choice) (place : ℕ) (tips hidden ids : List ObjectId)
       (named : Contains (codes "breadth" ∷ codes "newest" ∷ codes "oldest" ∷ codes "topo" ∷ codes "date" ∷ []) by)
-      (chooses : Chooses tips hidden place words c) (some : tips ≢ []) (there : All (IsThere objects rows) ids)
+      (chooses : Chooses tips hidden place words c) (some : tips ≢ []) (there : All (IsThere objects rows) ids) (texts : c.line.has_subject ≡ true → All (IsThere objects []) ids)
       (allows : Allows c.limit (length (chosen parents time c ids))) (ended : Bool) (may : (ended ≡ true) ⊎ (c.form ≡ Lines))
-      (bytes : List ℕ) (is_written : bytes ≡ written (commit_line parents time c.line) c.form (chosen parents time c ids)) (appends : Appends old new bytes) where
+      (bytes : List ℕ) (is_written : bytes ≡ written (commit_line objects parents time c.line) c.form (chosen parents time c ids)) (appends : Appends old new bytes) where
     abbrev those : List (List ℕ)
     those = by ∷ (option ++ words)
 
@@ -46,18 +46,18 @@ module _ (objects : Objects) (rows : List Row) (parents : ObjectId → List Obje
               let t = same_time objects rows parents other time times one another i here in
               (λ k. c.keeps (length (p k)) (t k))
 
-      same_written : written (commit_line parents time c.line) c.form (chosen parents time c ids) ≡ written (commit_line other times c.line) c.form (chosen other times c ids)
-      same_written = written_same (commit_line parents time c.line) (commit_line other times c.line) c.form (chosen parents time c ids) line ∙ ap (written (commit_line other times c.line) c.form) same_chosen
+      same_written : written (commit_line objects parents time c.line) c.form (chosen parents time c ids) ≡ written (commit_line objects other times c.line) c.form (chosen other times c ids)
+      same_written = written_same (commit_line objects parents time c.line) (commit_line objects other times c.line) c.form (chosen parents time c ids) line ∙ ap (written (commit_line objects other times c.line) c.form) same_chosen
         where
-          line : (i : ObjectId) → Contains (chosen parents time c ids) i → commit_line parents time c.line i ≡ commit_line other times c.line i
+          line : (i : ObjectId) → Contains (chosen parents time c ids) i → commit_line objects parents time c.line i ≡ commit_line objects other times c.line i
           line i m =
               let here : IsThere objects rows i = All-contains (IsThere objects rows) ids i there (chosen_in parents time c ids i m) in
-              same_line parents other time times c.line i (same_parents objects rows parents other time times one another i here) (same_time objects rows parents other time times one another i here)
+              same_line objects objects parents other time times c.line i (same_parents objects rows parents other time times one another i here) (same_time objects rows parents other time times one another i here) (λ e. refl)
 
       -- a list in this history, by its own
       listed : {followed : ObjectId → List ObjectId} {starts : List ObjectId} → Follows other times tips by option followed starts → Begins other followed times starts hidden by ids
           → (HasEnded → IsWhole other followed times starts hidden by ids) → Lists objects rows other times bytes ended those
-      listed follows begins whole = lists option words c ids named chooses some follows there begins
+      listed follows begins whole = lists option words c ids named chooses some follows there texts begins
           (subst (λ xs. Allows c.limit (length xs)) same_chosen allows)
           (λ e more. whole (e, subst (λ xs. Allows c.limit (suc (length xs))) (sym same_chosen) more))
           may (is_written ∙ same_written)

@@ -24,6 +24,7 @@ mod OrderExamples
 mod RunExamples
 mod LineExamples
 mod EntryExamples
+mod SubjectExamples
 mod GraphExamples
 mod HoleExamples
 mod SinceExample

@@ -1,7 +1,7 @@
 -- The page leaves no choice: in one history there is one right answer.
 use Rattle.std.proofs.Common.{None, ◌≡◌, ◌≢◌, ◌⊎◌, ◌≤◌, ◌≤ℤ◌, ◌<◌, ◌+◌, ℕ, Bool, suc, ℤ, pos, List, [], ◌∷◌, ◌++◌, length, drop, zero, Option, int_le, nat_lt, nat_le, ◌&&◌, cond, reverse, flat_map, filter, not, int_lt, Some, true, false, All, AllPairs, Contains, codes, refl, sym, ap, subst, ◌∙◌, arith, ⊎_elim, inl, inr, append_assoc, append-nil, length-append}
 use Rattle.std.proofs.lemmas.Grind.{flat_map-append}
-use Rattle.std.proofs.lemmas.List.Elements.{All-cons, All-nil, Contains-append_cases, Contains-append_left, Contains-append_right}
+use Rattle.std.proofs.lemmas.List.Elements.{All-contains, All-cons, All-nil, Contains-append_cases, Contains-append_left, Contains-append_right}
 use Rattle.std.specs.Cmp.{IsTotalOrder, on_total, tied_itself}
 use Rattle.std.specs.Cmp.Lexicographic.{nat_list_cmp_total}
 use Rattle.std.specs.declared.cmp.Ordering.{Ordering}
@@ -11,9 +11,10 @@ use Rattle.std.specs.Str.Parse.{AllDigits, digits_value}
 use Rattle.gix_hash.proofs.Ids.Membership.{Contains-here, Contains-there, Contains-cons_cases, no_member}
 use Rattle.gix_hash.specs.declared.ObjectId.{ObjectId}
 use Rattle.gix_hash.specs.declared.ObjectId.TheVariants.{Sha1, Sha256}
-use Rattle.gix_statement.specs.WholeStatement.{IsLimit, allowed, Objects, Row, IsPending, IsReady, IsFirst, IsBest, Keeps, empty, kept, passed, IsNext, breadth, newest, oldest, date, topo, AreMadeReady, by_time, Begins, IsWhole, Allows, AreTips, Follows, all, first, since, Spells, digits_in, bytes_in, Lists, lists, HasBegun, IsCutOff, OneAnswer, Serves, commits, ahead, contains, containing, bases, IsBase, by_bytes, files, Entry, Object, AreEntries, IsTree, Unfolds, whole, other, tree, Clash, Reaches, id_line, entry_line, IsNumberShown, Form, Choice, Chooses, everything, until, merges, no_merges, skip, at_most, reversed, counted, with_time, with_parents, zero_ended, chosen, commit_line, written, Lines, Reversed, Number}
+use Rattle.gix_statement.specs.WholeStatement.{IsLimit, allowed, Objects, Row, IsPending, IsReady, IsFirst, IsBest, Keeps, empty, kept, passed, IsNext, breadth, newest, oldest, date, topo, AreMadeReady, by_time, Begins, IsWhole, Allows, AreTips, Follows, all, first, since, Spells, digits_in, bytes_in, Lists, lists, HasBegun, IsCutOff, OneAnswer, Serves, commits, ahead, contains, containing, bases, IsBase, by_bytes, files, Entry, Object, AreEntries, IsTree, Unfolds, whole, other, tree, Clash, Reaches, id_line, entry_line, IsNumberShown, Form, Choice, Chooses, everything, until, merges, no_merges, skip, at_most, reversed, counted, with_time, with_parents, with_subject, zero_ended, IsThere, chosen, commit_line, written, Lines, Reversed, Number}
 use Rattle.gix_statement.proofs.OneCommit.{spelled_same, append_same, first_same, id_same}
-use Rattle.gix_statement.proofs.Carried.{same_object}
+use Rattle.gix_statement.proofs.Carried.{both_of, first_kept, same_object, second_kept}
+use Rattle.gix_statement.proofs.SameLines.{same_subjects, text_same}
 use Rattle.gix_statement.proofs.Tests.{not_among, other_head}
 use Rattle.std.specs.Fmt.{digits}
 use Rattle.std.specs.Char.{digit_value}
@@ -287,6 +288,7 @@ chosen_once words a b (reversed late x) (reversed late_too y) = let h = chosen_o
 chosen_once words a b (counted late x) (counted late_too y) = let h = chosen_once _ _ _ x y in (ap (λ (c : Choice). record c { form = Number }) h.0, h.1, h.2)
 chosen_once words a b (with_time late x) (with_time late_too y) = let h = chosen_once _ _ _ x y in (ap (λ (c : Choice). record c { line = record c.line { has_time = true } }) h.0, h.1, h.2)
 chosen_once words a b (with_parents late x) (with_parents late_too y) = let h = chosen_once _ _ _ x y in (ap (λ (c : Choice). record c { line = record c.line { has_parents = true } }) h.0, h.1, h.2)
+chosen_once words a b (with_subject late x) (with_subject late_too y) = let h = chosen_once _ _ _ x y in (ap (λ (c : Choice). record c { line = record c.line { has_subject = true } }) h.0, h.1, h.2)
 chosen_once words a b (zero_ended late x) (zero_ended late_too y) = let h = chosen_once _ _ _ x y in (ap (λ (c : Choice). record c { line = record c.line { ending = 0 } }) h.0, h.1, h.2)
 chosen_once {tips} {hidden} words a b (everything t) (until {number = number} {words = ws} n is late x) = no_tip (codes "--until") (number ∷ ws) tips hidden (omega arith) t
 chosen_once {tips} {hidden} words a b (everything t) (merges {words = ws} late x) = no_tip (codes "--merges") ws tips hidden (omega arith) t
@@ -297,6 +299,7 @@ chosen_once {tips} {hidden} words a b (everything t) (reversed {words = ws} late
 chosen_once {tips} {hidden} words a b (everything t) (counted {words = ws} late x) = no_tip (codes "--count") ws tips hidden (omega arith) t
 chosen_once {tips} {hidden} words a b (everything t) (with_time {words = ws} late x) = no_tip (codes "--timestamp") ws tips hidden (omega arith) t
 chosen_once {tips} {hidden} words a b (everything t) (with_parents {words = ws} late x) = no_tip (codes "--parents") ws tips hidden (omega arith) t
+chosen_once {tips} {hidden} words a b (everything t) (with_subject {words = ws} late x) = no_tip (codes "--oneline") ws tips hidden (omega arith) t
 chosen_once {tips} {hidden} words a b (everything t) (zero_ended {words = ws} late x) = no_tip (codes "-z") ws tips hidden (omega arith) t
 chosen_once {others = others} {below = below} words a b (until {number = number} {words = ws} n is late x) (everything t) = no_tip (codes "--until") (number ∷ ws) others below (omega arith) t
 chosen_once {others = others} {below = below} words a b (merges {words = ws} late x) (everything t) = no_tip (codes "--merges") ws others below (omega arith) t
@@ -307,6 +310,7 @@ chosen_once {others = others} {below = below} words a b (reversed {words = ws} l
 chosen_once {others = others} {below = below} words a b (counted {words = ws} late x) (everything t) = no_tip (codes "--count") ws others below (omega arith) t
 chosen_once {others = others} {below = below} words a b (with_time {words = ws} late x) (everything t) = no_tip (codes "--timestamp") ws others below (omega arith) t
 chosen_once {others = others} {below = below} words a b (with_parents {words = ws} late x) (everything t) = no_tip (codes "--parents") ws others below (omega arith) t
+chosen_once {others = others} {below = below} words a b (with_subject {words = ws} late x) (everything t) = no_tip (codes "--oneline") ws others below (omega arith) t
 chosen_once {others = others} {below = below} words a b (zero_ended {words = ws} late x) (everything t) = no_tip (codes "-z") ws others below (omega arith) t
 
 -- what is behind an option begins with no option of those that are followed
@@ -327,29 +331,56 @@ no_option words c (reversed late x) more = other_word (codes "--reverse") _ (λ 
 no_option words c (counted late x) more = other_word (codes "--count") _ (λ e. let l : 7 ≡ 14 = ap length e in omega (arith, l)) (λ e. let l : 99 ≡ 115 = ap (λ w. get_or w 2 0) e in omega (arith, l)) more
 no_option words c (with_time late x) more = other_word (codes "--timestamp") _ (λ e. let l : 11 ≡ 14 = ap length e in omega (arith, l)) (λ e. let l : 11 ≡ 7 = ap length e in omega (arith, l)) more
 no_option words c (with_parents late x) more = other_word (codes "--parents") _ (λ e. let l : 9 ≡ 14 = ap length e in omega (arith, l)) (λ e. let l : 9 ≡ 7 = ap length e in omega (arith, l)) more
+no_option words c (with_subject late x) more = other_word (codes "--oneline") _ (λ e. let l : 9 ≡ 14 = ap length e in omega (arith, l)) (λ e. let l : 9 ≡ 7 = ap length e in omega (arith, l)) more
 no_option words c (zero_ended late x) more = other_word (codes "-z") _ (λ e. let l : 2 ≡ 14 = ap length e in omega (arith, l)) (λ e. let l : 2 ≡ 7 = ap length e in omega (arith, l)) more
 
+-- an option of an order, or none
+abbrev pub IsOption : List (List ℕ) → Type 0
+IsOption option = (option ≡ []) ⊎ ((option ≡ codes "--first-parent" ∷ []) ⊎ ((number : List ℕ) × (option ≡ codes "--since" ∷ number ∷ [])))
+
+split_option : (option another rest more : List (List ℕ)) → IsOption option → IsOption another → NoOption rest → NoOption more → option ++ rest ≡ another ++ more → (option ≡ another) × (rest ≡ more)
+split_option option another rest more a b n m is = go a b
+  where
+    joined : (those others : List (List ℕ)) → option ≡ those → another ≡ others → those ++ rest ≡ others ++ more
+    joined those others e f = ap (λ o. o ++ rest) (sym e) ∙ is ∙ ap (λ o. o ++ more) f
+
+    go : IsOption option → IsOption another → (option ≡ another) × (rest ≡ more)
+    go (inl e) (inl f) = (e ∙ sym f, joined [] [] e f)
+    go (inl e) (inr (inl f)) = absurd ((n more).0 (joined [] (codes "--first-parent" ∷ []) e f))
+    go (inl e) (inr (inr (number, f))) = absurd ((n (number ∷ more)).1 (joined [] (codes "--since" ∷ number ∷ []) e f))
+    go (inr (inl e)) (inl f) = absurd ((m rest).0 (sym (joined (codes "--first-parent" ∷ []) [] e f)))
+    go (inr (inr (number, e))) (inl f) = absurd ((m (number ∷ rest)).1 (sym (joined (codes "--since" ∷ number ∷ []) [] e f)))
+    go (inr (inl e)) (inr (inl f)) =
+        let h : codes "--first-parent" ∷ rest ≡ codes "--first-parent" ∷ more = joined (codes "--first-parent" ∷ []) (codes "--first-parent" ∷ []) e f in
+        let same : rest ≡ more = cc in
+        (e ∙ sym f, same)
+    go (inr (inl e)) (inr (inr (number, f))) =
+        let h : codes "--first-parent" ∷ rest ≡ codes "--since" ∷ number ∷ more = joined (codes "--first-parent" ∷ []) (codes "--since" ∷ number ∷ []) e f in
+        let l : 14 ≡ 7 = ap length (let head : codes "--first-parent" ≡ codes "--since" = cc in head) in
+        absurd (omega (arith, l))
+    go (inr (inr (number, e))) (inr (inl f)) =
+        let h : codes "--since" ∷ number ∷ rest ≡ codes "--first-parent" ∷ more = joined (codes "--since" ∷ number ∷ []) (codes "--first-parent" ∷ []) e f in
+        let l : 7 ≡ 14 = ap length (let head : codes "--since" ≡ codes "--first-parent" = cc in head) in
+        absurd (omega (arith, l))
+    go (inr (inr (number, e))) (inr (inr (digits, f))) =
+        let h : codes "--since" ∷ number ∷ rest ≡ codes "--since" ∷ digits ∷ more = joined (codes "--since" ∷ number ∷ []) (codes "--since" ∷ digits ∷ []) e f in
+        let one : number ≡ digits = cc in
+        let same : rest ≡ more = cc in
+        (e ∙ ap (λ x. codes "--since" ∷ x ∷ []) one ∙ sym f, same)
+
+-- words choose one thing
+pub choice_once : {tips hidden others below : List ObjectId} {p q : ℕ} (by name : List ℕ) (option another rest more : List (List ℕ)) (c d : Choice) → IsOption option → IsOption another
+    → Chooses tips hidden p rest c → Chooses others below q more d → by ∷ (option ++ rest) ≡ name ∷ (another ++ more) → c ≡ d
+choice_once {others = others} {below = below} {q = q} by name option another rest more c d a b chooses picks is =
+    let both : option ++ rest ≡ another ++ more = cc in
+    let o = split_option option another rest more a b (no_option rest c chooses) (no_option more d picks) both in
+    (chosen_once rest c d chooses (subst (λ x. Chooses others below q x d) (sym o.1) picks)).0
+
 module _ (parents : ObjectId → List ObjectId) (time : ObjectId → ℤ) where
-  split_option : {tips those : List ObjectId} {by name : List ℕ} (option another rest more : List (List ℕ)) {followed names : ObjectId → List ObjectId} {starts from : List ObjectId}
-      → Follows parents time tips by option followed starts → Follows parents time those name another names from → NoOption rest → NoOption more → option ++ rest ≡ another ++ more → (option ≡ another) × (rest ≡ more)
-  split_option option another rest more all all n m is = (refl, is)
-  split_option option another rest more all (first b) n m is = absurd ((n more).0 is)
-  split_option option another rest more all (since {number = number} k named num) n m is = absurd ((n (number ∷ more)).1 is)
-  split_option option another rest more (first b) all n m is = absurd ((m rest).0 (sym is))
-  split_option option another rest more (since {number = number} k named num) all n m is = absurd ((m (number ∷ rest)).1 (sym is))
-  split_option option another rest more (first b) (first c) n m is = let e : rest ≡ more = cc in (refl, e)
-  split_option option another rest more (first b) (since {number = number} k named num) n m is =
-      let head : codes "--first-parent" ≡ codes "--since" = cc in
-      let l : 14 ≡ 7 = ap length head in
-      absurd (omega (arith, l))
-  split_option option another rest more (since {number = number} k named num) (first b) n m is =
-      let head : codes "--first-parent" ≡ codes "--since" = cc in
-      let l : 14 ≡ 7 = ap length head in
-      absurd (omega (arith, l))
-  split_option option another rest more (since {number = number} k named num) (since {number = digit} j name counts) n m is =
-      let one : number ≡ digit = cc in
-      let e : rest ≡ more = cc in
-      (ap (λ x. codes "--since" ∷ x ∷ []) one, e)
+  pub is_option : {tips : List ObjectId} {by : List ℕ} (option : List (List ℕ)) {followed : ObjectId → List ObjectId} {starts : List ObjectId} → Follows parents time tips by option followed starts → IsOption option
+  is_option option all = inl refl
+  is_option option (first b) = inr (inl refl)
+  is_option option (since {number = number} n named counts) = inr (inr (number, refl))
 
   follows_once : {tips : List ObjectId} {by : List ℕ} (option : List (List ℕ)) {followed names : ObjectId → List ObjectId} {starts from : List ObjectId}
       → Follows parents time tips by option followed starts → Follows parents time tips by option names from → (followed ≡ names) × (starts ≡ from)
@@ -371,13 +402,13 @@ module _ (parents : ObjectId → List ObjectId) (time : ObjectId → ℤ) where
     pub second : ended ≡ true → (left : List ℕ) × (bytes ≡ full ++ left)
     pub both : ended ≡ true → end ≡ true → bytes ≡ full
 
-  pub lists_are_one : (read objects : Objects) (rows more : List Row) (bytes full : List ℕ) (ended end : Bool) (asked words : List (List ℕ)) → Lists read rows parents time bytes ended asked
+  pub lists_are_one : (read objects : Objects) (clash : Clash read objects → ⊥) (rows more : List Row) (bytes full : List ℕ) (ended end : Bool) (asked words : List (List ℕ)) → Lists read rows parents time bytes ended asked
       → Lists objects more parents time full end words → asked ≡ words → AreOneList bytes full ended end
-  lists_are_one read objects rows more bytes full end close asked words (lists {by = by} option ws c ids {tips = tips} {hidden = hidden} {starts = starts} {followed = followed} named chooses some follows there begins allows ended may is_written)
-      (lists {by = name} {place = late} choice vs d others {tips = those} {hidden = below} {starts = from} {followed = names} called picks any goes are_there begun allowed stopped can full_written) is =
+  lists_are_one read objects clash rows more bytes full end close asked words (lists {by = by} option ws c ids {tips = tips} {hidden = hidden} {starts = starts} {followed = followed} named chooses some follows there texts begins allows ended may bytes_written)
+      (lists {by = name} {place = late} choice vs d others {tips = those} {hidden = below} {starts = from} {followed = names} called picks any goes are_there texts_too begun allowed stopped can full_written) is =
       let first_word : by ≡ name = cc in
       let others_too : option ++ ws ≡ choice ++ vs = cc in
-      let o = split_option option choice ws vs follows goes (no_option ws c chooses) (no_option vs d picks) others_too in
+      let o = split_option option choice ws vs (is_option option follows) (is_option choice goes) (no_option ws c chooses) (no_option vs d picks) others_too in
       let t = chosen_once ws c d chooses (subst (λ x. Chooses those below late x d) (sym o.1) picks) in
       let goes_too : Follows parents time tips by option names from = subst (λ (T : Type 0). T) (λ k. Follows parents time (sym t.1 k) (sym first_word k) (sym o.0 k) names from) goes in
       let f = follows_once option follows goes_too in
@@ -386,13 +417,17 @@ module _ (parents : ObjectId → List ObjectId) (time : ObjectId → ℤ) where
       let can_too : (close ≡ true) ⊎ (c.form ≡ Lines) = subst (λ (x : Choice). (close ≡ true) ⊎ (x.form ≡ Lines)) (sym t.0) can in
       let whole_too : close ≡ true → Long parents followed time starts hidden c by others =
       (λ e. subst (λ (T : Type 0). T) (λ k. Long parents (sym f.0 k) time (sym f.1 k) (sym t.2 k) (sym t.0 k) (sym first_word k) others) (begun, allowed, stopped e)) in
-      let full_so : full ≡ written (commit_line parents time c.line) c.form (chosen parents time c others) = full_written ∙ ap (λ (x : Choice). written (commit_line parents time x.line) x.form (chosen parents time x others)) (sym t.0) in
+      let line : ObjectId → List ℕ = commit_line (both_of read objects) parents time c.line in
+      let is_written : bytes ≡ written line c.form (chosen parents time c ids) = bytes_written ∙ same_subjects read (both_of read objects) parents time c ids (λ e i m. text_same read (both_of read objects) i (All-contains (IsThere read []) ids i (texts e) m) (first_kept read objects i)) in
+      let full_so : full ≡ written line c.form (chosen parents time c others) =
+      full_written ∙ ap (λ (x : Choice). written (commit_line objects parents time x.line) x.form (chosen parents time x others)) (sym t.0)
+      ∙ same_subjects objects (both_of read objects) parents time c others (λ e i m. text_same objects (both_of read objects) i (All-contains (IsThere objects []) others i (texts_too (ap (λ (x : Choice). x.line.has_subject) (sym t.0) ∙ e)) m) (second_kept read objects clash i)) in
       let same : end ≡ true → close ≡ true → bytes ≡ full =
-      (λ e l. is_written ∙ ap (written (commit_line parents time c.line) c.form) (begun_once parents followed time starts hidden c by ids others [] ids others (begins, allows, ended e) (whole_too l) refl refl) ∙ sym full_so) in
+      (λ e l. is_written ∙ ap (written line c.form) (begun_once parents followed time starts hidden c by ids others [] ids others (begins, allows, ended e) (whole_too l) refl refl) ∙ sym full_so) in
       let up : (r : List ObjectId) → c.form ≡ Lines → chosen parents time c others ≡ chosen parents time c ids ++ r → (left : List ℕ) × (full ≡ bytes ++ left) =
-      (λ r lines e. lines_more (commit_line parents time c.line) c.form (chosen parents time c ids) (chosen parents time c others) r bytes full lines is_written full_so e) in
+      (λ r lines e. lines_more line c.form (chosen parents time c ids) (chosen parents time c others) r bytes full lines is_written full_so e) in
       let down : (r : List ObjectId) → c.form ≡ Lines → chosen parents time c ids ≡ chosen parents time c others ++ r → (left : List ℕ) × (bytes ≡ full ++ left) =
-      (λ r lines e. lines_more (commit_line parents time c.line) c.form (chosen parents time c others) (chosen parents time c ids) r full bytes lines full_so is_written e) in
+      (λ r lines e. lines_more line c.form (chosen parents time c others) (chosen parents time c ids) r full bytes lines full_so is_written e) in
       let before : close ≡ true → (left : List ℕ) × (full ≡ bytes ++ left) =
       (λ l. ⊎_elim (λ e. ([], sym (append-nil bytes ∙ same e l)))
       (λ lines. let b = begun_before parents followed time starts hidden c by ids others [] ids others begins allows (whole_too l) refl refl in up b.0 lines b.1) may) in
@@ -409,9 +444,9 @@ module _ (parents : ObjectId → List ObjectId) (time : ObjectId → ℤ) where
       }
 
   -- what is written of the first is a beginning of what is of the second; and if it has ended, it is that
-  lists_before : (read objects : Objects) (rows more : List Row) (bytes full : List ℕ) (ended : Bool) (asked words : List (List ℕ)) → Lists read rows parents time bytes ended asked
+  lists_before : (read objects : Objects) (clash : Clash read objects → ⊥) (rows more : List Row) (bytes full : List ℕ) (ended : Bool) (asked words : List (List ℕ)) → Lists read rows parents time bytes ended asked
       → Lists objects more parents time full true words → asked ≡ words → ((left : List ℕ) × (full ≡ bytes ++ left)) × (ended ≡ true → bytes ≡ full)
-  lists_before read objects rows more bytes full end asked words l m is = let one = lists_are_one read objects rows more bytes full end true asked words l m is in (one.first refl, λ e. one.both e refl)
+  lists_before read objects clash rows more bytes full end asked words l m is = let one = lists_are_one read objects clash rows more bytes full end true asked words l m is in (one.first refl, λ e. one.both e refl)
 
 -- TREES
 no_space : (mode : List ℕ) → AllDigits 8 mode → All (λ x. x ≢ 32) mode
@@ -490,7 +525,7 @@ limit_once a b (Some n) None (number, e, k) f words others few some is =
 other_size : (word by : List ℕ) → (length word ≡ 5 → ⊥) × (length word < 8) → (length by ≡ 5) ⊎ (8 ≤ length by) → word ≡ by → ⊥
 other_size word by n h e = let l : length word ≡ length by = ap length e in ⊎_elim (λ f. n.0 (l ∙ f)) (λ f. omega (arith, l, f, n.1)) h
 
-no_list : (by : List ℕ) → (length by ≡ 5) ⊎ (8 ≤ length by) → Contains (codes "breadth" ∷ codes "newest" ∷ codes "oldest" ∷ codes "topo" ∷ codes "date" ∷ []) by → ⊥
+pub no_list : (by : List ℕ) → (length by ≡ 5) ⊎ (8 ≤ length by) → Contains (codes "breadth" ∷ codes "newest" ∷ codes "oldest" ∷ codes "topo" ∷ codes "date" ∷ []) by → ⊥
 no_list by h = not_among by (codes "breadth") (codes "newest" ∷ codes "oldest" ∷ codes "topo" ∷ codes "date" ∷ []) (other_size (codes "breadth") by (λ e. omega (arith, e), omega arith) h)
     (not_among by (codes "newest") (codes "oldest" ∷ codes "topo" ∷ codes "date" ∷ []) (other_size (codes "newest") by (λ e. omega (arith, e), omega arith) h)
     (not_among by (codes "oldest") (codes "topo" ∷ codes "date" ∷ []) (other_size (codes "oldest") by (λ e. omega (arith, e), omega arith) h)
@@ -505,14 +540,14 @@ module _ (read objects : Objects) (rows more : List Row) (parents : ObjectId →
   Other = Serves objects more parents time (Some old) (Some b)
 
   not_listed : (by : List ℕ) (rest asked : List (List ℕ)) (bytes : List ℕ) (ended : Bool) (os : Objects) (rs : List Row) → (length by ≡ 5) ⊎ (8 ≤ length by) → Lists os rs parents time bytes ended asked → asked ≡ by ∷ rest → ⊥
-  not_listed by rest asked bytes end os rs h (lists {by = name} option ws c ids named chooses some follows there begins allows ended may is_written) is =
+  not_listed by rest asked bytes end os rs h (lists {by = name} option ws c ids named chooses some follows there texts begins allows ended may is_written) is =
       let e : name ≡ by = cc in
       no_list name (subst (λ x. (length x ≡ 5) ⊎ (8 ≤ length x)) (sym e) h) named
 
   -- both are of one command
   pub served_once : (asked words : List (List ℕ)) → One asked → Other words → asked ≡ words → a ≡ b
   served_once asked words (commits ids l w) (commits others m v) is =
-      w ∙ ap (λ xs. old ++ xs) ((lists_before parents time read objects rows more ids others true asked words l m is).1 refl) ∙ sym v
+      w ∙ ap (λ xs. old ++ xs) ((lists_before parents time read objects clash rows more ids others true asked words l m is).1 refl) ∙ sym v
   served_once asked words (commits ids l w) (ahead n m x y o p ns ms v) is = absurd (not_listed (codes "ahead") _ asked ids true read rows (inl refl) l is)
   served_once asked words (commits ids l w) (contains are some there keeps v) is = absurd (not_listed (codes "contains") _ asked ids true read rows (inr (omega arith)) l is)
   served_once asked words (commits ids l w) (containing are some there keeps v) is = absurd (not_listed (codes "containing") _ asked ids true read rows (inr (omega arith)) l is)
@@ -585,7 +620,7 @@ module _ (read objects : Objects) (rows more : List Row) (parents : ObjectId →
 
   pub begun_of : (asked words : List (List ℕ)) → HasBegun read rows parents time (Some old) (Some a) asked → Other words → asked ≡ words → (left : List ℕ) × (b ≡ a ++ left)
   begun_of asked words (ids, l, w) (commits others m v) is =
-      let h = (lists_before parents time read objects rows more ids others false asked words l m is).0 in
+      let h = (lists_before parents time read objects clash rows more ids others false asked words l m is).0 in
       (h.0, v ∙ ap (λ xs. old ++ xs) h.1 ∙ sym (append_assoc old ids h.0) ∙ ap (λ xs. xs ++ h.0) (sym w))
   begun_of asked words (ids, l, w) (ahead n m x y o p ns ms v) is = absurd (not_listed (codes "ahead") _ asked ids false read rows (inl refl) l is)
   begun_of asked words (ids, l, w) (contains are some there keeps v) is = absurd (not_listed (codes "contains") _ asked ids false read rows (inr (omega arith)) l is)

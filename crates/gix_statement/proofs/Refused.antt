@@ -9,8 +9,8 @@ use Rattle.gix_statement.proofs.Tests.{other_head}
 
 -- A RUN THAT FAILS over empty input has written nothing, or a beginning of a number 0 if its writer failed.
 begun : (objects : Objects) (rows : List Row) → ((i : ObjectId) → objects i ≡ None) → rows ≡ [] → (words : List (List ℕ)) (out : List ℕ) → HasBegun objects rows none no_time (Some []) (Some out) words → out ≡ []
-begun objects rows nothing no_rows words out (bytes, lists option more c ids named chooses some follows there begins allows ended may is_written, appends) =
-    let line = commit_line none no_time c.line in
+begun objects rows nothing no_rows words out (bytes, lists option more c ids named chooses some follows there texts begins allows ended may is_written, appends) =
+    let line = commit_line objects none no_time c.line in
     appends ∙ is_written ∙ ap (λ form. written line form (chosen none no_time c ids)) (only_lines may) ∙ ap (λ is. flat_map line (chosen none no_time c is)) (none_there objects rows nothing no_rows ids there) ∙ ap (flat_map line) (none_chosen c.skip)
   where
     only_lines : (false ≡ true) ⊎ (c.form ≡ Lines) → c.form ≡ Lines

@@ -113,7 +113,7 @@ module _ (objects : Objects) (rows : List Row) (child_time root_time : ℤ) (is_
   newest_served : Serves objects rows parents time (Some []) (Some both_lines) (codes "newest" ∷ codes "2222222222222222222222222222222222222222" ∷ [])
   newest_served = commits both_lines
       (lists [] (codes "2222222222222222222222222222222222222222" ∷ []) _ (child ∷ root ∷ []) {hidden = []} is_newest
-      (page.everything (inl (child, [], refl, spelled, (refl, refl)))) (λ e. cc) page.all are_there (newest_begun child root differ parents parents time child_names root_names) tt
+      (page.everything (inl (child, [], refl, spelled, (refl, refl)))) (λ e. cc) page.all are_there (λ e. cc) (newest_begun child root differ parents parents time child_names root_names) tt
       (λ ended more. newest_whole child root differ parents parents time child_names root_names) (inl refl) (sym are_both))
       refl
 
@@ -124,7 +124,7 @@ module _ (objects : Objects) (rows : List Row) (child_time root_time : ℤ) (is_
   one_served : Serves objects rows parents time (Some []) (Some one_line) (codes "newest" ∷ codes "-n" ∷ codes "1" ∷ codes "2222222222222222222222222222222222222222" ∷ [])
   one_served = commits one_line
       (lists [] (codes "-n" ∷ codes "1" ∷ codes "2222222222222222222222222222222222222222" ∷ []) _ (child ∷ []) {hidden = []} is_newest
-      (page.at_most 1 number_one (omega arith) (page.everything (inl (child, [], refl, spelled, (refl, refl))))) (λ e. cc) page.all is_there (begun_one child root differ parents parents time child_names root_names) (omega arith)
+      (page.at_most 1 number_one (omega arith) (page.everything (inl (child, [], refl, spelled, (refl, refl))))) (λ e. cc) page.all is_there (λ e. cc) (begun_one child root differ parents parents time child_names root_names) (omega arith)
       (λ ended more. absurd (omega (arith, more))) (inl refl) (sym is_one))
       refl
 
@@ -132,7 +132,7 @@ module _ (objects : Objects) (rows : List Row) (child_time root_time : ℤ) (is_
   skipped_served : Serves objects rows parents time (Some []) (Some (id_line root)) (codes "newest" ∷ codes "--skip" ∷ codes "1" ∷ codes "2222222222222222222222222222222222222222" ∷ [])
   skipped_served = commits (id_line root)
       (lists [] (codes "--skip" ∷ codes "1" ∷ codes "2222222222222222222222222222222222222222" ∷ []) _ (child ∷ root ∷ []) {hidden = []} is_newest
-      (page.skip 1 number_one (omega arith) (page.everything (inl (child, [], refl, spelled, (refl, refl))))) (λ e. cc) page.all are_there (newest_begun child root differ parents parents time child_names root_names) tt
+      (page.skip 1 number_one (omega arith) (page.everything (inl (child, [], refl, spelled, (refl, refl))))) (λ e. cc) page.all are_there (λ e. cc) (newest_begun child root differ parents parents time child_names root_names) tt
       (λ ended more. newest_whole child root differ parents parents time child_names root_names) (inl refl) (sym (append-nil (id_line root))))
       refl
 
@@ -140,14 +140,14 @@ module _ (objects : Objects) (rows : List Row) (child_time root_time : ℤ) (is_
   unfolding digits
   counted_served = commits (codes "1\n")
       (lists [] (codes "--skip" ∷ codes "1" ∷ codes "--count" ∷ codes "2222222222222222222222222222222222222222" ∷ []) _ (child ∷ root ∷ []) {hidden = []} is_newest
-      (page.skip 1 number_one (omega arith) (page.counted (omega arith) (page.everything (inl (child, [], refl, spelled, (refl, refl)))))) (λ e. cc) page.all are_there (newest_begun child root differ parents parents time child_names root_names) tt
+      (page.skip 1 number_one (omega arith) (page.counted (omega arith) (page.everything (inl (child, [], refl, spelled, (refl, refl)))))) (λ e. cc) page.all are_there (λ e. cc) (newest_begun child root differ parents parents time child_names root_names) tt
       (λ ended more. newest_whole child root differ parents parents time child_names root_names) (inl refl) refl)
       refl
 
   reversed_served : Serves objects rows parents time (Some []) (Some (id_line root ++ id_line child)) (codes "newest" ∷ codes "--reverse" ∷ codes "2222222222222222222222222222222222222222" ∷ [])
   reversed_served = commits (id_line root ++ id_line child)
       (lists [] (codes "--reverse" ∷ codes "2222222222222222222222222222222222222222" ∷ []) _ (child ∷ root ∷ []) {hidden = []} is_newest
-      (page.reversed (omega arith) (page.everything (inl (child, [], refl, spelled, (refl, refl))))) (λ e. cc) page.all are_there (newest_begun child root differ parents parents time child_names root_names) tt
+      (page.reversed (omega arith) (page.everything (inl (child, [], refl, spelled, (refl, refl))))) (λ e. cc) page.all are_there (λ e. cc) (newest_begun child root differ parents parents time child_names root_names) tt
       (λ ended more. newest_whole child root differ parents parents time child_names root_names) (inl refl) (ap (λ bytes. id_line root ++ bytes) (sym (append-nil (id_line child)))))
       refl
 
@@ -156,7 +156,7 @@ module _ (objects : Objects) (rows : List Row) (child_time root_time : ℤ) (is_
   one_begun = (
     one_line,
     lists [] (codes "2222222222222222222222222222222222222222" ∷ []) _ (child ∷ []) {hidden = []} is_newest
-        (page.everything (inl (child, [], refl, spelled, (refl, refl)))) (λ e. cc) page.all is_there (begun_one child root differ parents parents time child_names root_names) tt (λ ended. let no : false ≡ true = ended in cc)
+        (page.everything (inl (child, [], refl, spelled, (refl, refl)))) (λ e. cc) page.all is_there (λ e. cc) (begun_one child root differ parents parents time child_names root_names) tt (λ ended. let no : false ≡ true = ended in cc)
         (inr refl) (sym is_one),
     refl,
   )

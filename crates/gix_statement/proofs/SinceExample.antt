@@ -8,7 +8,7 @@ use Rattle.gix_hash.proofs.Ids.Membership.{Contains-cons_cases, no_member, same_
 use Rattle.gix_hash.specs.Id.{is_same}
 use Rattle.gix_hash.specs.declared.ObjectId.{ObjectId}
 use Rattle.gix_hash.specs.declared.ObjectId.TheVariants.{Sha1, Sha256}
-use Rattle.gix_statement.specs.WholeStatement.{Objects, Row, Allows, AreTips, digits_in, IsCommit, IsThere, IsHistory, IsShown, IsWhole, Promises, Serves, commits, ahead, contains, containing, bases, files, lists, Follows, all, first, since, Spells, Reaches, start, parent, Choice, Chooses, everything, until, merges, no_merges, skip, at_most, counted, reversed, with_time, with_parents, zero_ended}
+use Rattle.gix_statement.specs.WholeStatement.{Objects, Row, Allows, AreTips, digits_in, IsCommit, IsThere, IsHistory, IsShown, IsWhole, Promises, Serves, commits, ahead, contains, containing, bases, files, lists, Follows, all, first, since, Spells, Reaches, start, parent, Choice, Chooses, everything, until, merges, no_merges, skip, at_most, counted, reversed, with_time, with_parents, with_subject, zero_ended}
 use Rattle.gix_statement.proofs.OneCommit.{spelled_same}
 use Rattle.gix_statement.proofs.Tests.{not_among, is_hex}
 
@@ -97,6 +97,7 @@ module _ (objects : Objects) (nothing : (i : ObjectId) → objects i ≡ None) w
   one_chosen words (reversed late chooses) is = let l : 9 ≡ 40 = ap length (heads (codes "--reverse") tip _ [] is) in absurd (omega (arith, l))
   one_chosen words (with_time late chooses) is = let l : 11 ≡ 40 = ap length (heads (codes "--timestamp") tip _ [] is) in absurd (omega (arith, l))
   one_chosen words (with_parents late chooses) is = let l : 9 ≡ 40 = ap length (heads (codes "--parents") tip _ [] is) in absurd (omega (arith, l))
+  one_chosen words (with_subject late chooses) is = let l : 9 ≡ 40 = ap length (heads (codes "--oneline") tip _ [] is) in absurd (omega (arith, l))
   one_chosen words (zero_ended late chooses) is = let l : 2 ≡ 40 = ap length (heads (codes "-z") tip _ [] is) in absurd (omega (arith, l))
 
   not_chosen : {tips hidden : List ObjectId} {c : Choice} {place : ℕ} (words rest : List (List ℕ)) → Chooses tips hidden place words c → words ≡ codes "--since" ∷ rest → ⊥
@@ -110,6 +111,7 @@ module _ (objects : Objects) (nothing : (i : ObjectId) → objects i ≡ None) w
   not_chosen words rest (reversed late chooses) is = let l : 9 ≡ 7 = ap length (heads (codes "--reverse") (codes "--since") _ rest is) in omega (arith, l)
   not_chosen words rest (with_time late chooses) is = let l : 11 ≡ 7 = ap length (heads (codes "--timestamp") (codes "--since") _ rest is) in omega (arith, l)
   not_chosen words rest (with_parents late chooses) is = let l : 9 ≡ 7 = ap length (heads (codes "--parents") (codes "--since") _ rest is) in omega (arith, l)
+  not_chosen words rest (with_subject late chooses) is = let l : 9 ≡ 7 = ap length (heads (codes "--oneline") (codes "--since") _ rest is) in omega (arith, l)
   not_chosen words rest (zero_ended late chooses) is = let l : 2 ≡ 7 = ap length (heads (codes "-z") (codes "--since") _ rest is) in omega (arith, l)
 
   -- whatever the option is
@@ -141,7 +143,7 @@ module _ (objects : Objects) (nothing : (i : ObjectId) → objects i ≡ None) w
   refused asked out is (containing are some there keeps w) = let h : codes "containing" ≡ codes "newest" = cc in let l : 10 ≡ 6 = ap length h in omega (arith, l)
   refused asked out is (bases those are some there exact rising w) = let h : codes "merge-base" ≡ codes "newest" = cc in let l : 10 ≡ 6 = ap length h in omega (arith, l)
   refused asked out is (files limit bound option a within ends spells tree unfolds w) = let h : codes "files" ≡ codes "newest" = cc in let l : 5 ≡ 6 = ap length h in omega (arith, l)
-  refused asked out is (commits bytes (lists {by = by} option more c ids named chooses some follows there begins allows ended may is_written) w) =
+  refused asked out is (commits bytes (lists {by = by} option more c ids named chooses some follows there texts begins allows ended may is_written) w) =
       let name : by ≡ codes "newest" = cc in
       let rest : option ++ more ≡ codes "--since" ∷ codes "3" ∷ tip ∷ [] = cc in
       by_option _ more name rest chooses follows there (ended refl)

@@ -9,7 +9,7 @@ use Rattle.std.specs.Fmt.{signed_decimal}
 use Rattle.std.specs.Io.KnownBytes.{Appends}
 use Rattle.hex.specs.Hex.{encode_lower}
 use Rattle.gix_hash.specs.declared.ObjectId.{ObjectId}
-use Rattle.gix_statement.specs.WholeStatement.{IsHex, none, byte, Objects, Row, HasBegun, lists, Choice, Chooses, everything, until, merges, no_merges, skip, at_most, counted, reversed, with_time, with_parents, zero_ended, Lines, bytes_in, chosen, commit_line, written}
+use Rattle.gix_statement.specs.WholeStatement.{IsHex, none, byte, Objects, Row, HasBegun, lists, Choice, Chooses, everything, until, merges, no_merges, skip, at_most, counted, reversed, with_time, with_parents, with_subject, zero_ended, Lines, bytes_in, subject_in, chosen, commit_line, written}
 
 -- all of these are digits
 abbrev pub are_digits : ℕ → List ℕ → Bool
@@ -82,23 +82,25 @@ chosen_ending words (counted late chooses) = chosen_ending _ chooses
 chosen_ending words (reversed late chooses) = chosen_ending _ chooses
 chosen_ending words (with_time late chooses) = chosen_ending _ chooses
 chosen_ending words (with_parents late chooses) = chosen_ending _ chooses
+chosen_ending words (with_subject late chooses) = chosen_ending _ chooses
 chosen_ending words (zero_ended late chooses) = inr refl
 
-ended_line : (a b c : List ℕ) (e : ℕ) → IsEnding e → IsEnded (a ++ (b ++ (c ++ e ∷ [])))
-ended_line a b c e ending = (a ++ (b ++ c), e, ending, simp append_assoc)
+ended_line : (a b c d : List ℕ) (e : ℕ) → IsEnding e → IsEnded (a ++ (b ++ (c ++ (d ++ e ∷ []))))
+ended_line a b c d e ending = (a ++ (b ++ (c ++ d)), e, ending, simp append_assoc)
 
 -- what has begun are lines
 pub begun_lines : (objects : Objects) (rows : List Row) (parents : ObjectId → List ObjectId) (time : ObjectId → ℤ) (old new : Option (List ℕ)) (words : List (List ℕ)) → HasBegun objects rows parents time old new words
     → (line : ObjectId → List ℕ) × (ids : List ObjectId) × ((i : ObjectId) → IsEnded (line i)) × Appends old new (flat_map line ids)
-begun_lines objects rows parents time old new words (bytes, lists option more c ids named chooses some follows there begins allows ended may is_written, appends) = (
+begun_lines objects rows parents time old new words (bytes, lists option more c ids named chooses some follows there texts begins allows ended may is_written, appends) = (
   line,
   chosen parents time c ids,
-  λ i. ended_line (if c.line.has_time then signed_decimal (time i) ++ 32 ∷ [] else []) (encode_lower (bytes_in i)) (if c.line.has_parents then flat_map (λ p. 32 ∷ encode_lower (bytes_in p)) (parents i) else []) c.line.ending (chosen_ending more chooses),
+  λ i. ended_line (if c.line.has_time then signed_decimal (time i) ++ 32 ∷ [] else []) (encode_lower (bytes_in i)) (if c.line.has_parents then flat_map (λ p. 32 ∷ encode_lower (bytes_in p)) (parents i) else [])
+      (if c.line.has_subject then 32 ∷ subject_in (objects i) else []) c.line.ending (chosen_ending more chooses),
   subst (Appends old new) (is_written ∙ ap (λ form. written line form (chosen parents time c ids)) (only_lines may)) appends,
 )
   where
     line : ObjectId → List ℕ
-    line = commit_line parents time c.line
+    line = commit_line objects parents time c.line
 
     only_lines : (false ≡ true) ⊎ (c.form ≡ Lines) → c.form ≡ Lines
     only_lines (inl e) = cc

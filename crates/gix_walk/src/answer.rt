@@ -52,12 +52,22 @@ pub(crate) fn answer<W: Write>(
 ) -> Result<u8, Failure> {
     let mut repository = open(rt, &question.place)?;
     if question.name == Name::CheckGraph {
-        check(rt, &mut repository, output)?;
-        return Ok(0);
+        return check(rt, &mut repository, output);
     }
-    let resolved = resolve(rt, &mut repository, question)?;
-    let answered = answer_from(rt, keys, &mut repository, question, resolved, output)?;
+    let answered = answer_in(rt, keys, &mut repository, question, output)?;
     Ok(answered.status)
+}
+
+/// Answers a question in its repository.
+fn answer_in<W: Write>(
+    rt: &HostRuntime,
+    keys: Keys,
+    repository: &mut Repository<HostRuntime>,
+    question: &Question,
+    output: &mut W,
+) -> Result<Answered, Failure> {
+    let resolved = resolve(rt, repository, question)?;
+    answer_from(rt, keys, repository, question, resolved, output)
 }
 
 /// Opens the repository of a place.
@@ -70,7 +80,7 @@ pub(crate) fn open(rt: &HostRuntime, place: &Place) -> Result<Repository<HostRun
     Ok(repository)
 }
 
-/// Answers a question from what its revisions stand for. What isn't there of a shallow or partial clone is called so.
+/// Answers a question from what its revisions stand for.
 pub(crate) fn answer_from<W: Write>(
     rt: &HostRuntime,
     keys: Keys,
@@ -105,19 +115,24 @@ pub(crate) fn answer_from<W: Write>(
         Name::Files => asking.files(repository, output),
         _ => asking.commits(repository, output),
     };
-    let status = match answered {
-        Err(Failure::Command(Fault::Missing(id))) if !repository.shallow().is_empty() => {
-            return Err(Failure::Shallow(id));
+    match answered {
+        Ok(status) => Ok(Answered {
+            status,
+            rows: asking.rows,
+        }),
+        Err(failure) => Err(missing_of_clone(repository, failure)),
+    }
+}
+
+/// The failure, where what isn't there of a shallow or partial clone is called so.
+fn missing_of_clone(repository: &Repository<HostRuntime>, failure: Failure) -> Failure {
+    match &failure {
+        Failure::Command(Fault::Missing(id)) if !repository.shallow().is_empty() => {
+            Failure::Shallow(*id)
         }
-        Err(Failure::Command(Fault::Missing(id))) if repository.is_partial() => {
-            return Err(Failure::Partial(id));
-        }
-        answered => answered?,
-    };
-    Ok(Answered {
-        status,
-        rows: asking.rows,
-    })
+        Failure::Command(Fault::Missing(id)) if repository.is_partial() => Failure::Partial(*id),
+        _ => failure,
+    }
 }
 
 /// Reads what the revisions of a question stand for, and says which are called so that several refs have the name. With `--verbose` it says
@@ -210,7 +225,7 @@ impl Asking<'_> {
         Ok(0)
     }
 
-    /// Answers a question about commits, over the rows that may be used, or without rows where these are refused.
+    /// Answers a question about commits, over the rows that may be used.
     fn commits<W: Write>(
         &mut self,
         repository: &mut Repository<HostRuntime>,
@@ -221,13 +236,7 @@ impl Asking<'_> {
         }
         let known = rows(self.rt, repository, &self.question.options)?;
         let answered = match &known.graph {
-            Some(graph) => match self.over(repository, Some(graph), output) {
-                Err(Failure::Command(fault)) if is_refusal(&fault) => {
-                    warn(self.rt, &fault);
-                    self.over(repository, None, output)
-                }
-                answered => answered,
-            },
+            Some(graph) => self.over_rows(repository, graph, output),
             None => self.over(repository, None, output),
         };
         if known.is_unchecked && self.progress.is_long() {
@@ -239,6 +248,23 @@ impl Asking<'_> {
         answered
     }
 
+    /// Answers a question about commits over rows, or without them where they are refused.
+    fn over_rows<W: Write>(
+        &mut self,
+        repository: &mut Repository<HostRuntime>,
+        graph: &Graph,
+        output: &mut W,
+    ) -> Result<u8, Failure> {
+        let answered = self.over(repository, Some(graph), output);
+        match &answered {
+            Err(failure) if is_refusal(failure) => {
+                warn(self.rt, failure);
+                self.over(repository, None, output)
+            }
+            _ => answered,
+        }
+    }
+
     /// Answers a question about commits over these rows.
     fn over<W: Write>(
         &mut self,
@@ -248,7 +274,7 @@ impl Asking<'_> {
     ) -> Result<u8, Failure> {
         let alloc = self.rt.alloc();
         if self.question.name == Name::Resolve && self.chosen.pairs.is_empty() {
-            return self.write_ids(output);
+            return Ok(self.write_ids(output)?);
         }
         self.rows = match graph {
             Some(_) => rows_of(&self.question.options),
@@ -353,15 +379,14 @@ impl Asking<'_> {
     }
 
     /// Writes the lines of the command, as the question asks for them: with `--names` each with its word, and those of `is-ancestor` not at all.
-    fn write_lines<W: Write>(&self, lines: &[u8], output: &mut W) -> Result<(), Failure> {
+    fn write_lines<W: Write>(&self, lines: &[u8], output: &mut W) -> Result<(), Fault> {
         if self.question.name == Name::IsAncestor {
             return Ok(());
         }
         if self.question.options.gives_names {
             return write_named(self.rt.alloc(), &self.chosen, lines, output);
         }
-        write(output, lines)?;
-        Ok(())
+        write(output, lines)
     }
 
     /// The status of an answer of these lines.
@@ -376,7 +401,7 @@ impl Asking<'_> {
     }
 
     /// Writes the id of each revision, those that are excluded with `^` and behind the others.
-    fn write_ids<W: Write>(&self, output: &mut W) -> Result<u8, Failure> {
+    fn write_ids<W: Write>(&self, output: &mut W) -> Result<u8, Fault> {
         let words = self
             .chosen
             .words(self.rt.alloc(), self.keys, self.question)?;
@@ -400,10 +425,21 @@ impl Asking<'_> {
             self.chosen.exclude_common(alloc, &objects.store(), graph)?;
         }
         if name == Name::Resolve {
-            return self.write_ids(output);
+            return Ok(self.write_ids(output)?);
         }
+        Ok(self.finish_list(objects, graph, output)?)
+    }
+
+    /// Runs the command over the objects that were read, and rows.
+    fn finish_list<W: Write>(
+        &self,
+        objects: &NamedObjects,
+        graph: Option<&Graph>,
+        output: &mut W,
+    ) -> Result<u8, Fault> {
+        let alloc = self.rt.alloc();
         let words = self.chosen.words(alloc, self.keys, self.question)?;
-        if name != Name::Containing {
+        if self.question.name != Name::Containing {
             run_named(alloc, words.as_slice(), objects, graph, output)?;
             return Ok(0);
         }
@@ -435,7 +471,10 @@ pub(crate) fn write<W: Write>(output: &mut W, bytes: &[u8]) -> Result<(), Fault>
     }
 }
 
-/// Whether a fault says that rows can't be used. Nothing has been written then.
-fn is_refusal(fault: &Fault) -> bool {
-    matches!(fault, Fault::Graph(_) | Fault::Row(_) | Fault::Disagrees(_))
+/// Whether a failure says that rows can't be used. Nothing has been written then.
+fn is_refusal(failure: &Failure) -> bool {
+    matches!(
+        failure,
+        Failure::Command(Fault::Graph(_) | Fault::Row(_) | Fault::Disagrees(_))
+    )
 }

@@ -11,6 +11,7 @@ use gix_options::{Asked, Asks, Name, Question, Rows, VERSION, read_arguments};
 use gix_questions::{resolve_one, wanted};
 use gix_repository::Repository;
 use gix_revision::{Chosen, Resolved};
+use std::alloc::AllocError;
 use std::env;
 use std::io::{self, Write};
 
@@ -52,20 +53,38 @@ fn certify<W: Write>(
     question: &Question,
     output: &mut W,
 ) -> Result<Certificate, Failure> {
-    let mut given = Vec::new(rt.alloc());
-    for word in words {
-        given.push(word.clone()?)?;
-    }
+    let given = copies(rt, words)?;
     let mut repository = open(rt, &question.place)?;
-    let resolved = resolve(rt, &mut repository, question)?;
+    certify_in(rt, keys, &mut repository, given, question, output)
+}
+
+/// Answers a question in its repository, and gives the certificate of that.
+fn certify_in<W: Write>(
+    rt: &HostRuntime,
+    keys: Keys,
+    repository: &mut Repository<HostRuntime>,
+    words: Vec<String>,
+    question: &Question,
+    output: &mut W,
+) -> Result<Certificate, Failure> {
+    let resolved = resolve(rt, repository, question)?;
     let revisions = revisions_of(rt, resolved.as_slice())?;
     let mut hashing = Hashing::new(output);
-    let answered = answer_from(rt, keys, &mut repository, question, resolved, &mut hashing)?;
-    certificate_of(rt, given, revisions, answered, hashing.finish())
+    let answered = answer_from(rt, keys, repository, question, resolved, &mut hashing)?;
+    certificate_of(rt, words, revisions, answered, hashing.finish())
+}
+
+/// Copies of words.
+fn copies(rt: &HostRuntime, words: &[String]) -> Result<Vec<String>, AllocError> {
+    let mut copies = Vec::new(rt.alloc());
+    for word in words {
+        copies.push(word.clone()?)?;
+    }
+    Ok(copies)
 }
 
 /// The revisions of a certificate, and what they stand for.
-fn revisions_of(rt: &HostRuntime, resolved: &[Resolved]) -> Result<Vec<Revision>, Failure> {
+fn revisions_of(rt: &HostRuntime, resolved: &[Resolved]) -> Result<Vec<Revision>, AllocError> {
     let mut revisions = Vec::new(rt.alloc());
     for one in resolved {
         let meaning = match one.chosen {
@@ -114,24 +133,7 @@ fn verify<W: Write>(
         return Err(Failure::Certificate(Fault::Member("words")));
     };
     let kept = load(rt, path.as_str())?;
-    let mut again = question_of(rt, &kept)?;
-    if question.options.rows == Rows::Unused {
-        again.options.rows = Rows::Unused;
-    }
-    let mut repository = open(rt, &question.place)?;
-    let found = resolve_again(rt, &mut repository, &again, &kept)?;
-    let revisions = revisions_of(rt, found.as_slice())?;
-    let mut hashing = Hashing::new(io::sink());
-    let answered = answer_from(
-        rt,
-        keys,
-        &mut repository,
-        &again,
-        resolved_of(rt, &kept)?,
-        &mut hashing,
-    )?;
-    let words = Vec::new(rt.alloc());
-    let now = certificate_of(rt, words, revisions, answered, hashing.finish())?;
+    let now = again(rt, keys, question, &kept)?;
     let report = kept.report(rt.alloc(), &now)?;
     write(output, report.as_bytes())?;
     Ok(if kept.has_same_output(&now) {
@@ -139,6 +141,43 @@ fn verify<W: Write>(
     } else {
         DIFFERS
     })
+}
+
+/// The certificate of what a certificate's words give now, without words.
+fn again(
+    rt: &HostRuntime,
+    keys: Keys,
+    question: &Question,
+    kept: &Certificate,
+) -> Result<Certificate, Failure> {
+    let mut asked = question_of(rt, kept)?;
+    if question.options.rows == Rows::Unused {
+        asked.options.rows = Rows::Unused;
+    }
+    let mut repository = open(rt, &question.place)?;
+    again_in(rt, keys, &mut repository, &asked, kept)
+}
+
+/// The same of its words' question in a repository.
+fn again_in(
+    rt: &HostRuntime,
+    keys: Keys,
+    repository: &mut Repository<HostRuntime>,
+    asked: &Question,
+    kept: &Certificate,
+) -> Result<Certificate, Failure> {
+    let found = resolve_again(rt, repository, asked, kept)?;
+    let revisions = revisions_of(rt, found.as_slice())?;
+    let mut hashing = Hashing::new(io::sink());
+    let resolved = resolved_of(rt, kept)?;
+    let answered = answer_from(rt, keys, repository, asked, resolved, &mut hashing)?;
+    certificate_of(
+        rt,
+        Vec::new(rt.alloc()),
+        revisions,
+        answered,
+        hashing.finish(),
+    )
 }
 
 /// What the words of a certificate ask.
@@ -153,7 +192,7 @@ fn question_of(rt: &HostRuntime, kept: &Certificate) -> Result<Question, Failure
 }
 
 /// What the revisions of a certificate stood for.
-fn resolved_of(rt: &HostRuntime, kept: &Certificate) -> Result<Vec<Resolved>, Failure> {
+fn resolved_of(rt: &HostRuntime, kept: &Certificate) -> Result<Vec<Resolved>, AllocError> {
     let mut resolved = Vec::new(rt.alloc());
     for revision in kept.revisions.iter() {
         let word = revision.word.clone()?;
@@ -176,29 +215,36 @@ fn resolve_again(
     repository: &mut Repository<HostRuntime>,
     again: &Question,
     kept: &Certificate,
-) -> Result<Vec<Resolved>, Failure> {
-    let alloc = rt.alloc();
-    let mut found = Vec::new(alloc);
-    let mut lines = Vec::new(alloc);
+) -> Result<Vec<Resolved>, AllocError> {
     let has_lines = again
         .asked
         .iter()
         .any(|asked| matches!(asked, Asked::Lines));
-    if has_lines {
-        for revision in kept.revisions.iter() {
-            let word = revision.word.as_str();
-            if let Meaning::One { is_excluded, .. } = revision.meaning {
-                let mark = if is_excluded { "^" } else { "" };
-                lines.push(Asked::Word(format!(in alloc; "{mark}{word}")?))?;
-            }
-        }
-    }
+    let lines = if has_lines {
+        lines_of(rt, kept)?
+    } else {
+        Vec::new(rt.alloc())
+    };
     let asked = if has_lines { &lines } else { &again.asked };
+    let mut found = Vec::new(rt.alloc());
     for word in asked.iter() {
         let kind = wanted(again.name);
-        if let Err(fault) = resolve_one(alloc, repository, word, &[], kind, &mut found) {
+        if let Err(fault) = resolve_one(rt.alloc(), repository, word, &[], kind, &mut found) {
             let _ = eprintln!(rt; "gix_walk: now: {fault}");
         }
     }
     Ok(found)
+}
+
+/// The revisions of a certificate, as lines of standard input give them.
+fn lines_of(rt: &HostRuntime, kept: &Certificate) -> Result<Vec<Asked>, AllocError> {
+    let mut lines = Vec::new(rt.alloc());
+    for revision in kept.revisions.iter() {
+        let word = revision.word.as_str();
+        if let Meaning::One { is_excluded, .. } = revision.meaning {
+            let mark = if is_excluded { "^" } else { "" };
+            lines.push(Asked::Word(format!(in rt.alloc(); "{mark}{word}")?))?;
+        }
+    }
+    Ok(lines)
 }

@@ -7,13 +7,13 @@ use std::io;
 use thiserror::Error;
 
 /// Why the program failed.
-#[derive(Drop, Debug, Error)]
+#[derive(Debug, Error)]
 pub(crate) enum Failure {
     /// The arguments ask nothing of a repository.
-    #[error("{0}")]
+    #[error(transparent)]
     Misuse(Misuse),
     /// The command failed.
-    #[error("{0}")]
+    #[error(transparent)]
     Command(Fault),
     /// The system gives no random bytes. Without them whoever chose the ids could make the run slow.
     #[error("the system gives no random bytes: {0}")]
@@ -22,28 +22,28 @@ pub(crate) enum Failure {
     #[error("commit-graph unreadable: {0}")]
     Unreadable(String),
     /// The folder of objects can't be opened.
-    #[error("{0}")]
+    #[error(transparent)]
     Folder(gix_odb::Fault),
     /// An object can't be read from its folder.
-    #[error("{0}")]
+    #[error(transparent)]
     Object(gix_gather::Fault),
     /// The input can't be read, or a record of it has another id than its object.
-    #[error("{0}")]
+    #[error(transparent)]
     Records(gix_records::Error),
     /// The repository can't be opened, or a file of it is damaged.
-    #[error("{0}")]
+    #[error(transparent)]
     Repository(gix_repository::Fault),
     /// A revision stands for nothing.
-    #[error("{0}")]
+    #[error(transparent)]
     Revision(gix_revision::Fault),
     /// The commit-graph can't be compared with the commits.
-    #[error("{0}")]
+    #[error(transparent)]
     Graph(gix_graph_verify::Fault<gix_gather::Fault>),
     /// A file of the commit-graph can't be read.
-    #[error("{0}")]
+    #[error(transparent)]
     Layer(gix_graph_verify::LayerFault),
     /// A certificate isn't written, or isn't read.
-    #[error("{0}")]
+    #[error(transparent)]
     Certificate(gix_certificate::Fault),
     /// The repository has no commit.
     #[error("no commit yet")]
@@ -60,6 +60,23 @@ pub(crate) enum Failure {
     /// There is no commit-graph that git would use.
     #[error("git takes no commit-graph here")]
     NoGraph,
+}
+
+/// A call drops a failure. Else each function that may drop one would go through all of them itself, and so would its proof.
+impl Drop for Failure {
+    fn drop(self) {
+        match self {
+            Failure::Misuse(_)
+            | Failure::Command(_)
+            | Failure::Random(_)
+            | Failure::Unreadable(_) => {}
+            Failure::Folder(_) | Failure::Object(_) | Failure::Records(_) => {}
+            Failure::Repository(_) | Failure::Revision(_) => {}
+            Failure::Graph(_) | Failure::Layer(_) | Failure::Certificate(_) => {}
+            Failure::NoCommit | Failure::Shallow(_) | Failure::Partial(_) => {}
+            Failure::Differs | Failure::NoGraph => {}
+        }
+    }
 }
 
 impl From<Misuse> for Failure {

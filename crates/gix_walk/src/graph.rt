@@ -12,6 +12,7 @@ use gix_object::commit::CommitRefIter;
 use gix_odb::Odb;
 use gix_options::{Options, Rows};
 use gix_repository::Repository;
+use std::alloc::AllocError;
 use std::env;
 use std::io::Write;
 
@@ -49,7 +50,16 @@ fn nothing() -> Known {
     }
 }
 
-/// The rows that a question may use: those of the border, those of git's commit-graph where it was checked or is trusted, or none.
+/// No rows, since nobody has checked those that git's commit-graph has.
+fn unchecked() -> Known {
+    Known {
+        graph: None,
+        is_unchecked: true,
+    }
+}
+
+/// The rows that a question may use: those of the border, those of git's commit-graph where it was checked or is trusted, or none. No row
+/// has a subject.
 pub(crate) fn rows(
     rt: &HostRuntime,
     repository: &mut Repository<HostRuntime>,
@@ -61,7 +71,7 @@ pub(crate) fn rows(
             is_unchecked: false,
         });
     }
-    if options.rows == Rows::Unused {
+    if options.rows == Rows::Unused || options.gives_subject {
         return Ok(nothing());
     }
     let paths = repository.graph_layers()?;
@@ -69,35 +79,45 @@ pub(crate) fn rows(
         return Ok(nothing());
     }
     let cache = cache_folder(rt)?;
-    if options.rows == Rows::Checked && !have_passed(rt, cache.as_ref(), paths.as_slice()) {
-        return Ok(Known {
-            graph: None,
-            is_unchecked: true,
-        });
+    let is_checked = options.rows == Rows::Checked;
+    Ok(rows_of_paths(rt, folder_of(cache.as_ref()), paths.as_slice(), is_checked)?)
+}
+
+/// The rows of the files of a commit-graph. Where they are to be checked, they are taken only if all files have passed.
+fn rows_of_paths(
+    rt: &HostRuntime,
+    cache: Option<&str>,
+    paths: &[String],
+    is_checked: bool,
+) -> Result<Known, Fault> {
+    if is_checked && !have_passed(rt, cache, paths) {
+        return Ok(unchecked());
     }
     keep_blocks(rt);
-    let layers = match read_layers(rt, folder_of(cache.as_ref()), paths.as_slice()) {
+    let layers = match read_layers(rt, cache, paths) {
         Ok(layers) => layers,
         Err(fault) => {
             let _ = eprintln!(rt; "gix_walk: {fault}, so all commits are read themselves");
             return Ok(nothing());
         }
     };
-    if options.rows == Rows::Checked && count_passed(layers.as_slice()) < layers.len() {
-        return Ok(Known {
-            graph: None,
-            is_unchecked: true,
-        });
+    if is_checked && count_passed(layers.as_slice()) < layers.len() {
+        return Ok(unchecked());
     }
-    let files = lend(rt, layers.as_slice())?;
+    rows_of_layers(rt, layers.as_slice())
+}
+
+/// The rows of files that were read.
+fn rows_of_layers(rt: &HostRuntime, layers: &[Layer]) -> Result<Known, Fault> {
+    let files = lend(rt, layers)?;
     match graph_of_chain(rt.alloc(), files.as_slice()) {
         Ok(graph) => Ok(Known {
             graph: Some(graph),
             is_unchecked: false,
         }),
-        Err(ChainError::Memory) => Err(Failure::Command(Fault::Memory)),
+        Err(ChainError::Memory) => Err(Fault::Memory),
         Err(error) => {
-            warn(rt, &Fault::Graph(error));
+            warn(rt, &Failure::Command(Fault::Graph(error)));
             Ok(nothing())
         }
     }
@@ -111,17 +131,17 @@ fn keep_blocks(rt: &HostRuntime) {
 }
 
 /// Says that the rows aren't used, and why.
-pub(crate) fn warn(rt: &HostRuntime, fault: &Fault) {
-    let _ = eprintln!(rt; "gix_walk: {fault}, so all commits are read themselves");
+pub(crate) fn warn(rt: &HostRuntime, failure: &Failure) {
+    let _ = eprintln!(rt; "gix_walk: {failure}, so all commits are read themselves");
 }
 
 /// Whether all files have passed, as far as the system says without reading them.
-fn have_passed(rt: &HostRuntime, cache: Option<&String>, paths: &[String]) -> bool {
+fn have_passed(rt: &HostRuntime, cache: Option<&str>, paths: &[String]) -> bool {
     let Some(cache) = cache else {
         return false;
     };
     for path in paths {
-        if !has_passed(rt, cache.as_str(), path.as_str()) {
+        if !has_passed(rt, cache, path.as_str()) {
             return false;
         }
     }
@@ -137,7 +157,7 @@ fn folder_of(cache: Option<&String>) -> Option<&str> {
 }
 
 /// The bytes of the files.
-fn lend<'a>(rt: &HostRuntime, layers: &'a [Layer]) -> Result<Vec<&'a [u8]>, Failure> {
+fn lend<'a>(rt: &HostRuntime, layers: &'a [Layer]) -> Result<Vec<&'a [u8]>, AllocError> {
     let mut files = Vec::new(rt.alloc());
     for layer in layers {
         files.push(layer.bytes.as_slice())?;
@@ -146,7 +166,7 @@ fn lend<'a>(rt: &HostRuntime, layers: &'a [Layer]) -> Result<Vec<&'a [u8]>, Fail
 }
 
 /// The folder in which it is kept which files have passed, of the user, if the environment names one.
-fn cache_folder(rt: &HostRuntime) -> Result<Option<String>, Failure> {
+fn cache_folder(rt: &HostRuntime) -> Result<Option<String>, AllocError> {
     if let Ok(folder) = env::var(rt, "XDG_CACHE_HOME") {
         if folder.starts_with("/") {
             return Ok(Some(below(folder, "/kestrelrack")?));
@@ -159,7 +179,7 @@ fn cache_folder(rt: &HostRuntime) -> Result<Option<String>, Failure> {
 }
 
 /// The path with this end.
-fn below(folder: String, end: &str) -> Result<String, Failure> {
+fn below(folder: String, end: &str) -> Result<String, AllocError> {
     let mut path = folder;
     path.push_str(end)?;
     Ok(path)
@@ -212,46 +232,57 @@ fn border_row(
     }))
 }
 
-/// Compares git's commit-graph with the commits, and keeps for each file that it is right. Writes what it found.
+/// Compares git's commit-graph with the commits, and keeps for each file that it is right. Writes what it found, and gives the status.
 pub(crate) fn check<W: Write>(
     rt: &HostRuntime,
     repository: &mut Repository<HostRuntime>,
     writer: &mut W,
-) -> Result<(), Failure> {
+) -> Result<u8, Failure> {
     let paths = repository.graph_layers()?;
     if paths.is_empty() {
         return Err(Failure::NoGraph);
     }
     let cache = cache_folder(rt)?;
     let layers = read_layers(rt, folder_of(cache.as_ref()), paths.as_slice())?;
-    let files = lend(rt, layers.as_slice())?;
-    let passed = count_passed(layers.as_slice());
+    let rows = compare(rt, repository, layers.as_slice())?;
+    keep_passed(rt, folder_of(cache.as_ref()), layers.as_slice());
+    match writeln!(
+        writer,
+        "the commit-graph agrees with the repository: {rows} commits have a row"
+    ) {
+        Ok(()) => Ok(0),
+        Err(_) => Err(Failure::Command(Fault::Write)),
+    }
+}
+
+/// Compares files with the commits, and says each difference. How many commits have a row, where there is no difference.
+fn compare(
+    rt: &HostRuntime,
+    repository: &mut Repository<HostRuntime>,
+    layers: &[Layer],
+) -> Result<u32, Failure> {
+    let files = lend(rt, layers)?;
+    let passed = count_passed(layers);
     let report = verify(rt.alloc(), files.as_slice(), passed, &mut repository.odb)?;
     for difference in report.differences.iter() {
         let _ = eprintln!(rt; "gix_walk: {difference}");
     }
-    if !report.differences.is_empty() {
-        return Err(Failure::Differs);
+    if report.differences.is_empty() {
+        Ok(report.rows)
+    } else {
+        Err(Failure::Differs)
     }
-    if let Some(cache) = &cache {
-        for layer in layers.iter() {
-            let kept = keep(
-                rt,
-                cache.as_str(),
-                layer.path.as_str(),
-                layer.bytes.as_slice(),
-            );
-            if let Err(fault) = kept {
-                let _ = eprintln!(rt; "gix_walk: it isn't kept that the file is right: {fault}");
-            }
+}
+
+/// Keeps for each file that it is right, in the folder for that.
+fn keep_passed(rt: &HostRuntime, cache: Option<&str>, layers: &[Layer]) {
+    let Some(cache) = cache else {
+        return;
+    };
+    for layer in layers {
+        let kept = keep(rt, cache, layer.path.as_str(), layer.bytes.as_slice());
+        if let Err(fault) = kept {
+            let _ = eprintln!(rt; "gix_walk: it isn't kept that the file is right: {fault}");
         }
-    }
-    match writeln!(
-        writer,
-        "the commit-graph agrees with the repository: {} commits have a row",
-        report.rows
-    ) {
-        Ok(()) => Ok(()),
-        Err(_) => Err(Failure::Command(Fault::Write)),
     }
 }

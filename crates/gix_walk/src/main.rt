@@ -32,7 +32,7 @@ fn main(rt: HostRuntime) -> ExitCode {
             if !output.is_closed {
                 let _ = eprintln!(rt; "gix_walk: {failure}");
             }
-            if let Failure::Misuse(_) = failure {
+            if let Failure::Misuse(_) = &failure {
                 help::write_usage(&rt);
                 return ExitCode::from(MISUSED);
             }

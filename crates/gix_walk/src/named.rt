@@ -1,6 +1,6 @@
 //! Lines that say how revisions were called.
 use crate::answer::write;
-use crate::failure::Failure;
+use gix_commands::Fault;
 use gix_questions::Chosen;
 use std::alloc::Global;
 use std::io::Write;
@@ -12,7 +12,7 @@ pub(crate) fn write_named<W: Write>(
     chosen: &Chosen,
     lines: &[u8],
     output: &mut W,
-) -> Result<(), Failure> {
+) -> Result<(), Fault> {
     let mut left = lines;
     for (id, resolved) in chosen.tips.iter().zip(chosen.resolved.iter()).skip(1) {
         let name = resolved.word.as_str();

@@ -141,7 +141,7 @@ files_from shown n (Err e) = Err (fault.Id n)
 
 -- all that is listed, one a line
 abbrev pub all_lines : Shown
-all_lines = record { until = None; merges = merges.Any; skip = 0; limit = None; form = form.Lines; line = record { time = false; parents = false; ending = 10 } }
+all_lines = record { until = None; merges = merges.Any; skip = 0; limit = None; form = form.Lines; line = record { time = false; parents = false; subject = false; ending = 10 } }
 
 abbrev pub chosen_from : Result Ids Fault → Result Asked Fault
 chosen_from (Ok ids) = Ok (record { shown = all_lines; tips = ids.0; hidden = ids.1 })
@@ -191,12 +191,15 @@ abbrev pub number_option_of : List ℕ → (digits : ℕ) → (ℕ → Shown →
 number_option_of name digits change next n words = numbered_of digits change next n words (behind_option name words)
 
 -- ids, the first of them word n, and before them maybe options in one order, each at most once: `--until` and a time, `--merges` or
--- `--no-merges`, `--skip` and a number, `-n` and a limit, `--count` or `--reverse`, `--timestamp`, `--parents`, `-z`
+-- `--no-merges`, `--skip` and a number, `-n` and a limit, `--count` or `--reverse`, `--timestamp`, `--parents`, `--oneline`, `-z`
 unfoldable pub ended_of : WordReader
 ended_of = option_of (codes "-z") (λ shown. record shown { line = record shown.line { ending = 0 } }) plain_of plain_of
 
+unfoldable pub titled_of : WordReader
+titled_of = option_of (codes "--oneline") (λ shown. record shown { line = record shown.line { subject = true } }) ended_of ended_of
+
 unfoldable pub named_of : WordReader
-named_of = option_of (codes "--parents") (λ shown. record shown { line = record shown.line { parents = true } }) ended_of ended_of
+named_of = option_of (codes "--parents") (λ shown. record shown { line = record shown.line { parents = true } }) titled_of titled_of
 
 unfoldable pub timed_of : WordReader
 timed_of = option_of (codes "--timestamp") (λ shown. record shown { line = record shown.line { time = true } }) named_of named_of

@@ -2,7 +2,7 @@
 ghost use Rattle.std.specs.Prelude.{◌≡◌, ◌≤◌, IfSome, map, string_bytes};
 ghost use Rattle.std.specs.List.{list_all};
 ghost use Rattle.std.specs.Option.{option_map};
-ghost use Rattle.gix_words.specs.Words.{Bases, Contained, Containing, Gives, Tells, AddsId, begins_with_caret, begins_with_dash, begins_with_sign, number_in, behind_option, first_number, request_of_command, request_of, order_named, by_first_parents, by_cutoff, ids_from, plain_of, ended_of, named_of, timed_of, asked_by, until_of, merges_of, skipped_of, limited_of, formed_of, listed_of, since_of, in_order_of, file_of, ended_files_of, limited_files_of, files_of, ahead_of, is_shown, several_among, several_of, several_in, asked};
+ghost use Rattle.gix_words.specs.Words.{Bases, Contained, Containing, Gives, Tells, AddsId, begins_with_caret, begins_with_dash, begins_with_sign, number_in, behind_option, first_number, request_of_command, request_of, order_named, by_first_parents, by_cutoff, ids_from, plain_of, ended_of, titled_of, named_of, timed_of, asked_by, until_of, merges_of, skipped_of, limited_of, formed_of, listed_of, since_of, in_order_of, file_of, ended_files_of, limited_files_of, files_of, ahead_of, is_shown, several_among, several_of, several_in, asked};
 
 use crate::fault::Fault;
 use gix_hash::ObjectId;
@@ -54,6 +54,8 @@ pub struct Line {
     pub time: bool,
     /// Behind it a space and the id of each parent.
     pub parents: bool,
+    /// Behind these a space and the commit's subject.
+    pub subject: bool,
     /// The byte at its end.
     pub ending: u8,
 }
@@ -133,7 +135,7 @@ pub enum Command {
 /// commits to be hidden, each after a `^`; or `files`, maybe `-n` and a limit, maybe `-z`, and one id; or `ahead` and two ids; or
 /// `contains`, `containing` or `merge-base` and two ids at least. The options come in this order, each at most once: `--first-parent` for
 /// `breadth`, `topo` and `date`, or `--since` and a time for `newest` and `oldest`, `--until` and a time, `--merges` or `--no-merges`,
-/// `--skip` and a number, `-n` and a limit, `--count` or `--reverse`, `--timestamp`, `--parents`, `-z`. An id is 40 or 64 hex digits, a
+/// `--skip` and a number, `-n` and a limit, `--count` or `--reverse`, `--timestamp`, `--parents`, `--oneline`, `-z`. An id is 40 or 64 hex digits, a
 /// time 1 to 10 decimal digits, another number 1 to 9.
 ///
 /// # Errors
@@ -396,24 +398,38 @@ fn timed(alloc: Global, words: &[String], number: usize) -> Result<Chosen, Fault
     Ok(chosen)
 }
 
-/// What these words choose: maybe `--parents`, a further option, ids.
+/// What these words choose: maybe `--parents`, further options, ids.
 #[tactic(auto, unfolding(crate::specs::Words::named_of))]
 fn named(alloc: Global, words: &[String], number: usize) -> Result<Chosen, Fault>
     requires few { number ≤ 13 }
     ensures { Gives asked_by result (named_of number (map string_bytes words.now)) }
 {
     let Some(behind) = behind_option("--parents", words) else {
+        return titled(alloc, words, number);
+    };
+    let mut chosen = titled(alloc, behind, number + 1)?;
+    chosen.shown.line.parents = true;
+    Ok(chosen)
+}
+
+/// What these words choose: maybe `--oneline`, a further option, ids.
+#[tactic(auto, unfolding(crate::specs::Words::titled_of))]
+fn titled(alloc: Global, words: &[String], number: usize) -> Result<Chosen, Fault>
+    requires few { number ≤ 14 }
+    ensures { Gives asked_by result (titled_of number (map string_bytes words.now)) }
+{
+    let Some(behind) = behind_option("--oneline", words) else {
         return ended(alloc, words, number);
     };
     let mut chosen = ended(alloc, behind, number + 1)?;
-    chosen.shown.line.parents = true;
+    chosen.shown.line.subject = true;
     Ok(chosen)
 }
 
 /// What these words choose: maybe `-z`, and ids.
 #[tactic(auto, unfolding(crate::specs::Words::ended_of))]
 fn ended(alloc: Global, words: &[String], number: usize) -> Result<Chosen, Fault>
-    requires few { number ≤ 14 }
+    requires few { number ≤ 15 }
     ensures { Gives asked_by result (ended_of number (map string_bytes words.now)) }
 {
     let Some(behind) = behind_option("-z", words) else {
@@ -478,7 +494,7 @@ fn number_of(digits: &[u8], most: usize) -> Option<u64>
 
 /// All that is listed from these ids, of which one at least must be a tip. The first of them is the word of this number.
 fn chosen_ids(alloc: Global, ids: &[String], number: usize) -> Result<Chosen, Fault>
-    requires few { number ≤ 15 }
+    requires few { number ≤ 16 }
     ensures { Gives asked_by result (plain_of number (map string_bytes ids.now)) }
 {
     if are_hidden(ids) {
@@ -494,6 +510,7 @@ fn chosen_ids(alloc: Global, ids: &[String], number: usize) -> Result<Chosen, Fa
         line: Line {
             time: false,
             parents: false,
+            subject: false,
             ending: b'\n',
         },
     };
@@ -689,7 +706,7 @@ fn read_ids(
     words: &[String],
     number: usize,
 ) -> Result<(Vec<ObjectId>, Vec<ObjectId>), Fault>
-    requires few { number ≤ 15 }
+    requires few { number ≤ 16 }
     ensures { Gives (λ ids. (ids.0.items, ids.1.items)) result (ids_from number (map string_bytes words.now)) }
 {
     let mut tips = Vec::new(alloc);

@@ -1,7 +1,6 @@
 use Rattle.std.proofs.Common.{map, string_bytes, Err, None, ap, ◌∙◌}
 use Rattle.gix_commands.proofs.Common.{err_from_is_err_and}
-use Rattle.gix_commands.proofs.ReadableObjects.{readable_agrees}
-use Rattle.gix_commands.proofs.RunFacts.{runs_sound, runs_words, serves_sound}
+use Rattle.gix_commands.proofs.RunFacts.{over_is_sound, runs_sound, runs_words}
 use Rattle.gix_commands.proofs.OverStores.{stored_words, stored_unagreed, unagreed_sound}
 use Rattle.gix_commands.proofs.Promised.{unwritten}
 use Rattle.gix_commands.proofs.ServedPromises.{stored_promises}
@@ -42,7 +41,7 @@ pub returns-clause-runs : goal.returns-clause-runs
 returns-clause-runs g c = served _ c.in_ok-command.ensures c.in_ok-check_rows.ensures.sound c.in_ok-check_rows.ensures.stored c.serve.ensures
 
 pub returns-clause-sound : goal.returns-clause-sound
-returns-clause-sound g c = serves_sound (readable_agrees _ _ _ c.in_ok-check_rows.ensures.agrees) c.serve.ensures
+returns-clause-sound g c = over_is_sound _ _ _ c.in_ok-check_rows.ensures.agrees c.serve.ensures
 
 pub returns-clause-whole : goal.returns-clause-whole
 returns-clause-whole g c = stored_promises c.in_ok-check_rows.ensures.graph (returns-clause-runs g c)
