@@ -26,7 +26,7 @@ ROOT = pathlib.Path(tempfile.mkdtemp())
 ALONE = {"PATH": "", "HOME": str(ROOT / "home")}
 GRAFTS = "gix_walk: info/grafts is ignored: a commit's parents are those that it names"
 PARTIAL = "the clone is partial, and nothing is fetched here. git fetch --refetch --no-filter fetches what is missing"
-GRAPH_WRONG = "gix_walk: the commit-graph isn't right; git commit-graph write --reachable writes it anew"
+GRAPH_WRONG = "gix_walk: the commit-graph isn't right; git commit-graph write --reachable writes it anew, but it can't keep times before 1970 or from 2^34 seconds on"
 CASES = []  # the label of each comparison that came out as it should
 SETTINGS = ["init.defaultBranch=main", "core.fsync=none", "gc.auto=0", "safe.directory=*", "protocol.file.allow=always"]
 

@@ -1,7 +1,8 @@
 //! Two certificates compared: what was written, and what another run of the same words writes now.
 ghost use Rattle.std.specs.Prelude.{◌≡◌, ◌↔◌, IsTrue};
 
-use crate::record::{Certificate, Meaning, Page, Program, Revision};
+use crate::digest::Digest;
+use crate::record::{Certificate, Lines, Meaning, Page, Program, Revision};
 use std::alloc::{AllocError, Global};
 
 /// Lines of which each says that something agrees or differs. What a certificate says is in quotes there.
@@ -26,17 +27,25 @@ impl Certificate {
             alloc,
             text: String::new(alloc),
         };
-        report.add_words(self.words.as_slice())?;
-        report.add_output(self, now)?;
-        report.add_program(&self.program, &now.program)?;
-        report.add_pages(self.pages.as_slice(), now.pages.as_slice())?;
-        report.add("rows", self.rows.word(), now.rows.word())?;
-        report.add_revisions(self.revisions.as_slice(), now.revisions.as_slice())?;
-        Ok(report.text)
+        match report.add_all(self, now) {
+            Ok(()) => Ok(report.text),
+            Err(error) => Err(error),
+        }
     }
 }
 
 impl Report {
+    /// Adds all lines.
+    fn add_all(&mut self, then: &Certificate, now: &Certificate) -> Result<(), AllocError> {
+        self.add_words(then.words.as_slice())?;
+        self.add_output(then.output, now.output)?;
+        self.add_status(then.status, now.status)?;
+        self.add_program(&then.program, &now.program)?;
+        self.add_pages(then.pages.as_slice(), now.pages.as_slice())?;
+        self.add("rows", then.rows.word(), now.rows.word())?;
+        self.add_revisions(then.revisions.as_slice(), now.revisions.as_slice())
+    }
+
     /// Adds a line about what was and what is.
     fn add(&mut self, what: &str, then: &str, now: &str) -> Result<(), AllocError> {
         let line = if then == now {
@@ -57,38 +66,40 @@ impl Report {
         Ok(self.text.push_str("\n")?)
     }
 
-    /// Adds what was written, and the status.
-    fn add_output(&mut self, then: &Certificate, now: &Certificate) -> Result<(), AllocError> {
-        let alloc = self.alloc;
-        let written = format!(in alloc;
-            "{} bytes, SHA-256 {}",
-            then.output.bytes, then.output.sha256
-        )?;
-        let writes = format!(in alloc;
-            "{} bytes, SHA-256 {}",
-            now.output.bytes, now.output.sha256
-        )?;
-        self.add("output", written.as_str(), writes.as_str())?;
-        let ended = format!(in alloc; "{}", then.status)?;
-        let ends = format!(in alloc; "{}", now.status)?;
+    /// Adds what was written.
+    fn add_output(&mut self, then: Lines, now: Lines) -> Result<(), AllocError> {
+        let written = lines(self.alloc, then)?;
+        let writes = lines(self.alloc, now)?;
+        self.add("output", written.as_str(), writes.as_str())
+    }
+
+    /// Adds the status.
+    fn add_status(&mut self, then: u8, now: u8) -> Result<(), AllocError> {
+        let ended = format!(in self.alloc; "{then}")?;
+        let ends = format!(in self.alloc; "{now}")?;
         self.add("status", ended.as_str(), ends.as_str())
     }
 
     /// Adds which program ran.
     fn add_program(&mut self, then: &Program, now: &Program) -> Result<(), AllocError> {
-        let alloc = self.alloc;
-        let ran = format!(in alloc; "SHA-256 {}", then.sha256)?;
-        let runs = format!(in alloc; "SHA-256 {}", now.sha256)?;
+        let ran = hash(self.alloc, then.sha256)?;
+        let runs = hash(self.alloc, now.sha256)?;
         self.add("program", ran.as_str(), runs.as_str())?;
-        let version = format!(in alloc; "{:?}", then.version)?;
-        let version_now = format!(in alloc; "{:?}", now.version)?;
-        self.add("version", version.as_str(), version_now.as_str())?;
-        let commit = known(alloc, &then.commit)?;
-        let commit_now = known(alloc, &now.commit)?;
-        self.add("commit", commit.as_str(), commit_now.as_str())?;
-        let toolchain = known(alloc, &then.proved_by)?;
-        let toolchain_now = known(alloc, &now.proved_by)?;
-        self.add("proved by", toolchain.as_str(), toolchain_now.as_str())
+        self.add_known("version", Some(&then.version), Some(&now.version))?;
+        self.add_known("commit", then.commit.as_ref(), now.commit.as_ref())?;
+        self.add_known("proved by", then.proved_by.as_ref(), now.proved_by.as_ref())
+    }
+
+    /// Adds texts that may be unknown.
+    fn add_known(
+        &mut self,
+        what: &str,
+        then: Option<&String>,
+        now: Option<&String>,
+    ) -> Result<(), AllocError> {
+        let then = known(self.alloc, then)?;
+        let now = known(self.alloc, now)?;
+        self.add(what, then.as_str(), now.as_str())
     }
 
     /// Adds the pages of both, by their names.
@@ -96,9 +107,9 @@ impl Report {
         let alloc = self.alloc;
         for page in then {
             let what = format!(in alloc; "page {:?}", page.name)?;
-            let said = format!(in alloc; "SHA-256 {}", page.sha256)?;
+            let said = hash(alloc, page.sha256)?;
             let says = match now.iter().find(|other| other.name == page.name) {
-                Some(other) => format!(in alloc; "SHA-256 {}", other.sha256)?,
+                Some(other) => hash(alloc, other.sha256)?,
                 None => String::from_str(alloc, "not there")?,
             };
             self.add(what.as_str(), said.as_str(), says.as_str())?;
@@ -106,7 +117,7 @@ impl Report {
         for page in now {
             if !then.iter().any(|other| other.name == page.name) {
                 let what = format!(in alloc; "page {:?}", page.name)?;
-                let says = format!(in alloc; "SHA-256 {}", page.sha256)?;
+                let says = hash(alloc, page.sha256)?;
                 self.add(what.as_str(), "not there", says.as_str())?;
             }
         }
@@ -136,8 +147,18 @@ impl Report {
     }
 }
 
+/// The number and the digest of bytes, as words.
+fn lines(alloc: Global, lines: Lines) -> Result<String, AllocError> {
+    format!(in alloc; "{} bytes, SHA-256 {}", lines.bytes, lines.sha256)
+}
+
+/// A digest, as words.
+fn hash(alloc: Global, sha256: Digest) -> Result<String, AllocError> {
+    format!(in alloc; "SHA-256 {sha256}")
+}
+
 /// A text in quotes, where it is known.
-fn known(alloc: Global, text: &Option<String>) -> Result<String, AllocError> {
+fn known(alloc: Global, text: Option<&String>) -> Result<String, AllocError> {
     match text {
         Some(text) => format!(in alloc; "{text:?}"),
         None => String::from_str(alloc, "nobody knows"),

@@ -4,7 +4,7 @@ use gix_hash::ObjectId;
 use std::alloc::{AllocError, Global};
 
 /// What a run wrote, and from what.
-#[derive(Drop, Debug)]
+#[derive(Debug)]
 pub struct Certificate {
     /// The words behind the program's name, as they were given.
     pub words: Vec<String>,
@@ -73,7 +73,7 @@ pub enum Rows {
 }
 
 /// Which program ran.
-#[derive(Drop, Debug)]
+#[derive(Debug)]
 pub struct Program {
     /// Its version.
     pub version: String,
@@ -92,6 +92,33 @@ pub struct Page {
     pub name: String,
     /// The digest of its file.
     pub sha256: Digest,
+}
+
+/// A call drops a certificate. Else each function that holds one would drop its parts one by one, and so would its proof.
+impl Drop for Certificate {
+    fn drop(self) {
+        let Certificate {
+            words: _,
+            revisions: _,
+            output: _,
+            status: _,
+            rows: _,
+            program: _,
+            pages: _,
+        } = self;
+    }
+}
+
+/// A call drops a program.
+impl Drop for Program {
+    fn drop(self) {
+        let Program {
+            version: _,
+            commit: _,
+            proved_by: _,
+            sha256: _,
+        } = self;
+    }
 }
 
 impl Rows {

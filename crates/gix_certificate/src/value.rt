@@ -26,22 +26,16 @@ impl Certificate {
 fn certificate_value(alloc: Global, certificate: &Certificate) -> Result<Value, AllocError>
     ensures { IfOk result (λ value. view value ≡ certificate_data certificate.now) }
 {
-    let output = output_value(alloc, &certificate.output)?;
-    let pages = pages_value(alloc, certificate.pages.as_slice())?;
-    let program = program_value(alloc, &certificate.program)?;
-    let revisions = revisions_value(alloc, certificate.revisions.as_slice())?;
-    let rows = certificate.rows.word();
-    let status = certificate.status;
-    let words = words_value(alloc, certificate.words.as_slice())?;
+    // Each value is made where it is put in, so that none is held while another is made.
     json!(in alloc; {
         "certificate": VERSION,
-        "output": output,
-        "pages": pages,
-        "program": program,
-        "revisions": revisions,
-        "rows": rows,
-        "status": status,
-        "words": words
+        "output": output_value(alloc, &certificate.output)?,
+        "pages": pages_value(alloc, certificate.pages.as_slice())?,
+        "program": program_value(alloc, &certificate.program)?,
+        "revisions": revisions_value(alloc, certificate.revisions.as_slice())?,
+        "rows": certificate.rows.word(),
+        "status": certificate.status,
+        "words": words_value(alloc, certificate.words.as_slice())?
     })
 }
 
@@ -81,11 +75,11 @@ fn pages_value(alloc: Global, pages: &[Page]) -> Result<Value, AllocError>
 fn program_value(alloc: Global, program: &Program) -> Result<Value, AllocError>
     ensures { IfOk result (λ value. view value ≡ program_data program.now) }
 {
-    let commit = optional_value(alloc, &program.commit)?;
-    let proved_by = optional_value(alloc, &program.proved_by)?;
-    let sha256 = digits(alloc, program.sha256)?;
-    let version = program.version.as_str();
-    json!(in alloc; {"commit": commit, "proved_by": proved_by, "sha256": sha256, "version": version})
+    json!(in alloc; {
+        "commit": optional_value(alloc, &program.commit)?, "proved_by": optional_value(alloc, &program.proved_by)?,
+        "sha256": digits(alloc, program.sha256)?,
+        "version": program.version.as_str()
+    })
 }
 
 /// A text, or null.
@@ -104,13 +98,10 @@ fn revision_value(alloc: Global, revision: &Revision) -> Result<Value, AllocErro
     let word = revision.word.as_str();
     match revision.meaning {
         Meaning::One { id, is_excluded } => {
-            let id = format!(in alloc; "{id}")?;
-            json!(in alloc; {"excluded": is_excluded, "id": id, "word": word})
+            json!(in alloc; {"excluded": is_excluded, "id": format!(in alloc; "{id}")?, "word": word})
         }
         Meaning::Symmetric { one, other } => {
-            let one = format!(in alloc; "{one}")?;
-            let other = format!(in alloc; "{other}")?;
-            json!(in alloc; {"id": one, "other": other, "word": word})
+            json!(in alloc; {"id": format!(in alloc; "{one}")?, "other": format!(in alloc; "{other}")?, "word": word})
         }
     }
 }

@@ -16,7 +16,6 @@ use Rattle.gix_graph_file.specs.Chain.{HasChain}
 use Rattle.gix_statement.proofs.HaveHistory.{below}
 use Rattle.gix_statement.specs.WholeStatement as page
 use Rattle.gix_statement.specs.CommitGraph.{AreLayers}
-use Rattle.gix_commands.specs.Opening.{Opens}
 use Rattle.gix_commands.specs.Pages.{page_row, page_rows}
 use Rattle.gix_commands.proofs.FileParents.{NoFault}
 use Rattle.gix_commands.proofs.FileLayers.{NoFaults, layers_are}
@@ -206,7 +205,3 @@ layers_have_rows layers graph small has sound =
       (λ r. (forth rows graph has.same within distinct r, back rows graph has.same within distinct r)),
       apart (λ (r : page.Row). r.id) (page_rows rows) (subst (IsDistinct is_same) (sym (map_twice (page_row rows) (λ (r : page.Row). r.id) rows)) distinct),
     )
-
--- the rows of opened layers
-pub opened_layers : (layers : List (List ℕ)) (rows : List GraphRow) (opens : Opens layers rows) → AreLayers [] layers [] (page_rows opens.chain.rows)
-opened_layers layers rows opens = chain_layers layers rows opens.bytes opens.chain opens.sound

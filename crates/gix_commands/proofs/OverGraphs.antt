@@ -21,7 +21,7 @@ use Rattle.gix_commands.proofs.SameWords.{OfWords, request_words}
 
 -- rows that were opened agree with a store that has them beside what was stored, where that is as they say
 pub opened_agree : (layers : List (List ℕ)) (rows : List GraphRow) (objects : Objects) → Opens layers rows → StoredAgree rows objects → IsAgreeing (with_rows rows objects) rows
-opened_agree layers rows objects opens agree = told-rows-agree rows objects opens.chain.sound opens.sound agree
+opened_agree layers rows objects opens agree = told-rows-agree rows objects opens.read.chain.sound opens.sound agree
 
 pub over_sound : {words layers : List (List ℕ)} {has old : Option (List ℕ)} {answer : Result (Unit {0}) Fault} {new : Option (List ℕ)} → RunsOver words layers has old answer new → answer ≢ Err fault.Internal
 over_sound without_memory = λ e. cc

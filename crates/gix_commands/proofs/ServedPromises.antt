@@ -13,6 +13,7 @@ use Rattle.gix_statement.specs.CommitGraph.{AreLayers}
 use Rattle.gix_statement.specs.WholeStatement as page
 use Rattle.gix_statement.specs.WholeStatement.{Agree, AreFed, Entry, IsCommit, IsTree, Promises, Row}
 use Rattle.gix_words.specs.declared.fault.Fault.TheVariants as fault
+use Rattle.gix_commands.specs.Opening.{AreReadFrom}
 use Rattle.gix_commands.specs.Pages.{AreRows, page_objects, page_rows}
 use Rattle.gix_commands.specs.Readable.{readable, reads_all_lines}
 use Rattle.gix_commands.specs.Run as run
@@ -21,7 +22,7 @@ use Rattle.gix_commands.specs.StoredRuns as store
 use Rattle.gix_commands.specs.StoredRuns.{RunsStored}
 use Rattle.gix_commands.proofs.PageCommits.{whole_text}
 use Rattle.gix_commands.proofs.RightRuns.{right}
-use Rattle.gix_commands.proofs.FileOrder.{opened_layers}
+use Rattle.gix_commands.proofs.FileOrder.{chain_layers}
 use Rattle.gix_commands.proofs.Promised.{promised}
 use Rattle.gix_commands.proofs.PromisedRuns.{unrowed_promises}
 use Rattle.gix_commands.proofs.RunFacts.{without_rows}
@@ -100,6 +101,23 @@ stored_promises graph (store.not_agreed request t f) = inl refl
 stored_promises {words} {objects} {rows} {old} {new} {answer} graph (store.served request t sound agree s) =
     served_sorted words request t rows objects graph sound agree (AreStored objects rows) old answer new s (refl, (no_faults rows sound, refl))
 
+-- rows that were read from files, as these have them
+served_from : (words : List (List ℕ)) (objects : Objects) (AreGiven : page.Objects → List Row → Type 0) {layers : List (List ℕ)} {rows : List GraphRow} {old new : Option (List ℕ)} {answer : Result (Unit {0}) Fault} → AreReadFrom layers rows
+    → (request : Request) → request_of words ≡ Ok request → AreSound rows → StoredAgree rows objects → ServesOver objects rows old request answer new
+    → ((those : List Row) → AreLayers [] layers [] those → AreGiven (page_objects objects) those) → Promises fault.Write words AreGiven old answer new
+served_from words objects AreGiven {layers} {rows} {old} {new} {answer} from request t sound agree s given =
+    served_unsorted words request t rows objects from.chain.sound sound agree AreGiven old answer new s
+    from.chain.rows from.chain.accepted.2 from.chain.accepted.3 from.chain.same (given (page_rows from.chain.rows) (chain_layers layers rows from.bytes from.chain sound))
+
+-- what is stored, and the rows of files
+pub stored_from : {words layers : List (List ℕ)} {objects : Objects} {rows : List GraphRow} {old new : Option (List ℕ)} {answer : Result (Unit {0}) Fault} → AreReadFrom layers rows → RunsStored words objects rows old answer new
+    → Promises fault.Write words (λ given those. (given ≡ page_objects objects) × AreLayers [] layers [] those) old answer new
+stored_from from store.without_memory = inl refl
+stored_from from (store.no_command t) = inl refl
+stored_from from (store.not_agreed request t f) = inl refl
+stored_from {words} {layers} {objects} from (store.served request t sound agree s) =
+    served_from words objects (λ given those. (given ≡ page_objects objects) × AreLayers [] layers [] those) from request t sound agree s (λ those are. (refl, are))
+
 -- the objects of records, and the rows of files
 abbrev pub AreFedOver : (layers : List (List ℕ)) → (has : Option (List ℕ)) → page.Objects → List Row → Type 0
 AreFedOver layers has objects rows = AreFed has objects × AreLayers [] layers [] rows
@@ -112,5 +130,4 @@ over_promises (run.not_read request rows t o) = inl refl
 over_promises (run.bad_record request rows input n t o h b) = inl refl
 over_promises (run.disagrees request rows input records i t o h are d) = inl refl
 over_promises {words} {layers} {has} {old} {new} {answer} (run.served request rows input records t opens told are agree s) =
-    served_unsorted words request t rows (stored records) opens.chain.sound opens.sound agree (AreFedOver layers has) old answer new s
-    opens.chain.rows opens.chain.accepted.2 opens.chain.accepted.3 opens.chain.same (are_fed records has input told are, opened_layers layers rows opens)
+    served_from words (stored records) (AreFedOver layers has) opens.read request t opens.sound agree s (λ those are_layers. (are_fed records has input told are, are_layers))

@@ -14,10 +14,14 @@ use Rattle.gix_words.specs.declared.fault.Fault.TheVariants as fault
 abbrev pub layers_seen : {Z : Type 0} → List (Vec ℕ Z) → List (List ℕ)
 layers_seen layers = map vec_items layers
 
--- the layers are bytes, and a chain that reads as these rows, and all of them are sound
-pub record Opens (layers : List (List ℕ)) (rows : List GraphRow) : Type 0 where
+-- the layers are bytes, and a chain that reads as these rows
+pub record AreReadFrom (layers : List (List ℕ)) (rows : List GraphRow) : Type 0 where
   pub bytes : All AreBytes layers
   pub chain : HasChain layers rows
+
+-- and all of them are sound
+pub record Opens (layers : List (List ℕ)) (rows : List GraphRow) : Type 0 where
+  pub read : AreReadFrom layers rows
   pub sound : AreSound rows
 
 -- why layers aren't opened: they are no chain, or a row is the first that isn't sound, or memory ran out

@@ -2,7 +2,10 @@
 ghost use Rattle.std.specs.Prelude.{◌≡◌, ◌≢◌, ◌++◌, ◌∷◌, [], ℕ, ℤ, true, Some, IfOk, IfErr, MatchBool, OnOk, pos};
 ghost use Rattle.gix_commands.specs.Chosen.{Passes, IsHeaderOf, commit_with, fresh_choosing, is_kept, keeps, line_in, page_line, seconds_or_zero};
 ghost use Rattle.gix_commands.specs.Pages.{page_objects};
+ghost use Rattle.gix_statement.specs.WholeStatement as page;
 ghost use Rattle.gix_statement.specs.WholeStatement.{commit_line, subject, subject_in};
+ghost use Rattle.gix_revwalk.specs.Commits.{time_of};
+ghost use Rattle.gix_revwalk.specs.Texts.{text_next};
 ghost use Rattle.std.specs.Bool.{if◌then◌else◌};
 ghost use Rattle.std.specs.Fmt.{signed_decimal};
 ghost use Rattle.std.specs.List.{flat_map};
@@ -137,13 +140,32 @@ impl<'a> Chooser<'a> {
             return Ok(add_id(lines, id, has.ending)?);
         }
         let mut text = Vec::new(self.alloc);
-        let header = look_at(self.alloc, &self.objects, id, &mut text)?;
+        let header = self.header_for(has, id, &mut text)?;
         text.clear();
         if has.subject {
             read_text(&self.objects, id, &mut text)?;
         }
         let line = line_of(self.alloc, has, id, &header, text.as_slice())?;
         Ok(lines.extend_from_slice(line.as_slice())?)
+    }
+
+    /// What a line has of the header of a commit, which isn't read if that is nothing.
+    ///
+    /// # Errors
+    /// `Memory`.
+    fn header_for(&self, has: Line, id: &ObjectId, text: &mut Vec<u8>) -> Result<Header, Fault>
+        ensures ok { IfOk result (λ header. (objects : page.Objects)
+            → commit_line objects (λ i. header.parent_ids.items) (λ i. seconds_or_zero header.time) (page_line has) id.now
+            ≡ commit_line objects (text_next self.now.objects) (time_of self.now.objects) (page_line has) id.now) }
+        ensures err { IfErr result (λ e. e ≡ Fault.Memory) }
+    {
+        if has.time || has.parents {
+            return look_at(self.alloc, &self.objects, id, text);
+        }
+        Ok(Header {
+            parent_ids: ParentIds::new(self.alloc),
+            time: Ok(0),
+        })
     }
 }
 

@@ -1,9 +1,8 @@
 //! Git's commit-graph as rows that can be used without a store.
 ghost use Rattle.std.specs.Prelude.{◌≡◌, All, IfErr, IfOk};
 ghost use Rattle.gix_commitgraph.specs.Packed.{AreBytes};
-ghost use Rattle.gix_graph_file.specs.Chain.{HasChain};
 ghost use Rattle.gix_graph_file.specs.ChainSteps.{files_seen};
-ghost use Rattle.gix_commands.specs.Opening.{FailsToOpen, Opens, layers_seen};
+ghost use Rattle.gix_commands.specs.Opening.{FailsToOpen, AreReadFrom, Opens, layers_seen};
 
 use gix_commitgraph::Graph;
 use gix_graph_check::first_unsound;
@@ -20,17 +19,20 @@ pub(crate) fn open(alloc: Global, layers: &[Vec<u8>]) -> Result<Graph, Fault>
     ensures ok { IfOk result (Opens (layers_seen layers.now)) }
     ensures err { IfErr result (FailsToOpen (layers_seen layers.now)) }
 {
-    let graph = read_chain(alloc, layers)?;
+    let graph = read_graph(alloc, layers)?;
     match first_unsound(&graph) {
         None => Ok(graph),
         Some(id) => Err(Fault::Row(id)),
     }
 }
 
-/// The rows of the layers.
-fn read_chain(alloc: Global, layers: &[Vec<u8>]) -> Result<Graph, Fault>
-    ensures ok { IfOk result (HasChain (layers_seen layers.now)) }
-    ensures bytes { IfOk result (λ _. All AreBytes (layers_seen layers.now)) }
+/// Reads the layers of a commit-graph, lowest first, as rows. A run over these rows is one over these layers: see the clause `whole` of
+/// [`run_named`](crate::run_named).
+///
+/// # Errors
+/// `Graph` where the layers are no commit-graph, and `Memory`.
+pub fn read_graph(alloc: Global, layers: &[Vec<u8>]) -> Result<Graph, Fault>
+    ensures ok { IfOk result (AreReadFrom (layers_seen layers.now)) }
     ensures err { IfErr result (FailsToOpen (layers_seen layers.now)) }
 {
     let files = lend(alloc, layers)?;

@@ -47,6 +47,7 @@ use gix_revwalk::Parents;
 use gix_simple::Sorting;
 pub use gix_words::Fault;
 use gix_words::{Command, Order, Shown, read_command};
+pub use graph::read_graph;
 use output::write_commits;
 pub use over::run_over;
 use std::alloc::Global;

@@ -1,12 +1,14 @@
 //! A run over a store and rows that are there.
 
-ghost use Rattle.std.specs.Prelude.{◌≡◌, ◌≢◌, List, [], map, None, Err, string_bytes, OnOk, IfErr};
+ghost use Rattle.std.specs.Prelude.{◌≡◌, ◌≢◌, ℕ, List, [], map, None, Err, string_bytes, OnOk, IfErr};
 ghost use Rattle.gix_commitgraph.specs.Packed.{AreGraphRows};
 ghost use Rattle.gix_graph_check.specs.Sound.{AreSound};
 ghost use Rattle.gix_graph_store.specs.Laws.{StoredAgree};
 ghost use Rattle.gix_graph_store.specs.WithRows.{with_rows};
 ghost use Rattle.gix_revwalk.specs.Agreeing.{IsAgreeing, rows_in};
+ghost use Rattle.gix_statement.specs.CommitGraph.{AreLayers};
 ghost use Rattle.gix_statement.specs.WholeStatement.{AreNamed, Objects, Promises, Row};
+ghost use Rattle.gix_commands.specs.Opening.{AreReadFrom};
 ghost use Rattle.gix_commands.specs.Pages.{page_objects, AreRows};
 ghost use Rattle.gix_commands.specs.StoredRuns.{FailsToAgree, RunsStored};
 
@@ -60,13 +62,18 @@ pub fn run_named<W: Write>(
     ensures runs { RunsStored (map string_bytes words.now) objects.now (rows_in graph.entry) (W.contents writer.old) result
         (W.contents writer.new) }
     ensures sound { result ≢ Err Fault.Internal }
-    // What was written, from lists of bytes up: it is right of these objects, each of whose ids is the hash of its object, and of the rows.
-    ensures whole { Promises Fault.Write (map string_bytes words.now)
-        (λ (given : Objects) (rows : List Row). AreNamed given × (given ≡ page_objects objects.now) × AreRows (rows_in graph.entry) rows)
-        (W.contents writer.old) result (W.contents writer.new) }
-    // The same without a commit-graph, which names no definition but those of the page.
+    // What was written, from lists of bytes up: over rows that `read_graph` gives, it is right of objects each of whose ids is the hash of its
+    // object, and of the rows in the files.
+    ensures whole { (layers : List (List ℕ)) → AreReadFrom layers (rows_in graph.entry) → Promises Fault.Write (map string_bytes words.now)
+        (λ (given : Objects) (rows : List Row). AreNamed given × AreLayers [] layers [] rows) (W.contents writer.old) result
+        (W.contents writer.new) }
+    // The same without a commit-graph.
     ensures named { graph.entry ≡ None → Promises Fault.Write (map string_bytes words.now)
         (λ (given : Objects) (rows : List Row). AreNamed given × (rows ≡ [])) (W.contents writer.old) result (W.contents writer.new) }
+    // And over any rows.
+    ensures over { Promises Fault.Write (map string_bytes words.now)
+        (λ (given : Objects) (rows : List Row). AreNamed given × (given ≡ page_objects objects.now) × AreRows (rows_in graph.entry) rows)
+        (W.contents writer.old) result (W.contents writer.new) }
 {
     run_stored(alloc, words, &objects.store(), graph, writer)
 }

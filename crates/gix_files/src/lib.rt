@@ -115,7 +115,7 @@ where
 
 /// Puts the first bytes of a file into `out`, so many, or all where these are fewer.
 fn read_all<F: FileExt>(file: &F, len: u64, out: &mut Vec<u8>) -> Result<(), Damage> {
-    out.resize(len as usize, 0)?;
+    *out = vec![in *out.allocator(); 0u8; len as usize]?;
     let filled = fill(file, out.as_mut_slice(), 0)?;
     out.truncate(filled);
     Ok(())

@@ -94,7 +94,7 @@ fn folder_lines(alloc: Global, words: &[u8], files: &[NamedFile<'_>]) -> Result<
     let mut part = Part::of_command(alloc, Keys::KNOWN, &command, None)?;
     let odb = &mut repository.odb;
     let mut silent = Silent;
-    let answered = answer(alloc, &words, &mut part, odb, None, &mut silent)?;
+    let answered = answer(&words, &mut part, odb, None, &mut silent)?;
     match answered.ended {
         Ok(()) => Ok(answered.lines),
         Err(Fault::Write) => Err(Trouble::Command(Fault::Memory)),
@@ -123,7 +123,7 @@ fn folder_batch(
     let most = commits.len().saturating_add(skip as usize);
     let mut part = Part::of_command(alloc, Keys::KNOWN, &command, Some(most))?;
     let odb = &mut repository.odb;
-    let given = batch(alloc, &words, &mut part, odb, skip, commits, parents)?;
+    let given = batch(&words, &mut part, odb, skip, commits, parents)?;
     Ok(given)
 }
 

@@ -1,3 +1,5 @@
+-- The first empty line of a text.
+pub mod EmptyLine
 -- Where the first line of a text ends.
 pub mod FirstLine
 -- White space at the end of a line.

@@ -4,23 +4,22 @@
 ghost use Rattle.std.specs.Prelude.{◌≡◌, ◌≢◌, ◌<◌, ◌⊎◌, ◌==◌, ◌||◌, ℕ, List, [], ◌∷◌, ◌++◌, length, OnOk};
 ghost use Rattle.gix_statement.specs.WholeStatement.{message, lines_in, trimmed, subject};
 
-use memchr::memchr2;
+use memchr::{memchr, memchr2};
 use std::alloc::AllocError;
 
 /// What is behind the first empty line of a text.
 fn message(text: &[u8]) -> &[u8]
     ensures { result.now ≡ message 10 text.now }
 {
-    let mut before = b'\n';
     let mut left = text;
-    while let [b, rest @ ..] = left {
-        if before == b'\n' && *b == b'\n' {
-            return rest;
+    while let Some(end) = memchr(b'\n', left) {
+        let behind = &left[end..][1..];
+        if end == 0 {
+            return behind;
         }
-        before = *b;
-        left = rest;
+        left = behind;
     }
-    left
+    &[]
 }
 
 /// The first line of a text, and what is behind its newline: nothing where a byte 0 or the end of the text ends the line.

@@ -12,6 +12,7 @@ mod fault;
 mod listing;
 mod loose;
 mod packs;
+mod pages;
 mod short;
 mod work;
 
@@ -51,6 +52,8 @@ pub struct Odb<R: Files> {
     now: usize,
     /// How many packs are open.
     open: usize,
+    /// How many indexes are open.
+    indexes: usize,
     /// How often the packs may still be listed.
     listings: u32,
     /// How many copies of the object are still to be passed over.
@@ -81,6 +84,7 @@ where
             last: 0,
             now: 0,
             open: 0,
+            indexes: 0,
             listings: MOST_LISTINGS,
             passed: 0,
             work: Work::new(rt.alloc())?,
@@ -181,7 +185,7 @@ where
         for number in from..self.packs.all.len() {
             self.now = number;
             let answer = match self.packs.all.get_mut(number) {
-                Some(pack) => pack.add_ids(&self.rt, self.kind, found),
+                Some(pack) => pack.add_ids(&self.rt, self.kind, found, &mut self.indexes),
                 None => Ok(()),
             };
             if let Err(trouble) = answer {
@@ -273,7 +277,7 @@ where
     /// Where a pack has the entry of an object.
     fn place_in(&mut self, number: usize, id: &ObjectId) -> Result<Option<u64>, Trouble> {
         match self.packs.all.get_mut(number) {
-            Some(pack) => pack.place_of(&self.rt, self.kind, id),
+            Some(pack) => pack.place_of(&self.rt, self.kind, id, &mut self.indexes),
             None => Ok(None),
         }
     }

@@ -3,17 +3,23 @@ ghost use Rattle.std.specs.Prelude.{◌≡◌, ◌+◌, ◌≤◌, ◌<◌, leng
 
 use crate::bases::Place;
 use crate::fault::Damage;
+use crate::pages::Pages;
 use crate::short::Beginning;
 use crate::work::{MOST_OBJECT, Work, most_of};
-use gix_files::{Opened, fill, is_there, open, read};
+use gix_files::{Opened, fill, is_there, open};
 use gix_hash::{Kind, ObjectId};
 use gix_inflate::{Fault as StreamFault, inflate};
-use gix_pack::{Base, HEAD, Index, count_of, entry_at};
+use gix_pack::{Base, HEAD, INDEX_HEAD, Index, IndexFault, count_of, entry_at};
+use std::alloc::Global;
 use std::fs::Files;
 use std::os::unix::fs::FileExt;
 
 /// The most bytes of an index.
 const MOST_INDEX: u64 = 1 << 32;
+/// How many bytes an index has that is read at once, at the most.
+const SMALL_INDEX: u64 = 1 << 18;
+/// How many indexes are open at the same time, at the most. Others are read at once.
+const MOST_INDEXES: usize = 64;
 /// How many bytes of a pack are read for an entry at first, and how many then, where that wasn't enough.
 const FIRST_READ: usize = 4096;
 
@@ -47,13 +53,55 @@ fn in_index(damage: Damage) -> Trouble {
     }
 }
 
+/// An index, and its file.
+#[derive(Drop)]
+struct Paged<F: Drop> {
+    index: Index,
+    pages: Pages<F>,
+}
+
+impl<F: FileExt + Drop> Paged<F> {
+    /// Where the entry of an object begins, and None where the pack doesn't have the object.
+    fn entry_of(&mut self, id: &ObjectId) -> Result<Option<u64>, Damage> {
+        let place = match self.index.place_of(id, &mut self.pages) {
+            Ok(Some(place)) => place,
+            Ok(None) => return Ok(None),
+            Err(fault) => return Err(self.pages.damage_or(fault)),
+        };
+        match self.index.offset_at(place, &mut self.pages) {
+            Ok(Some(at)) => Ok(Some(at)),
+            Ok(None) => Err(Damage::NoPlace(*id)),
+            Err(fault) => Err(self.pages.damage_or(fault)),
+        }
+    }
+
+    /// Adds the ids of all objects of the pack that begin with the digits.
+    fn add_ids(&mut self, found: &mut Beginning) -> Result<(), Damage> {
+        let places = match self.index.places_from(&found.front, &mut self.pages) {
+            Ok(places) => places,
+            Err(fault) => return Err(self.pages.damage_or(fault)),
+        };
+        for place in places {
+            if found.is_full() {
+                break;
+            }
+            match self.index.id_at(place, &mut self.pages) {
+                Ok(Some(id)) => found.add(id)?,
+                Ok(None) => {}
+                Err(fault) => return Err(self.pages.damage_or(fault)),
+            }
+        }
+        Ok(())
+    }
+}
+
 /// What is known of an index.
 #[derive(Drop)]
-enum State {
+enum State<F: Drop> {
     /// It wasn't asked for.
     Unread,
     /// It was read.
-    Ready(Index),
+    Ready(Paged<F>),
     /// It can't be used.
     Broken(Trouble),
     /// Its file or that of its pack is gone.
@@ -65,7 +113,7 @@ enum State {
 pub(crate) struct Pack<F: Drop> {
     /// The path of both files, up to the dot.
     pub stem: String,
-    state: State,
+    state: State<F>,
     opened: Option<Opened<F>>,
 }
 
@@ -98,7 +146,8 @@ impl<F: FileExt + Drop> Pack<F> {
         self.opened = None;
     }
 
-    /// Where the entry of an object begins, and None where the pack doesn't have the object, or is gone.
+    /// Where the entry of an object begins, and None where the pack doesn't have the object, or is gone. If the index is opened by it, and
+    /// stays open, `open` is one more.
     ///
     /// # Errors
     ///
@@ -108,26 +157,19 @@ impl<F: FileExt + Drop> Pack<F> {
         rt: &R,
         kind: Kind,
         id: &ObjectId,
+        open: &mut usize,
     ) -> Result<Option<u64>, Trouble> {
         if let State::Unread = self.state {
-            self.state = read_index(rt, kind, self.stem.as_str());
+            self.state = read_index(rt, kind, self.stem.as_str(), open);
         }
-        match &self.state {
-            State::Ready(index) => {
-                let Some(place) = index.place_of(id) else {
-                    return Ok(None);
-                };
-                match index.offset_at(place) {
-                    Some(at) => Ok(Some(at)),
-                    None => Err(in_index(Damage::NoPlace(*id))),
-                }
-            }
+        match &mut self.state {
+            State::Ready(paged) => paged.entry_of(id).map_err(in_index),
             State::Broken(trouble) => Err(*trouble),
             _ => Ok(None),
         }
     }
 
-    /// Adds the ids of all objects of the pack that begin with the digits.
+    /// Adds the ids of all objects of the pack that begin with the digits. If the index is opened by it, and stays open, `open` is one more.
     ///
     /// # Errors
     ///
@@ -137,22 +179,13 @@ impl<F: FileExt + Drop> Pack<F> {
         rt: &R,
         kind: Kind,
         found: &mut Beginning,
+        open: &mut usize,
     ) -> Result<(), Trouble> {
         if let State::Unread = self.state {
-            self.state = read_index(rt, kind, self.stem.as_str());
+            self.state = read_index(rt, kind, self.stem.as_str(), open);
         }
-        match &self.state {
-            State::Ready(index) => {
-                for place in index.places_from(&found.front) {
-                    if found.is_full() {
-                        break;
-                    }
-                    if let Some(id) = index.id_at(place) {
-                        found.add(id).map_err(Damage::from)?;
-                    }
-                }
-                Ok(())
-            }
+        match &mut self.state {
+            State::Ready(paged) => paged.add_ids(found).map_err(in_index),
             State::Broken(trouble) => Err(*trouble),
             _ => Ok(()),
         }
@@ -164,14 +197,14 @@ impl<F: FileExt + Drop> Pack<F> {
         rt: &R,
         kind: Kind,
     ) -> Result<(), Damage> {
-        let State::Ready(index) = &self.state else {
+        let State::Ready(paged) = &self.state else {
             return Err(Damage::Unreadable);
         };
         let path = ended(rt, self.stem.as_str(), ".pack")?;
         let Some(opened) = open(rt, path.as_str())? else {
             return Err(Damage::Unreadable);
         };
-        check(&opened, index, kind)?;
+        check(&opened, &paged.index, kind)?;
         self.opened = Some(opened);
         Ok(())
     }
@@ -266,24 +299,40 @@ fn ended<R: AllocGlobal>(rt: &R, stem: &str, ending: &str) -> Result<String, Dam
     Ok(path)
 }
 
-/// Reads the index of a pack.
-fn read_index<R: Files + AllocGlobal>(rt: &R, kind: Kind, stem: &str) -> State
+/// Reads the head of a pack's index, and all of it if it is small or too many others are open.
+fn read_index<R: Files + AllocGlobal>(
+    rt: &R,
+    kind: Kind,
+    stem: &str,
+    open: &mut usize,
+) -> State<R::File>
 where
     R::File: FileExt,
 {
-    match read_file(rt, kind, stem) {
-        Ok(Some(index)) => State::Ready(index),
+    match open_index(rt, kind, stem) {
+        Ok(Some(paged)) => keep_open(paged, open),
         Ok(None) => State::Gone,
         Err(damage) => State::Broken(in_index(damage)),
     }
 }
 
+/// Keeps an index open, or reads all of it.
+fn keep_open<F: FileExt + Drop>(paged: Paged<F>, open: &mut usize) -> State<F> {
+    let mut paged = paged;
+    if paged.pages.len() > SMALL_INDEX && *open < MOST_INDEXES {
+        *open = open.saturating_add(1);
+    } else if let Err(damage) = paged.pages.read_all() {
+        return State::Broken(in_index(damage));
+    }
+    State::Ready(paged)
+}
+
 /// The index of a pack, and None where one of the two files isn't there.
-fn read_file<R: Files + AllocGlobal>(
+fn open_index<R: Files + AllocGlobal>(
     rt: &R,
     kind: Kind,
     stem: &str,
-) -> Result<Option<Index>, Damage>
+) -> Result<Option<Paged<R::File>>, Damage>
 where
     R::File: FileExt,
 {
@@ -292,12 +341,28 @@ where
         return Ok(None);
     }
     let path = ended(rt, stem, ".idx")?;
-    let mut bytes = Vec::new(rt.alloc());
-    if !read(rt, path.as_str(), MOST_INDEX, &mut bytes)? {
-        return Ok(None);
+    match open(rt, path.as_str())? {
+        Some(opened) => Ok(Some(index_in(rt.alloc(), kind, opened)?)),
+        None => Ok(None),
     }
-    match Index::new(kind, bytes) {
-        Ok(index) => Ok(Some(index)),
+}
+
+/// The index that a file is.
+fn index_in<F: FileExt + Drop>(
+    alloc: Global,
+    kind: Kind,
+    opened: Opened<F>,
+) -> Result<Paged<F>, Damage> {
+    let size = opened.len;
+    if size > MOST_INDEX {
+        return Err(Damage::FileTooLarge(size));
+    }
+    let mut pages = Pages::new(alloc, opened)?;
+    let head = pages.bytes(0, INDEX_HEAD)?;
+    let id = kind.len_in_bytes();
+    let hash = pages.bytes(size.saturating_sub(2 * id as u64), id)?;
+    match Index::new(kind, size, head, hash) {
+        Ok(index) => Ok(Paged { index, pages }),
         Err(fault) => Err(Damage::Index(fault)),
     }
 }

@@ -1,7 +1,8 @@
 //! Times that options name.
 
 /// The seconds since 1970 that a text says, in at most 10 digits: 1 to 10 digits are such seconds. A date as `2024-05-01` is its midnight in
-/// UTC, and `2024-05-01T12:00:00`, maybe without the seconds, is a time in UTC, or behind `Z`, `+02:00` or `-0330` one with that offset.
+/// UTC, and `2024-05-01T12:00:00`, maybe without the seconds, is a time in UTC, or behind `Z`, `+02:00` or `-0330` one with that offset. A
+/// space may be in place of the `T`, and before the offset.
 pub fn seconds_of(text: &str) -> Option<u64> {
     let bytes = text.as_bytes();
     if !bytes.is_empty() && bytes.len() <= 10 {
@@ -13,7 +14,7 @@ pub fn seconds_of(text: &str) -> Option<u64> {
     let midnight = days.saturating_mul(86_400);
     let seconds = match bytes.get(10..)? {
         [] => midnight,
-        [b'T', time @ ..] => time_behind(midnight, time)?,
+        [b'T' | b' ', time @ ..] => time_behind(midnight, time)?,
         _ => return None,
     };
     if seconds > 9_999_999_999 {
@@ -106,6 +107,7 @@ fn clock(hour: u64, minute: u64) -> Option<u64> {
 
 /// The seconds in UTC of a time with an offset.
 fn without_offset(local: u64, zone: &[u8]) -> Option<u64> {
+    let zone = zone.strip_prefix(b" ").unwrap_or(zone);
     let (sign, offset) = match zone {
         [] | [b'Z'] => return Some(local),
         [sign, a, b, b':', c, d] | [sign, a, b, c, d] => {

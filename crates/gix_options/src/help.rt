@@ -2,7 +2,7 @@
 use crate::Name;
 
 /// What the help says of a command.
-#[derive(Clone, Copy, Debug)]
+#[derive(Clone, Copy)]
 pub struct Command {
     /// The command.
     pub name: Name,
@@ -182,7 +182,7 @@ with a name that is empty or holds a slash.
                2024-05-01T12:00:00 with nothing or Z for UTC behind it or an offset as +02:00. --after TIME, --since=TIME
                and --after=TIME are the same
   -z           ends each line in a byte 0 and not in a newline, in the first five commands and in files: a path may have a newline
-  --all        adds all refs and HEAD to the revisions; --branches adds all branches, and --tags all tags
+  --all        adds all refs and HEAD to the revisions; --branches adds all branches, --tags all tags, and --remotes all remote branches
   --stdin      adds the lines of standard input to the revisions, none of which is empty or an option
   --border     takes the commits at the border of a shallow clone as commits without parents, as git does
   --no-graph   reads all commits themselves. Otherwise git's commit-graph is used where check-graph has found it right

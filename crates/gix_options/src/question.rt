@@ -5,7 +5,7 @@ use crate::date::seconds_of;
 use crate::misuse::LineFault;
 use crate::{Misuse, Name};
 use std::alloc::{AllocError, Global};
-use std::str;
+use std::{mem, str};
 
 /// Where the repository is.
 #[derive(Drop, Debug)]
@@ -27,6 +27,8 @@ pub enum Asked {
     Branches,
     /// All tags.
     Tags,
+    /// All remote branches that are tracked.
+    Remotes,
     /// The lines of standard input, each of which is a word.
     Lines,
 }
@@ -43,7 +45,7 @@ pub enum Rows {
 }
 
 /// What the options say.
-#[derive(Drop, Debug)]
+#[derive(Debug)]
 pub struct Options {
     /// When git's commit-graph is used.
     pub rows: Rows,
@@ -83,7 +85,90 @@ pub struct Options {
     pub certificate: Option<String>,
 }
 
+/// A call drops options. Else each function that holds them would drop them one by one, and so would its proof.
+impl Drop for Options {
+    fn drop(self) {
+        let Options {
+            rows: _,
+            takes_border: _,
+            is_verbose: _,
+            by_first_parents: _,
+            since: _,
+            until: _,
+            merges: _,
+            no_merges: _,
+            skip: _,
+            limit: _,
+            counts: _,
+            is_reversed: _,
+            gives_time: _,
+            gives_parents: _,
+            gives_subject: _,
+            ends_in_zero: _,
+            gives_names: _,
+            certificate: _,
+        } = self;
+    }
+}
+
 impl Options {
+    /// Nothing is given.
+    fn none() -> Options {
+        Options {
+            rows: Rows::Checked,
+            takes_border: false,
+            is_verbose: false,
+            by_first_parents: false,
+            since: None,
+            until: None,
+            merges: false,
+            no_merges: false,
+            skip: None,
+            limit: None,
+            counts: false,
+            is_reversed: false,
+            gives_time: false,
+            gives_parents: false,
+            gives_subject: false,
+            ends_in_zero: false,
+            gives_names: false,
+            certificate: None,
+        }
+    }
+
+    /// Notes an option without a value, and says whether the word is one.
+    fn take_flag(&mut self, word: &str) -> bool {
+        match word {
+            "--merges" => self.merges = true,
+            "--no-merges" => self.no_merges = true,
+            "--count" => self.counts = true,
+            "--reverse" => self.is_reversed = true,
+            "--timestamp" => self.gives_time = true,
+            "--parents" => self.gives_parents = true,
+            "--oneline" => self.gives_subject = true,
+            "--no-graph" => self.rows = Rows::Unused,
+            "--trust-graph" => self.rows = Rows::Trusted,
+            "--border" => self.takes_border = true,
+            "--verbose" => self.is_verbose = true,
+            "--first-parent" => self.by_first_parents = true,
+            "-z" => self.ends_in_zero = true,
+            "--names" => self.gives_names = true,
+            _ => return false,
+        }
+        true
+    }
+
+    /// The place of an option's value.
+    fn place_of(&mut self, option: &str) -> &mut Option<String> {
+        match option {
+            "-n" | "--max-count" => &mut self.limit,
+            "--skip" => &mut self.skip,
+            "--certificate" => &mut self.certificate,
+            "--since" | "--after" => &mut self.since,
+            _ => &mut self.until,
+        }
+    }
+
     /// An option that goes with lists of commits alone, if there is one.
     fn of_list(&self) -> Option<&'static str> {
         let given = [
@@ -107,7 +192,7 @@ impl Options {
 }
 
 /// What is asked of a repository.
-#[derive(Drop, Debug)]
+#[derive(Debug)]
 pub struct Question {
     /// Where it is.
     pub place: Place,
@@ -119,8 +204,20 @@ pub struct Question {
     pub options: Options,
 }
 
+/// A call drops a question.
+impl Drop for Question {
+    fn drop(self) {
+        let Question {
+            place: _,
+            name: _,
+            asked: _,
+            options: _,
+        } = self;
+    }
+}
+
 /// What the arguments ask.
-#[derive(Drop, Debug)]
+#[derive(Drop)]
 pub enum Asks {
     /// A command over records on standard input, or a folder of objects.
     Records,
@@ -133,7 +230,6 @@ pub enum Asks {
 }
 
 /// What was read of the arguments.
-#[derive(Drop)]
 struct Arguments {
     alloc: Global,
     place: Option<Place>,
@@ -141,6 +237,20 @@ struct Arguments {
     needs_help: bool,
     asked: Vec<Asked>,
     options: Options,
+}
+
+/// A call drops what was read.
+impl Drop for Arguments {
+    fn drop(self) {
+        let Arguments {
+            alloc: _,
+            place: _,
+            name: _,
+            needs_help: _,
+            asked: _,
+            options: _,
+        } = self;
+    }
 }
 
 /// What the arguments behind the program's name ask. They are about a repository where one of them is `-C` or `--git-dir`, and each option
@@ -174,15 +284,16 @@ pub fn read_question(alloc: Global, place: Place, words: &[String]) -> Result<Qu
         return Err(Misuse::NoOption(String::from_str(alloc, "-C")?));
     }
     arguments.place = Some(place);
-    match arguments.ask()? {
-        Asks::Question(question) => Ok(question),
-        _ => Err(Misuse::NoCommand),
+    match arguments.ask() {
+        Ok(Asks::Question(question)) => Ok(question),
+        Ok(_) => Err(Misuse::NoCommand),
+        Err(misuse) => Err(misuse),
     }
 }
 
 /// Whether an argument says where a repository is.
 fn names_place(word: &str) -> bool {
-    word == "-C" || word == "--git-dir"
+    word == "-C" || word == "--git-dir" || word.starts_with("--git-dir=")
 }
 
 /// Help that is asked for without a repository: the first word is an option that asks for it.
@@ -223,26 +334,7 @@ impl Arguments {
             name: None,
             needs_help: false,
             asked: Vec::new(alloc),
-            options: Options {
-                rows: Rows::Checked,
-                takes_border: false,
-                is_verbose: false,
-                by_first_parents: false,
-                since: None,
-                until: None,
-                merges: false,
-                no_merges: false,
-                skip: None,
-                limit: None,
-                counts: false,
-                is_reversed: false,
-                gives_time: false,
-                gives_parents: false,
-                gives_subject: false,
-                ends_in_zero: false,
-                gives_names: false,
-                certificate: None,
-            },
+            options: Options::none(),
         }
     }
 
@@ -264,31 +356,35 @@ impl Arguments {
         if takes_value(option) {
             return self.read_value(option, value, behind);
         }
+        if self.options.take_flag(word) || self.read_joined(word)? {
+            return Ok(behind);
+        }
         match word {
             "-C" | "--git-dir" => return self.read_place(word, behind),
-            "--merges" => self.options.merges = true,
-            "--no-merges" => self.options.no_merges = true,
-            "--count" => self.options.counts = true,
-            "--reverse" => self.options.is_reversed = true,
-            "--timestamp" => self.options.gives_time = true,
-            "--parents" => self.options.gives_parents = true,
-            "--oneline" => self.options.gives_subject = true,
             "--help" | "-h" => self.needs_help = true,
-            "--no-graph" => self.options.rows = Rows::Unused,
-            "--trust-graph" => self.options.rows = Rows::Trusted,
-            "--border" => self.options.takes_border = true,
-            "--verbose" => self.options.is_verbose = true,
-            "--first-parent" => self.options.by_first_parents = true,
-            "-z" => self.options.ends_in_zero = true,
-            "--names" => self.options.gives_names = true,
             "--all" => self.asked.push(Asked::All)?,
             "--branches" => self.asked.push(Asked::Branches)?,
             "--tags" => self.asked.push(Asked::Tags)?,
+            "--remotes" => self.asked.push(Asked::Remotes)?,
             "--stdin" => self.asked.push(Asked::Lines)?,
             "--" => return Err(Misuse::Paths),
             word => self.read_word(word)?,
         }
         Ok(behind)
+    }
+
+    /// Reads `--git-dir=FOLDER`, or `-N` for `-n N`. Whether the word is one of them.
+    fn read_joined(&mut self, word: &str) -> Result<bool, Misuse> {
+        if let Some(folder) = word.strip_prefix("--git-dir=") {
+            self.set_place("--git-dir", folder)?;
+            return Ok(true);
+        }
+        let number = word.strip_prefix('-').unwrap_or_default();
+        if !is_number(number, 9) {
+            return Ok(false);
+        }
+        self.set("-n", number)?;
+        Ok(true)
     }
 
     /// Reads where the repository is.
@@ -301,16 +397,22 @@ impl Arguments {
         let [folder, behind @ ..] = behind else {
             return Err(Misuse::NoFolder(option));
         };
+        self.set_place(option, folder.as_str())?;
+        Ok(behind)
+    }
+
+    /// Takes where the repository is.
+    fn set_place(&mut self, option: &'static str, folder: &str) -> Result<(), Misuse> {
         if folder.is_empty() {
             return Err(Misuse::NoFolder(option));
         }
-        let folder = folder.clone()?;
+        let folder = String::from_str(self.alloc, folder)?;
         self.place = Some(if option == "-C" {
             Place::Folder(folder)
         } else {
             Place::GitDir(folder)
         });
-        Ok(behind)
+        Ok(())
     }
 
     /// Reads the value of an option: the one in its own word, or else the next word.
@@ -338,39 +440,9 @@ impl Arguments {
 
     /// Takes the value of an option.
     fn set(&mut self, option: &str, value: &str) -> Result<(), Misuse> {
-        match option {
-            "-n" | "--max-count" => {
-                if !is_number(value, 9) {
-                    return Err(Misuse::Limit);
-                }
-                self.options.limit = Some(String::from_str(self.alloc, value)?);
-            }
-            "--skip" => {
-                if !is_number(value, 9) {
-                    return Err(Misuse::Skip);
-                }
-                self.options.skip = Some(String::from_str(self.alloc, value)?);
-            }
-            "--certificate" => {
-                if value.is_empty() {
-                    return Err(Misuse::NoFile);
-                }
-                self.options.certificate = Some(String::from_str(self.alloc, value)?);
-            }
-            "--since" => self.options.since = Some(self.digits_of("--since", value)?),
-            "--after" => self.options.since = Some(self.digits_of("--after", value)?),
-            "--until" => self.options.until = Some(self.digits_of("--until", value)?),
-            _ => self.options.until = Some(self.digits_of("--before", value)?),
-        }
+        let text = text_of(self.alloc, option, value)?;
+        *self.options.place_of(option) = Some(text);
         Ok(())
-    }
-
-    /// The digits of a time.
-    fn digits_of(&self, option: &'static str, value: &str) -> Result<String, Misuse> {
-        let Some(seconds) = seconds_of(value) else {
-            return Err(Misuse::Time(option));
-        };
-        Ok(format!(in self.alloc; "{seconds}")?)
     }
 
     /// Reads a word that is no option: the command, or a revision.
@@ -397,8 +469,8 @@ impl Arguments {
         Ok(())
     }
 
-    /// What all arguments ask.
-    fn ask(self) -> Result<Asks, Misuse> {
+    /// What all arguments ask. It is moved out of what was read.
+    fn ask(&mut self) -> Result<Asks, Misuse> {
         if self.needs_help {
             return Ok(Asks::Help(self.name));
         }
@@ -407,20 +479,19 @@ impl Arguments {
         };
         self.check_options(name)?;
         self.check_number(name)?;
-        let Arguments {
-            place,
-            asked,
-            options,
-            ..
-        } = self;
-        match place {
-            Some(place) => Ok(Asks::Question(Question {
-                place,
-                name,
-                asked,
-                options,
-            })),
+        match self.place.take() {
+            Some(place) => Ok(Asks::Question(self.question(place, name))),
             None => Err(Misuse::NoFolder("-C")),
+        }
+    }
+
+    /// The question of this command at this place.
+    fn question(&mut self, place: Place, name: Name) -> Question {
+        Question {
+            place,
+            name,
+            asked: mem::replace(&mut self.asked, Vec::new(self.alloc)),
+            options: mem::replace(&mut self.options, Options::none()),
         }
     }
 
@@ -533,6 +604,36 @@ impl Arguments {
             Some(Asked::Word(word)) => word.contains("..."),
             _ => false,
         }
+    }
+}
+
+/// What is kept of an option's value: it, or of a time the digits.
+fn text_of(alloc: Global, option: &str, value: &str) -> Result<String, Misuse> {
+    let is_right = match option {
+        "-n" | "--max-count" | "--skip" => is_number(value, 9),
+        "--certificate" => !value.is_empty(),
+        _ => return digits_of(alloc, option, value),
+    };
+    if is_right {
+        return Ok(String::from_str(alloc, value)?);
+    }
+    Err(match option {
+        "--skip" => Misuse::Skip,
+        "--certificate" => Misuse::NoFile,
+        _ => Misuse::Limit,
+    })
+}
+
+/// The digits of a time.
+fn digits_of(alloc: Global, option: &str, value: &str) -> Result<String, Misuse> {
+    match seconds_of(value) {
+        Some(seconds) => Ok(format!(in alloc; "{seconds}")?),
+        None => Err(Misuse::Time(match option {
+            "--since" => "--since",
+            "--after" => "--after",
+            "--until" => "--until",
+            _ => "--before",
+        })),
     }
 }
 

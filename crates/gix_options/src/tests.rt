@@ -21,6 +21,10 @@ const CASES: &[(&str, &str)] = &[
     ),
     ("-C . newest --since 1234567890 HEAD", ""),
     ("-C . newest --after=2024-02-29 HEAD", ""),
+    ("-C . newest -3 HEAD --remotes", ""),
+    ("-C . newest -3a HEAD", "no option is called \"-3a\""),
+    ("topo HEAD --git-dir=.git", ""),
+    ("topo HEAD --git-dir=", "--git-dir needs a folder"),
     (
         "-C . newest --after 2023-02-29 HEAD",
         "--after needs seconds of 1 to 10 digits, or a date from 1970 on, as 2024-05-01 or 2024-05-01T12:00:00Z",
@@ -264,7 +268,9 @@ const TIMES: &[(&str, Option<u64>)] = &[
     ("2024-13-01", None),
     ("2024-04-31", None),
     ("2024-05-01T24:00", None),
-    ("2024-05-01 12:00", None),
+    ("2024-05-01 12:00", Some(1714564800)),
+    ("2024-05-01 12:00:00 +0200", Some(1714557600)),
+    ("2024-05-01  12:00", None),
     ("yesterday", None),
     ("", None),
 ];

@@ -1,8 +1,8 @@
-//! The index of a pack.
+//! The index of a pack, read piece by piece.
 ghost use Rattle.std.specs.Prelude.{◌≡◌, ◌+◌, ◌≤◌, ◌<◌, length, IfSome, IfOk};
 
 use crate::front::Front;
-use crate::number::{long_at, word_at};
+use crate::number::word_at;
 use gix_hash::{Kind, ObjectId};
 use std::cmp::Ordering;
 use std::ops::Range;
@@ -12,12 +12,16 @@ use thiserror::Error;
 const SIGNATURE: u32 = 0xFF74_4F63;
 /// Where the 256 counts begin.
 const COUNTS: usize = 8;
-/// Where the ids begin.
-const IDS: usize = 1032;
+/// How many bytes the head of an index has, with its counts. Behind it are the ids.
+pub const INDEX_HEAD: usize = 1032;
 /// What is added to the number of an offset of eight bytes.
 const FLAG: u32 = 0x8000_0000;
+/// How often a search guesses a place by how far an id is from those around it, at the most.
+const GUESSES: u32 = 8;
 /// How often a search halves what is left, at the most.
 const HALVINGS: u32 = 33;
+/// How many numbers the four bytes behind the first byte of an id write.
+const FRONTS: u64 = 1 << 32;
 
 /// Why bytes are no index of a pack.
 #[derive(Clone, Copy, PartialEq, Eq, Debug, Error)]
@@ -39,25 +43,37 @@ pub enum IndexFault {
     Length,
 }
 
+/// The file of an index, of which pieces are read.
+pub trait Source {
+    /// Puts the bytes from a place on into `buffer`. Whether there are as many.
+    fn fill(&mut self, at: u64, buffer: &mut [u8]) -> bool;
+}
+
 /// The index of a pack, of version 2: the ids of the pack's objects in rising order, and where their entries begin.
 ///
-/// Places are numbers of ids, from 0 on. That ids rise isn't tested, as git doesn't: where they don't, some are not found.
+/// Places are numbers of ids, from 0 on. That ids rise isn't tested, as git doesn't: where they don't, some are not found. Only the head is
+/// kept. What else a call asks for is read from a [`Source`], which is to be the file. Where it lacks a piece, the call is `Truncated`.
 #[derive(Drop)]
 pub struct Index {
-    file: Vec<u8>,
     kind: Kind,
+    head: Vec<u8>,
+    /// The hash at the end of the pack.
+    hash: Vec<u8>,
+    /// How many bytes the file has.
+    size: u64,
     len: u32,
 }
 
 impl Index {
-    /// The index that these bytes are, whose ids are of this kind. The bytes are kept.
+    /// The index in a file of so many bytes, whose ids are of this kind. Its first bytes are `head`, and `hash` are those before its last
+    /// hash, as many as an id has. Both are kept.
     ///
     /// # Errors
     ///
-    /// The first fault of [`IndexFault`] in their order. The bytes are dropped.
-    pub fn new(kind: Kind, file: Vec<u8>) -> Result<Index, IndexFault> {
-        let bytes = file.as_slice();
-        if bytes.len() < IDS {
+    /// The first fault of [`IndexFault`] in their order.
+    pub fn new(kind: Kind, size: u64, head: Vec<u8>, hash: Vec<u8>) -> Result<Index, IndexFault> {
+        let bytes = head.as_slice();
+        if bytes.len() < INDEX_HEAD {
             return Err(IndexFault::Truncated);
         }
         if word_at(bytes, 0) != Some(SIGNATURE) {
@@ -75,13 +91,19 @@ impl Index {
             }
             len = count;
         }
-        let size = kind.len_in_bytes();
-        let least = IDS as u64 + len as u64 * (size as u64 + 8) + 2 * size as u64;
+        let id = kind.len_in_bytes() as u64;
+        let least = INDEX_HEAD as u64 + len as u64 * (id + 8) + 2 * id;
         let most = least + 8 * (len as u64).saturating_sub(1);
-        if (bytes.len() as u64) < least || bytes.len() as u64 > most {
+        if size < least || size > most {
             return Err(IndexFault::Length);
         }
-        Ok(Index { file, kind, len })
+        Ok(Index {
+            kind,
+            head,
+            hash,
+            size,
+            len,
+        })
     }
 
     /// How many ids there are.
@@ -96,64 +118,127 @@ impl Index {
 
     /// The hash at the end of the pack that this is the index of, as the index says it.
     pub fn pack_hash(&self) -> &[u8] {
-        let size = self.kind.len_in_bytes();
-        let bytes = self.file.as_slice();
-        let (_, hashes) = bytes.split_at(bytes.len().saturating_sub(2 * size));
-        hashes.split_at(hashes.len() / 2).0
+        self.hash.as_slice()
     }
 
     /// The id at a place, and None behind the last.
-    pub fn id_at(&self, place: u32) -> Option<ObjectId> {
+    ///
+    /// # Errors
+    ///
+    /// `Truncated`.
+    pub fn id_at<S: Source>(
+        &self,
+        place: u32,
+        source: &mut S,
+    ) -> Result<Option<ObjectId>, IndexFault> {
         if place >= self.len {
-            return None;
+            return Ok(None);
         }
-        let size = self.kind.len_in_bytes();
-        let (id, _) = self
-            .from(IDS + place as usize * size)
-            .split_at_checked(size)?;
-        ObjectId::from_bytes(id)
+        let mut id = [0u8; 32];
+        let id = &mut id[..self.kind.len_in_bytes()];
+        self.read_id(place, id, source)?;
+        Ok(ObjectId::from_bytes(id))
     }
 
-    /// The place of an id, and None where it isn't found.
-    pub fn place_of(&self, id: &ObjectId) -> Option<u32>
-        ensures { IfSome result (λ place. place < self.now.len) }
+    /// Puts the bytes of the id at a place into a buffer of as many.
+    fn read_id<S: Source>(
+        &self,
+        place: u32,
+        id: &mut [u8],
+        source: &mut S,
+    ) -> Result<(), IndexFault>
+        requires { length id.old ≤ 32 }
     {
-        let bytes = id.as_bytes();
-        let size = bytes.len();
+        let at = INDEX_HEAD as u64 + place as u64 * id.len() as u64;
+        if source.fill(at, id) {
+            Ok(())
+        } else {
+            Err(IndexFault::Truncated)
+        }
+    }
+
+    /// The place of an id, and None where it isn't found. Ids are spread as hashes are, so that a few guesses are enough. Where they aren't,
+    /// what is left is halved.
+    ///
+    /// # Errors
+    ///
+    /// `Truncated`.
+    pub fn place_of<S: Source>(
+        &self,
+        id: &ObjectId,
+        source: &mut S,
+    ) -> Result<Option<u32>, IndexFault>
+        ensures { IfOk result (λ found. IfSome found (λ place. place < self.now.len)) }
+    {
         if id.kind() != self.kind {
-            return None;
+            return Ok(None);
         }
-        let first = bytes[0] as usize;
-        let mut low = match first {
-            0 => 0,
-            _ => self.count_at(first - 1),
+        let id = id.as_bytes();
+        let first = id[0] as usize;
+        let mut left = Left {
+            low: match first {
+                0 => 0,
+                _ => self.count_at(first - 1),
+            },
+            high: self.count_at(first),
+            above: 0,
+            below: FRONTS,
         };
-        let mut high = self.count_at(first);
-        for _ in 0..HALVINGS {
-            if low >= high {
-                return None;
+        let mut buffer = [0u8; 32];
+        for turn in 0..GUESSES + HALVINGS {
+            if left.low >= left.high {
+                return Ok(None);
             }
-            let middle = low + (high - low) / 2;
-            match bytes.cmp(self.from(IDS + middle as usize * size).get(..size)?) {
-                Ordering::Equal => return if middle < self.len {
-                    Some(middle)
-                } else {
-                    None
-                },
-                Ordering::Greater => low = middle + 1,
-                Ordering::Less => high = middle,
+            let middle = if turn < GUESSES {
+                left.guess(front_of(id))
+            } else {
+                left.middle()
+            };
+            self.read_id(middle, &mut buffer[..id.len()], source)?;
+            let found = &buffer[..id.len()];
+            match id.cmp(found) {
+                Ordering::Equal => {
+                    return Ok(if middle < self.len {
+                        Some(middle)
+                    } else {
+                        None
+                    });
+                }
+                Ordering::Greater => {
+                    left.low = middle.saturating_add(1);
+                    left.above = front_of(found);
+                }
+                Ordering::Less => {
+                    left.high = middle;
+                    left.below = front_of(found);
+                }
             }
         }
-        None
+        Ok(None)
     }
 
     /// The places of all ids that begin with these digits. Where ids don't rise, some may be missing, and others among them.
-    pub fn places_from(&self, front: &Front) -> Range<u32> {
-        self.first_behind(front, false)..self.first_behind(front, true)
+    ///
+    /// # Errors
+    ///
+    /// `Truncated`.
+    pub fn places_from<S: Source>(
+        &self,
+        front: &Front,
+        source: &mut S,
+    ) -> Result<Range<u32>, IndexFault> {
+        let low = self.first_behind(front, false, source)?;
+        let high = self.first_behind(front, true, source)?;
+        Ok(low..high)
     }
 
     /// The first place whose id isn't below the digits, or, where those that begin with them count as below too, is above.
-    fn first_behind(&self, front: &Front, are_below: bool) -> u32 {
+    fn first_behind<S: Source>(
+        &self,
+        front: &Front,
+        are_below: bool,
+        source: &mut S,
+    ) -> Result<u32, IndexFault> {
         let mut low = 0;
         let mut high = self.len;
         for _ in 0..HALVINGS {
@@ -161,7 +246,7 @@ impl Index {
                 break;
             }
             let middle = low + (high - low) / 2;
-            let is_below = match self.id_at(middle) {
+            let is_below = match self.id_at(middle, source)? {
                 Some(id) => match front.compare(id.as_bytes()) {
                     Ordering::Greater => true,
                     Ordering::Equal => are_below,
@@ -175,38 +260,92 @@ impl Index {
                 high = middle;
             }
         }
-        low
+        Ok(low)
     }
 
     /// How many ids begin with this byte or a lower one.
     fn count_at(&self, first: usize) -> u32
         requires { first < 256 }
     {
-        word_at(self.file.as_slice(), COUNTS + 4 * first).unwrap_or(0)
+        word_at(self.head.as_slice(), COUNTS + 4 * first).unwrap_or(0)
     }
 
     /// Where the entry begins, as a number of bytes from the front of the pack, of the object whose id is at a place. None behind the last
     /// place, and where the number of an offset of eight bytes is above the last.
-    pub fn offset_at(&self, place: u32) -> Option<u64> {
+    ///
+    /// # Errors
+    ///
+    /// `Truncated`.
+    pub fn offset_at<S: Source>(
+        &self,
+        place: u32,
+        source: &mut S,
+    ) -> Result<Option<u64>, IndexFault> {
         if place >= self.len {
-            return None;
+            return Ok(None);
         }
-        let size = self.kind.len_in_bytes();
-        let offsets = IDS + self.len as usize * (size + 4);
-        let word = word_at(self.file.as_slice(), offsets + 4 * place as usize)?;
+        let id = self.kind.len_in_bytes() as u64;
+        let len = self.len as u64;
+        let offsets = INDEX_HEAD as u64 + len * (id + 4);
+        let word = u32::from_be_bytes(number_at(offsets + 4 * place as u64, source)?);
         if word < FLAG {
-            return Some(word as u64);
+            return Ok(Some(word as u64));
         }
-        let long = offsets + 4 * self.len as usize + 8 * (word - FLAG) as usize;
-        if long + 8 > self.file.len().saturating_sub(2 * size) {
-            return None;
+        let long = offsets + 4 * len + 8 * (word - FLAG) as u64;
+        if long + 8 > self.size.saturating_sub(2 * id) {
+            return Ok(None);
         }
-        long_at(self.file.as_slice(), long)
+        Ok(Some(u64::from_be_bytes(number_at(long, source)?)))
+    }
+}
+
+/// The bytes of a number that begins at a place.
+fn number_at<S: Source, const N: usize>(at: u64, source: &mut S) -> Result<[u8; N], IndexFault> {
+    let mut bytes = [0u8; N];
+    if source.fill(at, &mut bytes) {
+        Ok(bytes)
+    } else {
+        Err(IndexFault::Truncated)
+    }
+}
+
+/// Which places of a search are left: from `low` on, and below `high`.
+#[derive(Clone, Copy)]
+struct Left {
+    low: u32,
+    high: u32,
+    /// The front of the id before `low`, and that of the id at `high`.
+    above: u64,
+    below: u64,
+}
+
+impl Left {
+    /// The place that an id with this front has if the ids that are left are spread evenly.
+    fn guess(&self, front: u64) -> u32
+        requires { self.now.low < self.now.high }
+        ensures from { self.now.low ≤ result }
+        ensures below { result < self.now.high }
+    {
+        let places = (self.high - self.low) as u64;
+        let fronts = self.below.saturating_sub(self.above).max(1);
+        let ahead = front.saturating_sub(self.above).saturating_mul(places) / fronts;
+        self.low + ahead.min(places - 1) as u32
     }
 
-    /// The bytes from a place in the file on.
-    #[inline(always)]
-    fn from(&self, at: usize) -> &[u8] {
-        self.file.as_slice().get(at..).unwrap_or(&[])
+    /// The place in the middle.
+    fn middle(&self) -> u32
+        requires { self.now.low < self.now.high }
+        ensures from { self.now.low ≤ result }
+        ensures below { result < self.now.high }
+    {
+        self.low + (self.high - self.low) / 2
+    }
+}
+
+/// The number that the four bytes behind the first one write.
+fn front_of(id: &[u8]) -> u64 {
+    match id {
+        [_, a, b, c, d, ..] => u32::from_be_bytes([*a, *b, *c, *d]) as u64,
+        _ => 0,
     }
 }

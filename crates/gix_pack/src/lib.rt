@@ -1,4 +1,4 @@
-//! Packs of git and their indexes, as bytes in memory: where an object is, and how it is stored there.
+//! Packs of git and their indexes: where an object is, and how it is stored there.
 #![tactic(auto)]
 
 mod entry;
@@ -8,7 +8,7 @@ mod number;
 
 pub use entry::{Base, Entry, EntryFault, entry_at};
 pub use front::Front;
-pub use index::{Index, IndexFault};
+pub use index::{INDEX_HEAD, Index, IndexFault, Source};
 use thiserror::Error;
 
 /// How many bytes the head of a pack has, which are before its first entry.

@@ -9,12 +9,3 @@ pub(crate) fn word_at(bytes: &[u8], at: usize) -> Option<u32> {
     };
     Some(u32::from_be_bytes([*a, *b, *c, *d]))
 }
-
-/// The number in the eight bytes from `at` on, and None where there are fewer.
-#[inline(always)]
-pub(crate) fn long_at(bytes: &[u8], at: usize) -> Option<u64> {
-    let [a, b, c, d, e, f, g, h, ..] = bytes.get(at..)? else {
-        return None;
-    };
-    Some(u64::from_be_bytes([*a, *b, *c, *d, *e, *f, *g, *h]))
-}

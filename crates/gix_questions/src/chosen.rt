@@ -155,6 +155,7 @@ where
         Asked::All => resolve_all(alloc, repository, Set::All, resolved)?,
         Asked::Branches => resolve_all(alloc, repository, Set::Branches, resolved)?,
         Asked::Tags => resolve_all(alloc, repository, Set::Tags, resolved)?,
+        Asked::Remotes => resolve_all(alloc, repository, Set::Remotes, resolved)?,
         Asked::Lines => {
             for line in lines {
                 resolve(alloc, repository, line.as_str(), wanted, resolved)?;

@@ -44,7 +44,7 @@ impl<T: Drop> From<AllocFailed<T>> for RefFault {
 }
 
 /// Why a repository of this `config` isn't read. What is in quotes is written so that the text is one line.
-#[derive(Drop, Debug, Error)]
+#[derive(Debug, Error)]
 pub enum ConfigFault {
     /// This line is no line of a config, counted from 1.
     #[error("bad config line {0}")]
@@ -70,6 +70,18 @@ pub enum ConfigFault {
     /// Memory ran out.
     #[error("out of memory")]
     Memory,
+}
+
+/// A call drops a fault. Else each function that may drop one would go through all of them itself, and so would its proof.
+impl Drop for ConfigFault {
+    fn drop(self) {
+        match self {
+            ConfigFault::Line(_) | ConfigFault::Reftable | ConfigFault::Memory => {}
+            ConfigFault::FormatVersion(_) | ConfigFault::ObjectFormat(_) => {}
+            ConfigFault::Extension(_) | ConfigFault::OnlyVersionOne(_) => {}
+            ConfigFault::RefStorage(_) => {}
+        }
+    }
 }
 
 impl From<AllocError> for ConfigFault {

@@ -17,7 +17,6 @@ pub struct Settings {
 }
 
 /// What was found up to a key.
-#[derive(Drop)]
 struct Found {
     settings: Settings,
     /// The last version of the format.
@@ -42,18 +41,15 @@ struct Found {
 /// none of these. `Memory`.
 pub fn settings_of(alloc: Global, config: &[u8]) -> Result<Settings, ConfigFault> {
     let mut keys = Keys::new(alloc, config);
-    let mut found = Found {
-        settings: Settings {
-            kind: Kind::Sha1,
-            has_commit_graph: true,
-            is_partial: false,
-        },
-        version: None,
-        kind: None,
-        is_partial: false,
-        with_zero: None,
-        with_one: None,
-    };
+    let mut found = Found::none();
+    match read_all(alloc, &mut keys, &mut found) {
+        Ok(()) => found.settings(),
+        Err(fault) => Err(fault),
+    }
+}
+
+/// Adds all keys.
+fn read_all(alloc: Global, keys: &mut Keys<'_>, found: &mut Found) -> Result<(), ConfigFault> {
     for _ in 0..u64::MAX {
         match keys.next()? {
             Some(true) => found.add(alloc, keys.name.as_slice(), Some(keys.value.as_slice()))?,
@@ -61,10 +57,40 @@ pub fn settings_of(alloc: Global, config: &[u8]) -> Result<Settings, ConfigFault
             None => break,
         }
     }
-    found.into_settings()
+    Ok(())
+}
+
+/// A call drops what was found.
+impl Drop for Found {
+    fn drop(self) {
+        let Found {
+            settings: _,
+            version: _,
+            kind: _,
+            is_partial: _,
+            with_zero: _,
+            with_one: _,
+        } = self;
+    }
 }
 
 impl Found {
+    /// Before the first key.
+    fn none() -> Found {
+        Found {
+            settings: Settings {
+                kind: Kind::Sha1,
+                has_commit_graph: true,
+                is_partial: false,
+            },
+            version: None,
+            kind: None,
+            is_partial: false,
+            with_zero: None,
+            with_one: None,
+        }
+    }
+
     /// Adds a key.
     fn add(&mut self, alloc: Global, name: &[u8], value: Option<&[u8]>) -> Result<(), ConfigFault> {
         if name == b"core.repositoryformatversion".as_slice() {
@@ -88,30 +114,51 @@ impl Found {
         name: &[u8],
         value: &[u8],
     ) -> Result<(), ConfigFault> {
-        match name {
-            b"noop" | b"preciousobjects" | b"worktreeconfig" => {}
-            b"partialclone" => self.is_partial = true,
-            b"noop-v1" => self.only_with_one(alloc, name)?,
-            b"objectformat" => {
-                self.kind = Some(match value {
-                    b"sha1" => Kind::Sha1,
-                    b"sha256" => Kind::Sha256,
-                    _ => return Err(ConfigFault::ObjectFormat(text_of(alloc, value)?)),
-                });
-                self.only_with_one(alloc, name)?;
+        match word_of(name) {
+            "noop" | "preciousobjects" | "worktreeconfig" => Ok(()),
+            "compatobjectformat" | "relativeworktrees" => Ok(()),
+            "partialclone" => {
+                self.is_partial = true;
+                Ok(())
             }
-            b"refstorage" => {
-                match value {
-                    b"files" => {}
-                    b"reftable" => self.not_with_one(ConfigFault::Reftable),
-                    _ => self.not_with_one(ConfigFault::RefStorage(text_of(alloc, value)?)),
-                }
-                self.only_with_one(alloc, name)?;
+            "noop-v1" => self.only_with_one(alloc, name),
+            "objectformat" => self.add_object_format(alloc, name, value),
+            "refstorage" => self.add_ref_storage(alloc, name, value),
+            _ => {
+                self.not_with_one(ConfigFault::Extension(text_of(alloc, name)?));
+                Ok(())
             }
-            b"compatobjectformat" | b"relativeworktrees" => {}
-            _ => self.not_with_one(ConfigFault::Extension(text_of(alloc, name)?)),
         }
-        Ok(())
+    }
+
+    /// Adds the extension that says the kind of the ids.
+    fn add_object_format(
+        &mut self,
+        alloc: Global,
+        name: &[u8],
+        value: &[u8],
+    ) -> Result<(), ConfigFault> {
+        self.kind = Some(match word_of(value) {
+            "sha1" => Kind::Sha1,
+            "sha256" => Kind::Sha256,
+            _ => return Err(ConfigFault::ObjectFormat(text_of(alloc, value)?)),
+        });
+        self.only_with_one(alloc, name)
+    }
+
+    /// Adds the extension that says how the refs are stored.
+    fn add_ref_storage(
+        &mut self,
+        alloc: Global,
+        name: &[u8],
+        value: &[u8],
+    ) -> Result<(), ConfigFault> {
+        match word_of(value) {
+            "files" => {}
+            "reftable" => self.not_with_one(ConfigFault::Reftable),
+            _ => self.not_with_one(ConfigFault::RefStorage(text_of(alloc, value)?)),
+        }
+        self.only_with_one(alloc, name)
     }
 
     /// Keeps that there is an extension which only version 1 can have.
@@ -129,30 +176,22 @@ impl Found {
         }
     }
 
-    /// The settings, unless the format isn't known.
-    fn into_settings(self) -> Result<Settings, ConfigFault> {
-        let Found {
-            settings,
-            version,
-            kind,
-            is_partial,
-            with_zero,
-            with_one,
-        } = self;
-        let Some(version) = version else {
-            return Ok(settings);
+    /// The settings, unless the format isn't known. Its fault is moved out.
+    fn settings(&mut self) -> Result<Settings, ConfigFault> {
+        let Some(version) = self.version.take() else {
+            return Ok(self.settings);
         };
         let fault = match version.as_str() {
-            "0" => with_zero,
-            "1" => with_one,
+            "0" => self.with_zero.take(),
+            "1" => self.with_one.take(),
             _ => Some(ConfigFault::FormatVersion(version)),
         };
         match fault {
             Some(fault) => Err(fault),
             None => Ok(Settings {
-                kind: kind.unwrap_or(settings.kind),
-                has_commit_graph: settings.has_commit_graph,
-                is_partial: is_partial || settings.is_partial,
+                kind: self.kind.unwrap_or(self.settings.kind),
+                has_commit_graph: self.settings.has_commit_graph,
+                is_partial: self.is_partial || self.settings.is_partial,
             }),
         }
     }
@@ -174,6 +213,11 @@ fn is_yes(value: Option<&[u8]>) -> Option<bool> {
         }
     }
     None
+}
+
+/// Bytes as a word, which is empty where they are no text.
+fn word_of(bytes: &[u8]) -> &str {
+    str::from_utf8(bytes).unwrap_or_default()
 }
 
 /// Bytes as text for a fault, up to the first that is none.

@@ -8,7 +8,6 @@ use gix_batches::{Batch, Commit, CommitId, Ending, batch_named};
 use gix_hash::ObjectId;
 use gix_odb::Odb;
 use gix_words::Fault;
-use std::alloc::Global;
 use std::fs::Files;
 use std::os::unix::fs::FileExt;
 
@@ -22,7 +21,6 @@ const MOST_READINGS: u32 = 64;
 ///
 /// The first fault of an object that is read. The slices are as they were.
 pub fn batch<R>(
-    alloc: Global,
     words: &[String],
     part: &mut Part,
     odb: &mut Odb<R>,
@@ -39,14 +37,13 @@ where
     ensures parents_stay { IfErr result (λ e. parents.new ≡ parents.old) }
 {
     let count = skip.saturating_add(commits.len() as u64);
-    read_for_list(alloc, words, part, odb, count)?;
+    read_for_list(words, part, odb, count)?;
     let objects = part.gathering.objects();
-    Ok(batch_named(alloc, words, objects, skip, commits, parents))
+    Ok(batch_named(part.alloc(), words, objects, skip, commits, parents))
 }
 
 /// Reads what the first commits of a list need, so many.
 fn read_for_list<R>(
-    alloc: Global,
     words: &[String],
     part: &mut Part,
     odb: &mut Odb<R>,
@@ -62,7 +59,7 @@ where
         if part.gathering.is_all_read() {
             break;
         }
-        let Some(id) = lacks(alloc, words, part, count) else {
+        let Some(id) = lacks(words, part, count) else {
             break;
         };
         if !part.read_for(&id, odb, None, &mut silent)? {
@@ -73,9 +70,9 @@ where
 }
 
 /// The object that a walk lacks that goes over so many commits and puts none of them.
-fn lacks(alloc: Global, words: &[String], part: &Part, count: u64) -> Option<ObjectId> {
+fn lacks(words: &[String], part: &Part, count: u64) -> Option<ObjectId> {
     let objects = part.gathering.objects();
-    let passed = batch_named(alloc, words, objects, count, &mut [], &mut []);
+    let passed = batch_named(part.alloc(), words, objects, count, &mut [], &mut []);
     match passed.ending {
         Ending::Failed(Fault::Missing(id)) => Some(id),
         _ => None,

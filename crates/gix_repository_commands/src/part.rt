@@ -38,6 +38,7 @@ impl Watch for Silent {
 /// Objects of a repository, some of which were read.
 #[derive(Drop)]
 pub struct Part {
+    alloc: Global,
     /// Those that were read, and the ids that wait.
     pub gathering: Gathering,
     /// How many are read at first. None if all are needed.
@@ -46,8 +47,9 @@ pub struct Part {
 
 impl Part {
     /// What ids lead to. Where there is a number, so many commits may be enough.
-    pub fn of(gathering: Gathering, least: Option<usize>) -> Part {
+    pub fn of(alloc: Global, gathering: Gathering, least: Option<usize>) -> Part {
         Part {
+            alloc,
             gathering,
             first: least.map(|least| least.saturating_add(FIRST_COMMITS)),
         }
@@ -67,7 +69,7 @@ impl Part {
         let mut ids: Vec<ObjectId> = Vec::new(alloc);
         let (order, least) = match command {
             Command::Files { tree, .. } => {
-                return Ok(Part::of(Gathering::trees(alloc, keys, tree)?, None));
+                return Ok(Part::of(alloc, Gathering::trees(alloc, keys, tree)?, None));
             }
             Command::Commits {
                 order,
@@ -103,7 +105,12 @@ impl Part {
         };
         let border = IdSet::new(alloc, keys);
         let gathering = Gathering::commits(alloc, ids.as_slice(), order, border)?;
-        Ok(Part::of(gathering, least))
+        Ok(Part::of(alloc, gathering, least))
+    }
+
+    /// Where memory for what is read is taken from.
+    pub(crate) fn alloc(&self) -> Global {
+        self.alloc
     }
 
     /// Reads what is needed at first: so many, or all.

@@ -1,6 +1,8 @@
 //! The lines of a command over a repository.
-ghost use Rattle.std.specs.Prelude.{◌≡◌, ◌≢◌, List, [], map, None, Some, IfOk, string_bytes};
+ghost use Rattle.std.specs.Prelude.{◌≡◌, ◌≢◌, ℕ, List, [], map, None, Some, IfOk, string_bytes};
+ghost use Rattle.gix_commands.specs.Opening.{AreReadFrom};
 ghost use Rattle.gix_revwalk.specs.Agreeing.{rows_in};
+ghost use Rattle.gix_statement.specs.CommitGraph.{AreLayers};
 ghost use Rattle.gix_statement.specs.WholeStatement.{AreNamed, Objects, Promises, Row};
 
 use crate::part::{Part, Watch};
@@ -8,7 +10,6 @@ use gix_commands::run_named;
 use gix_commitgraph::Graph;
 use gix_odb::Odb;
 use gix_words::Fault;
-use std::alloc::Global;
 use std::fs::Files;
 use std::os::unix::fs::FileExt;
 
@@ -32,7 +33,6 @@ pub struct Answered {
 ///
 /// The first fault of an object that is read.
 pub fn answer<R, P: Watch>(
-    alloc: Global,
     words: &[String],
     part: &mut Part,
     odb: &mut Odb<R>,
@@ -42,10 +42,16 @@ pub fn answer<R, P: Watch>(
 where
     R: Files + AllocGlobal + Clone + Drop,
     R::File: FileExt,
-    // What the lines are, from lists of bytes up: they are right of objects each of whose ids is the hash of its object.
+    // What the lines are, from lists of bytes up: over rows that `read_graph` gives, they are right of objects each of whose ids is the hash
+    // of its object, and of the rows in the files.
+    ensures whole { (layers : List (List ℕ)) → AreReadFrom layers (rows_in graph.entry) → IfOk result (λ answered. Promises Fault.Write
+        (map string_bytes words.now) (λ (given : Objects) (rows : List Row). AreNamed given × AreLayers [] layers [] rows) (Some [])
+        answered.ended (Some answered.lines.items)) }
+    // The same without a commit-graph.
     ensures named { graph.entry ≡ None → IfOk result (λ answered. Promises Fault.Write (map string_bytes words.now)
         (λ (given : Objects) (rows : List Row). AreNamed given × (rows ≡ [])) (Some []) answered.ended (Some answered.lines.items)) }
 {
+    let alloc = part.alloc();
     part.read_first(odb, graph, watch)?;
     for _ in 0..MOST_READINGS {
         let mut lines = Vec::new(alloc);

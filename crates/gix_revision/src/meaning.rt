@@ -56,6 +56,8 @@ pub enum Set {
     Branches,
     /// Those below `refs/tags/`.
     Tags,
+    /// Those below `refs/remotes/`.
+    Remotes,
 }
 
 /// Adds what a word means: `A`, `^A`, `A..B` or `A...B`, and where a tree is wanted also `A:path`. Objects of the kind `wanted` are meant:
@@ -155,6 +157,7 @@ where
         Set::All => "refs/",
         Set::Branches => "refs/heads/",
         Set::Tags => "refs/tags/",
+        Set::Remotes => "refs/remotes/",
     };
     let listed = repository.list_below(prefix)?;
     if let Some(name) = listed.broken.first() {

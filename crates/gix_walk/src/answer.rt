@@ -9,17 +9,21 @@ use gix_commitgraph::Graph;
 use gix_gather::{Gathering, Order};
 use gix_hash::Keys;
 use gix_hash::hashtable::IdSet;
+use gix_odb::Front;
 use gix_options::{Asked, Name, Place, Question, read_lines};
 use gix_questions::{Chosen, choose_from, resolve_words};
 use gix_records::{NamedObjects, READS, read_to_end};
 use gix_repository::Repository;
 use gix_repository_commands::{Part, answer as answer_from_part};
 use gix_revision::Resolved;
+use gix_revision::steps::StepFault;
 use std::io::Write;
 
 /// The status where `contains` found that some revisions aren't contained, `containing` that some don't reach the first, or `is-ancestor` that
 /// one isn't reached.
 const NOT_ALL: u8 = 3;
+/// How many digits stand for an object whose id begins so, at the least.
+const FEWEST_DIGITS: usize = 4;
 /// How many lines are few: the commits that they need are read in less time than the rows of a long history.
 const FEW_LINES: usize = 1000;
 
@@ -153,18 +157,73 @@ pub(crate) fn resolve(
     } else {
         Vec::new(alloc)
     };
-    let resolved = resolve_words(alloc, repository, question, lines.as_slice())?;
+    let resolved = match resolve_words(alloc, repository, question, lines.as_slice()) {
+        Ok(resolved) => resolved,
+        Err(fault) => return Err(lacking_of_clone(rt, repository, Failure::from(fault))),
+    };
     for ambiguous in repository.ambiguous().iter() {
         let word = ambiguous.word.as_str();
         let name = ambiguous.name.as_str();
         let _ = eprintln!(rt; "gix_walk: several refs are called {word:?}: {name:?} is taken");
     }
-    if question.options.is_verbose {
-        for one in resolved.iter() {
+    for one in resolved.iter() {
+        if question.options.is_verbose {
             say(rt, one);
         }
+        say_hidden(rt, repository, one.word.as_str())?;
     }
     Ok(resolved)
+}
+
+/// The failure, where a revision stands for what isn't there of a shallow or partial clone.
+fn lacking_of_clone(
+    rt: &HostRuntime,
+    repository: &Repository<HostRuntime>,
+    failure: Failure,
+) -> Failure {
+    let is_missing = match &failure {
+        Failure::Revision(gix_revision::Fault::Steps { fault, .. }) => {
+            matches!(fault, StepFault::Missing(_))
+        }
+        _ => false,
+    };
+    let why = if !is_missing {
+        return failure;
+    } else if !repository.shallow().is_empty() {
+        "the clone is shallow, and its history ends here. git fetch --unshallow fetches the rest"
+    } else if repository.is_partial() {
+        "the clone is partial, and nothing is fetched here. git fetch --refetch --no-filter fetches what is missing"
+    } else {
+        return failure;
+    };
+    match format!(in rt.alloc(); "{failure}") {
+        Ok(said) => Failure::Lacking(said, why),
+        Err(_) => failure,
+    }
+}
+
+/// Says that a ref is called as the id of an object begins, so that these digits don't stand for the object.
+fn say_hidden(
+    rt: &HostRuntime,
+    repository: &mut Repository<HostRuntime>,
+    word: &str,
+) -> Result<(), Failure> {
+    if word.len() < FEWEST_DIGITS || word.len() >= repository.kind().len_in_hex() {
+        return Ok(());
+    }
+    let Some(front) = Front::new(word.as_bytes()) else {
+        return Ok(());
+    };
+    if repository.find_short(word)?.is_none() {
+        return Ok(());
+    }
+    let others = repository.odb.ids_from(&front, 1)?;
+    if let Some(other) = others.as_slice().first() {
+        let _ = eprintln!(rt;
+            "gix_walk: {word:?} is a ref, and the id {other} begins so too: the ref is taken"
+        );
+    }
+    Ok(())
 }
 
 /// Says what a revision stands for.
@@ -212,7 +271,7 @@ impl Asking<'_> {
             return Ok(0);
         };
         let root = *root;
-        let mut part = Part::of(Gathering::trees(alloc, self.keys, &root)?, None);
+        let mut part = Part::of(alloc, Gathering::trees(alloc, self.keys, &root)?, None);
         part.read_all(&mut repository.odb, None, &mut self.progress)?;
         let words = self.chosen.words(alloc, self.keys, self.question)?;
         run_named(
@@ -290,7 +349,7 @@ impl Asking<'_> {
         let ids = self.chosen.all(alloc)?;
         let border = IdSet::new(alloc, self.keys);
         let gathering = Gathering::commits(alloc, ids.as_slice(), order, border)?;
-        let mut part = Part::of(gathering, least);
+        let mut part = Part::of(alloc, gathering, least);
         if least.is_none() {
             part.read_all(&mut repository.odb, graph, &mut self.progress)?;
             return self.finish(part.gathering.objects(), graph, output);
@@ -365,14 +424,7 @@ impl Asking<'_> {
         let alloc = self.rt.alloc();
         let words = self.chosen.words(alloc, self.keys, self.question)?;
         let odb = &mut repository.odb;
-        let answered = answer_from_part(
-            alloc,
-            words.as_slice(),
-            part,
-            odb,
-            graph,
-            &mut self.progress,
-        )?;
+        let answered = answer_from_part(words.as_slice(), part, odb, graph, &mut self.progress)?;
         self.write_lines(answered.lines.as_slice(), output)?;
         in_memory(answered.ended)?;
         Ok(answered.lines)

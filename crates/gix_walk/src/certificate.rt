@@ -36,7 +36,7 @@ pub(crate) fn serve<W: Write>(
     let certificate = match certify(rt, keys, words, question, output) {
         Ok(certificate) => certificate,
         Err(failure) => {
-            let _ = eprintln!(rt; "gix_walk: the run fails, so no certificate is written");
+            let _ = eprintln!(rt; "gix_walk: no certificate is written, since the run fails:");
             return Err(failure);
         }
     };
@@ -185,10 +185,77 @@ fn question_of(rt: &HostRuntime, kept: &Certificate) -> Result<Question, Failure
     match read_arguments(rt.alloc(), kept.words.as_slice()) {
         Ok(Asks::Question(question))
             if !matches!(question.name, Name::CheckGraph | Name::VerifyCertificate) => {
-            Ok(question)
+            if asks_of_all(&question, kept) {
+                Ok(question)
+            } else {
+                Err(Failure::Certificate(Fault::Member("revisions")))
+            }
         }
         _ => Err(Failure::Certificate(Fault::Member("words"))),
     }
+}
+
+/// Whether the revisions of a certificate are those that its words name. Sets of refs and lines of standard input may have any.
+fn asks_of_all(question: &Question, kept: &Certificate) -> bool {
+    let mut asks_of_others = false;
+    for asked in question.asked.iter() {
+        match asked {
+            Asked::Word(word) => {
+                let (one, other) = sides(word.as_str());
+                if !has_revision(kept, one) || !has_revision(kept, other) {
+                    return false;
+                }
+            }
+            _ => asks_of_others = true,
+        }
+    }
+    for revision in kept.revisions.iter() {
+        if !asks_of_others && !asks_of(question, revision.word.as_str()) {
+            return false;
+        }
+    }
+    true
+}
+
+/// Whether a certificate has a revision of this name.
+fn has_revision(kept: &Certificate, name: &str) -> bool {
+    for revision in kept.revisions.iter() {
+        if revision.word.as_str() == name {
+            return true;
+        }
+    }
+    false
+}
+
+/// Whether a word of a question names this revision.
+fn asks_of(question: &Question, name: &str) -> bool {
+    for asked in question.asked.iter() {
+        if let Asked::Word(word) = asked {
+            let (one, other) = sides(word.as_str());
+            if one == name || other == name {
+                return true;
+            }
+        }
+    }
+    false
+}
+
+/// The two sides of a range, or twice the revision that a word is, or the first of `A...B`, whose second has no name in a certificate.
+fn sides(word: &str) -> (&str, &str) {
+    let word = word.strip_prefix('^').unwrap_or(word);
+    if word.contains(':') {
+        return (word, word);
+    }
+    match word.split_once("..") {
+        Some((one, other)) if other.starts_with('.') => (side(one), side(one)),
+        Some((one, other)) => (side(one), side(other)),
+        None => (side(word), side(word)),
+    }
+}
+
+/// A side of a range, which is HEAD where nothing is written.
+fn side(word: &str) -> &str {
+    if word.is_empty() { "HEAD" } else { word }
 }
 
 /// What the revisions of a certificate stood for.

@@ -36,6 +36,9 @@ pub(crate) enum Failure {
     /// A revision stands for nothing.
     #[error(transparent)]
     Revision(gix_revision::Fault),
+    /// A revision stands for an object that a clone doesn't have, for this reason.
+    #[error("{0}: {1}")]
+    Lacking(String, &'static str),
     /// The commit-graph can't be compared with the commits.
     #[error(transparent)]
     Graph(gix_graph_verify::Fault<gix_gather::Fault>),
@@ -55,10 +58,10 @@ pub(crate) enum Failure {
     #[error("missing {0}: the clone is partial, and nothing is fetched here. git fetch --refetch --no-filter fetches what is missing")]
     Partial(ObjectId),
     /// The commit-graph differs from the commits, at so many places, which were named.
-    #[error("the commit-graph isn't right; git commit-graph write --reachable writes it anew")]
+    #[error("the commit-graph isn't right; git commit-graph write --reachable writes it anew, but it can't keep times before 1970 or from 2^34 seconds on")]
     Differs,
     /// There is no commit-graph that git would use.
-    #[error("git takes no commit-graph here")]
+    #[error("git takes no commit-graph here: there is no file, or one of a chain isn't there, or core.commitGraph is false, or the clone is shallow")]
     NoGraph,
 }
 
@@ -72,6 +75,7 @@ impl Drop for Failure {
             | Failure::Unreadable(_) => {}
             Failure::Folder(_) | Failure::Object(_) | Failure::Records(_) => {}
             Failure::Repository(_) | Failure::Revision(_) => {}
+            Failure::Lacking(_, _) => {}
             Failure::Graph(_) | Failure::Layer(_) | Failure::Certificate(_) => {}
             Failure::NoCommit | Failure::Shallow(_) | Failure::Partial(_) => {}
             Failure::Differs | Failure::NoGraph => {}

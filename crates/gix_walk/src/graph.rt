@@ -1,10 +1,9 @@
 //! Which rows a question may use in place of commits.
 use crate::failure::Failure;
-use gix_commands::Fault;
+use gix_commands::{Fault, read_graph};
 use gix_commitgraph::{Graph, ParentPlaces, Row};
 use gix_gather::read_named;
 use gix_graph_check::read_whole;
-use gix_graph_file::{ChainError, graph_of_chain};
 use gix_graph_verify::{Layer, count_passed, has_passed, keep, read_layers, verify};
 use gix_hash::ObjectId;
 use gix_object::Kind;
@@ -104,20 +103,23 @@ fn rows_of_paths(
     if is_checked && count_passed(layers.as_slice()) < layers.len() {
         return Ok(unchecked());
     }
-    rows_of_layers(rt, layers.as_slice())
+    rows_of_layers(rt, layers)
 }
 
-/// The rows of files that were read.
-fn rows_of_layers(rt: &HostRuntime, layers: &[Layer]) -> Result<Known, Fault> {
-    let files = lend(rt, layers)?;
-    match graph_of_chain(rt.alloc(), files.as_slice()) {
+/// The rows of files that were read. The files are dropped.
+fn rows_of_layers(rt: &HostRuntime, layers: Vec<Layer>) -> Result<Known, Fault> {
+    let mut files = Vec::new(rt.alloc());
+    for layer in layers {
+        files.push(layer.bytes).map_err(AllocError::from)?;
+    }
+    match read_graph(rt.alloc(), files.as_slice()) {
         Ok(graph) => Ok(Known {
             graph: Some(graph),
             is_unchecked: false,
         }),
-        Err(ChainError::Memory) => Err(Fault::Memory),
-        Err(error) => {
-            warn(rt, &Failure::Command(Fault::Graph(error)));
+        Err(Fault::Memory) => Err(Fault::Memory),
+        Err(fault) => {
+            warn(rt, &Failure::Command(fault));
             Ok(nothing())
         }
     }

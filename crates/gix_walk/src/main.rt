@@ -32,9 +32,17 @@ fn main(rt: HostRuntime) -> ExitCode {
             if !output.is_closed {
                 let _ = eprintln!(rt; "gix_walk: {failure}");
             }
-            if let Failure::Misuse(_) = &failure {
-                help::write_usage(&rt);
-                return ExitCode::from(MISUSED);
+            match &failure {
+                Failure::Misuse(_) => {
+                    help::write_usage(&rt);
+                    return ExitCode::from(MISUSED);
+                }
+                Failure::Command(Fault::Usage | Fault::Id(_)) => {
+                    let _ = eprintln!(rt;
+                        "gix_walk: without -C FOLDER the words are a command and ids, and records are read; gix_walk --help says more"
+                    );
+                }
+                _ => {}
             }
             ExitCode::FAILURE
         }

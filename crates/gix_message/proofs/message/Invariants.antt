@@ -2,8 +2,9 @@ use Rattle.std.proofs.Common.{◌≡◌, length}
 use Rattle.gix_statement.specs.WholeStatement.{message}
 use Rattle.gix_message.proofs.message.Given as goal
 
-abbrev pub invariant-loop-left : goal.invariant-loop-left
-invariant-loop-left l = message l.before l.left ≡ message 10 l.fn.text
+-- what is left begins a line
+abbrev pub invariant-loop-end : goal.invariant-loop-end
+invariant-loop-end l = message 10 l.left ≡ message 10 l.fn.text
 
-abbrev pub decreases-loop-left : goal.decreases-loop-left
-decreases-loop-left l = length l.left
+abbrev pub decreases-loop-end : goal.decreases-loop-end
+decreases-loop-end l = length l.left
