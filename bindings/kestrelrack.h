@@ -73,11 +73,14 @@ struct kestrelrack_answer {
  *          digits leaves out so many of the others first. After "-n" and such a number no more lines are written than it says. With
  *          "--reverse" the last of these lines comes first. With "--count" their number is the only line. With "--timestamp" a line begins
  *          with the committer's seconds and a space. With "--parents" a space and the id of each parent follow its id. With "--oneline" a
- *          space and the commit's subject are behind these. With "-z" it ends in a zero byte.
+ *          space and the commit's subject are behind these. In place of these three "--format" may stand, and a format: a line is then what
+ *          it says, and has no id before it. A format has at most 128 bytes, and each % in it begins one of the fields %H, %h, %T, %P, %s,
+ *          %an, %ae, %ct, %ci, %n and %%, which are git's. As a word it holds no space and no newline: %n writes a newline. With "-z" a line
+ *          ends in a zero byte.
  * records  The objects, as `git cat-file --batch='%(objecttype) %(objectname) %(objectsize)'` prints them. They are read where they
  *          are: only an object that the walk looks up is copied, one at a time.
- * room     For the lines, each with a newline and none with a zero byte, except with "-z". The lines of a list and of "merge-base" are never longer than the
- *          records, except that "0" and a newline may be. Those of "ahead" are at most 42 bytes. Those of "contains" and "containing" are
+ * room     For the lines, each with a newline and none with a zero byte, except with "-z". The lines of a list without "--format" and of "merge-base" are never
+ *          longer than the records, except that "0" and a newline may be. Those of "ahead" are at most 42 bytes. Those of "contains" and "containing" are
  *          never longer than the words.
  *
  * At KESTRELRACK_WELL the first `length` bytes of the room are the lines, and the rest of it is as it was. At every other number the
@@ -108,7 +111,7 @@ enum { KESTRELRACK_TIME = 1, KESTRELRACK_GENERATION = 2 };
  * ids of their parents at the front of `parents`, as many commits as both have room for.
  *
  * words    A list with its options and ids, as for kestrelrack_run. Another command is KESTRELRACK_USAGE, and so are "--until", "--merges",
- *          "--no-merges", "--skip", "--reverse", "--count", "--timestamp", "--parents", "--oneline" and "-z": a caller has each commit's time and parents, and chooses by itself. The
+ *          "--no-merges", "--skip", "--reverse", "--count", "--timestamp", "--parents", "--oneline", "--format" and "-z": a caller has each commit's time and parents, and chooses by itself. The
  *          number behind "-n" also counts commits that are skipped.
  * records  As for kestrelrack_run.
  *

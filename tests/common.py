@@ -202,14 +202,23 @@ class Repository:
         words = ["git", "--no-replace-objects", "-C", self.folder, "merge-base", "--is-ancestor", revision, tip]
         return run(words)[0] == 0
 
+    def listed(self, words):
+        """What git lists for these words of the program, with no line before that of a format"""
+        words = [{"--since": "--max-age", "--until": "--min-age"}.get(word, word) for word in words if word != "--stdin"]
+        if "--format" in words:
+            at = words.index("--format")
+            words[at : at + 2] = [f"--format={words[at + 1]}"]
+        if any(word.startswith("--format=") for word in words):
+            words = ["--no-commit-header", "--abbrev=10", *words]
+        return self.git("rev-list", *words, "--no-abbrev-commit")
+
     def expected(self, words, input=""):
         """What git writes for these words of the program, and the status"""
         command, *rest = words
         revisions = [word for before, word in zip(["", *rest], rest) if not word.startswith("-") and before != "-n"] + input.split()
         if command in WALKS:
             order = {"topo": ["--topo-order"], "date": ["--date-order"]}.get(command, [])
-            rest = [{"--since": "--max-age", "--until": "--min-age"}.get(word, word) for word in rest if word != "--stdin"]
-            listed = self.git("rev-list", *order, *(word for word in rest if word != "-z"), "--no-abbrev-commit", *input.split())
+            listed = self.listed([*order, *(word for word in rest if word != "-z"), *input.split()])
             return listed.replace("\n", "\0") + "\0" if "-z" in rest and "--count" not in rest else listed, 0
         if command == "ahead":
             pair = "...".join(revisions)

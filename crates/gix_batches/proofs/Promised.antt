@@ -41,7 +41,7 @@ use Rattle.gix_commands.specs.StoredRuns as stored_runs
 use Rattle.gix_commands.specs.StoredRuns.{RunsStored}
 use Rattle.gix_commands.specs.Walked.{Answers, EndsBy, IsWalkFault}
 use Rattle.gix_commands.proofs.GivenRuns.{records_unread, serves_unread, words_unread}
-use Rattle.gix_commands.proofs.ReadableTexts.{have_texts, subject_kept, text_kept, tree_kept}
+use Rattle.gix_commands.proofs.ReadableTexts.{have_texts, bytes_kept, text_kept, tree_kept}
 use Rattle.gix_commands.proofs.MemoryFaults.{failed_so}
 use Rattle.gix_commands.proofs.RightRuns.{unrowed_read}
 use Rattle.gix_commands.proofs.RunFacts.{runs_input, runs_sound, runs_words, serves_checked, serves_sound, serves_topo, serves_walk, without_rows}
@@ -88,7 +88,7 @@ module _ (all_lines : Bool) (objects : Objects) (words : List (List ℕ)) where
   shows_on told ended s = record {
     lists = each_on (page_objects seen) (page_objects objects) [] [] commit_on tree_on
         (λ ps ts. Lists (page_objects seen) [] ps ts (flat_map (λ (t : Told). id_line t.id) told) ended words) (λ ps ts. Lists (page_objects objects) [] ps ts (flat_map (λ (t : Told). id_line t.id) told) ended words)
-        (λ ps ts. lists_on (page_objects seen) (page_objects objects) [] [] commit_on tree_on ps ts (flat_map (λ (t : Told). id_line t.id) told) ended words words (λ _. subject_kept all_lines objects) refl) s.lists;
+        (λ ps ts. lists_on (page_objects seen) (page_objects objects) [] [] commit_on tree_on ps ts (flat_map (λ (t : Told). id_line t.id) told) ended words words (λ _. bytes_kept all_lines objects) refl) s.lists;
     texts = texts_on told s.texts;
   }
 

@@ -11,7 +11,7 @@ use Rattle.gix_simple.specs.declared.Sorting.{Sorting}
 use Rattle.gix_simple.specs.declared.Sorting.TheVariants as sorting
 use Rattle.gix_topo.specs.declared.Sorting.{Sorting as TopoSorting}
 use Rattle.gix_topo.specs.declared.Sorting.TheVariants as topo
-use Rattle.gix_statement.specs.WholeStatement.{AreTips, Choice, Chooses, Row, at_most, counted, digits_in, everything, merges, no_merges, reversed, skip, until, with_parents, with_subject, with_time, zero_ended}
+use Rattle.gix_statement.specs.WholeStatement.{AreTips, Choice, Chooses, Row, at_most, counted, digits_in, everything, merges, no_merges, reversed, skip, until, with_format, with_parents, with_subject, with_time, zero_ended}
 use Rattle.gix_words.specs.declared.words.Order.TheVariants.{Simple, Topo}
 use Rattle.gix_commands.proofs.SameWords.{IsNameOf, IsOptionOf}
 use Rattle.gix_batches.specs.Batches.{Says, breadth, first, timed}
@@ -52,6 +52,7 @@ behind_free tips hidden (counted {words = words} late more) = word_free (codes "
 behind_free tips hidden (reversed {words = words} late more) = word_free (codes "--reverse") words (λ e. omega (arith, e))
 behind_free tips hidden (with_time {words = words} late more) = word_free (codes "--timestamp") words (λ e. omega (arith, e))
 behind_free tips hidden (with_parents {words = words} late more) = word_free (codes "--parents") words (λ e. omega (arith, e))
+behind_free tips hidden (with_format {format = format} {words = words} is short late more) = word_free (codes "--format") (format ∷ words) (λ e. omega (arith, e))
 behind_free tips hidden (with_subject {words = words} late more) = word_free (codes "--oneline") words (λ e. omega (arith, e))
 behind_free tips hidden (zero_ended {words = words} late more) = word_free (codes "-z") words (λ e. omega (arith, e))
 

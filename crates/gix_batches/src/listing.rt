@@ -56,8 +56,9 @@ fn are_all_lines(shown: Shown) -> bool
         && matches!(shown.merges, Merges::Any)
         && shown.skip == 0
         && matches!(shown.form, Form::Lines)
+        && shown.line.id
         && !shown.line.time
         && !shown.line.parents
-        && !shown.line.subject
+        && shown.line.format.is_none()
         && shown.line.ending == b'\n'
 }

@@ -8,7 +8,11 @@ use std::alloc::Global;
 pub const PAGES: &[(&str, &str)] = &[
     (
         "crates/gix_statement/specs/WholeStatement.antt",
-        "0fa68a87df87afceca770a3db0493ea680bd5d544ec43dcbe15f8066c46a1782",
+        "894149b285474eb5acf2cb75dd97b169cfaa37ef6d4899ea721c5c6e8dd5a608",
+    ),
+    (
+        "crates/gix_statement/specs/Formats.antt",
+        "8ffcdc6a2a6269278af403c7e06c72b8234783829bfeaff850d2b84a3c1665cd",
     ),
     (
         "crates/gix_statement/specs/CommitGraph.antt",

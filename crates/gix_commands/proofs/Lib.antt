@@ -59,7 +59,7 @@ mod SameContained
 mod SameContaining
 mod SameBases
 mod SameLists
-mod SubjectWords
+mod TextWords
 mod RightTrees
 mod Right
 pub mod PageCommits

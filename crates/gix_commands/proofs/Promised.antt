@@ -5,10 +5,10 @@ use Rattle.gix_statement.specs.WholeStatement.{Objects, Row, Entry, Agree, IsCom
 use Rattle.gix_words.specs.declared.fault.Fault.{Fault}
 use Rattle.gix_words.specs.declared.fault.Fault.TheVariants as fault
 use Rattle.gix_commands.proofs.Right.{IsRight}
-use Rattle.gix_commands.proofs.SameCommitsThere.{SubjectsOn, each_failed, each_serves}
+use Rattle.gix_commands.proofs.SameCommitsThere.{TextsOn, each_failed, each_serves}
 
 module _ (read objects : Objects) (rows : List Row) (commit_on : (r : Row) → IsCommit read [] r → IsCommit objects rows r) (tree_on : (i : ObjectId) (entries : List Entry) → IsTree read i entries → IsTree objects i entries)
-    (AreGiven : Objects → List Row → Type 0) (given : AreGiven objects rows) (agree : Agree objects rows) (words : List (List ℕ)) (on : SubjectsOn read objects words) (old : Option (List ℕ)) where
+    (AreGiven : Objects → List Row → Type 0) (given : AreGiven objects rows) (agree : Agree objects rows) (words : List (List ℕ)) (on : TextsOn read objects words) (old : Option (List ℕ)) where
   pub promised : (answer : Result (Unit {0}) Fault) (new : Option (List ℕ)) → IsRight read words old answer new → Promises fault.Write words AreGiven old answer new
   promised (Ok done) new each = (objects, rows, given, agree, each_serves read objects [] rows commit_on tree_on old new words on each)
   promised (Err e) new right = ⊎_elim (λ same. inl same) (λ each. inr (objects, rows, given, agree, each_failed read objects [] rows commit_on tree_on old new words on (e ≡ fault.Write) each)) right

@@ -10,7 +10,7 @@ use Rattle.gix_commands.specs.Run.{Serves}
 use Rattle.gix_commands.proofs.PageCommits.{agree}
 use Rattle.gix_commands.proofs.RightRuns.{right, unrowed_read}
 use Rattle.gix_commands.proofs.Promised.{promised}
-use Rattle.gix_commands.proofs.ReadableTexts.{have_texts, subject_kept, text_kept, tree_kept}
+use Rattle.gix_commands.proofs.ReadableTexts.{have_texts, bytes_kept, text_kept, tree_kept}
 use Rattle.gix_commands.proofs.SameCommits.{are_fed}
 
 -- what a command reads of objects
@@ -21,7 +21,7 @@ seen request objects = readable (reads_all_lines request) objects
 pub unrowed_promises : (words : List (List ℕ)) (request : Request) → request_of words ≡ Ok request → (objects : Objects) (those : List Row) → Agree (page_objects objects) those → (AreGiven : page.Objects → List Row → Type 0) → AreGiven (page_objects objects) those
     → (old : Option (List ℕ)) (result : Result (Unit {0}) Fault) (new : Option (List ℕ)) → Serves (seen request objects) [] old request result new → Promises fault.Write words AreGiven old result new
 unrowed_promises words request asked objects those agree AreGiven given old result new s =
-    promised (page_objects (seen request objects)) (page_objects objects) those commit_on (tree_kept (reads_all_lines request) objects) AreGiven given agree words (λ _. subject_kept (reads_all_lines request) objects) old result new
+    promised (page_objects (seen request objects)) (page_objects objects) those commit_on (tree_kept (reads_all_lines request) objects) AreGiven given agree words (λ _. bytes_kept (reads_all_lines request) objects) old result new
     (right (seen request objects) [] (none_agree (seen request objects) [] refl) (unrowed_read (seen request objects)) old words request asked (have_texts request objects) result new s)
   where
     commit_on : (r : Row) → IsCommit (page_objects (seen request objects)) [] r → IsCommit (page_objects objects) those r

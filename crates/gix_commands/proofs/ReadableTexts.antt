@@ -9,7 +9,7 @@ use Rattle.gix_object.specs.declared.decode.Error.{Error as DecodeError}
 use Rattle.gix_object.specs.CommitItems.{commit_items}
 use Rattle.gix_revwalk.specs.declared.Parents.TheVariants as mode
 use Rattle.gix_statement.specs.WholeStatement as page
-use Rattle.gix_statement.specs.WholeStatement.{Entry, IsText, IsThere, IsTree, Row, subject_in}
+use Rattle.gix_statement.specs.WholeStatement.{Entry, IsText, IsThere, IsTree, Row, text_in}
 use Rattle.gix_commands.specs.Pages.{AreCommits, HaveTexts, as_page, page_objects}
 use Rattle.gix_commands.specs.Readable.{is_faultless, is_text, or_zero, readable, readable_bytes, readable_object, reads_all_lines}
 use Rattle.gix_commands.proofs.PageTexts.{text_there}
@@ -58,15 +58,15 @@ module _ (all_lines : Bool) (objects : Objects) where
       let o = found r.id (codes "commit") (codes "tree " ++ id ++ 10 ∷ lines) is in
       (id, lines, rest, spells, parents, time, kept r.id (codes "commit") (codes "tree " ++ id ++ 10 ∷ lines) o (unchanged r.id o.object.kind 116 o.object.bytes _ (λ e. let no : ◌≡◌ {A = ℕ} 116 0 = e in cc) o.are_bytes))
 
-  -- a commit that is there by its text has the subject that it had
-  pub subject_kept : (i : ObjectId) → IsThere (page_objects seen) [] i → IsThere (page_objects objects) [] i × (subject_in (page_objects seen i) ≡ subject_in (page_objects objects i))
+  -- a commit that is there by its text has the text that it had
+  pub bytes_kept : (i : ObjectId) → IsThere (page_objects seen) [] i → IsThere (page_objects objects) [] i × (text_in (page_objects seen i) ≡ text_in (page_objects objects i))
   unfolding text_kept
-  subject_kept i (r, is, inr (none, row)) = absurd (no_member r row)
-  subject_kept i (r, is, inl text) =
+  bytes_kept i (r, is, inr (none, row)) = absurd (no_member r row)
+  bytes_kept i (r, is, inl text) =
       let before = text_kept r text in
       let seen_so = text.6 in
       let stored_so = before.6 in
-      ((r, is, inl before), subst (λ j. subject_in (page_objects seen j) ≡ subject_in (page_objects objects j)) is (ap subject_in (seen_so ∙ sym stored_so)))
+      ((r, is, inl before), subst (λ j. text_in (page_objects seen j) ≡ text_in (page_objects objects j)) is (ap text_in (seen_so ∙ sym stored_so)))
 
   tree_bytes : (i : ObjectId) (k : Kind) (text : List ℕ) → kind_word k ≡ codes "tree" → readable_bytes all_lines i k text ≡ text
   tree_bytes i kind.Commit text e = cc

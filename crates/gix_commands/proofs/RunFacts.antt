@@ -21,7 +21,9 @@ use Rattle.gix_commands.specs.Output as output
 use Rattle.gix_commands.specs.Output.{WritesBegun, cut}
 use Rattle.gix_commands.specs.Readable.{readable, reads_all_lines}
 use Rattle.gix_commands.specs.Run as run
-use Rattle.gix_commands.specs.Run.{Serves, ServesOver, cut_off, shows_subjects, used_if, used_rows}
+use Rattle.gix_statement.specs.WholeStatement.{says_more}
+use Rattle.gix_words.specs.Formats.{format_bytes}
+use Rattle.gix_commands.specs.Run.{Serves, ServesOver, cut_off, shows_texts, used_if, used_rows}
 use Rattle.gix_commands.proofs.ReadableObjects.{readable_agrees}
 use Rattle.gix_commands.specs.TopoWalked as topo
 use Rattle.gix_commands.specs.Walked.{Walk, Answers, IsWalkFault, failed}
@@ -49,14 +51,14 @@ without_rows objects = same_map id_total id_apart _ _ (λ i. get-with_rows [] ob
 -- where there are no rows none are used
 pub none_used : (objects : Objects) (old : Option (List ℕ)) (request : Request) (result : Result (Unit {0}) Fault) (new : Option (List ℕ)) → ServesOver objects [] old request result new
     → Serves (readable (reads_all_lines request) (with_rows [] objects)) [] old request result new
-none_used objects old request result new = subst (λ rows. Serves (readable (reads_all_lines request) (with_rows rows objects)) rows old request result new) (none (shows_subjects request))
+none_used objects old request result new = subst (λ rows. Serves (readable (reads_all_lines request) (with_rows rows objects)) rows old request result new) (none (shows_texts request))
   where
     none : (t : Bool) → ◌≡◌ {A = List GraphRow} (used_if t []) []
     none true = refl
     none false = refl
 
 -- a list over the rows that are used
-pub over_used : (objects : Objects) (rows used : List GraphRow) (order : Order) (shown : Shown) (tips hidden : List ObjectId) (old : Option (List ℕ)) (result : Result (Unit {0}) Fault) (new : Option (List ℕ)) → used ≡ used_if shown.line.subject rows
+pub over_used : (objects : Objects) (rows used : List GraphRow) (order : Order) (shown : Shown) (tips hidden : List ObjectId) (old : Option (List ℕ)) (result : Result (Unit {0}) Fault) (new : Option (List ℕ)) → used ≡ used_if (says_more (format_bytes shown.line.format)) rows
     → Serves (readable (reads_all_lines (Commits order shown tips hidden)) (with_rows used objects)) used old (Commits order shown tips hidden) result new → ServesOver objects rows old (Commits order shown tips hidden) result new
 over_used objects rows used order shown tips hidden old result new is =
     subst (λ those. Serves (readable (reads_all_lines (Commits order shown tips hidden)) (with_rows those objects)) those old (Commits order shown tips hidden) result new) is
@@ -104,7 +106,7 @@ serves_sound agreeing s = λ e. cc
 -- the same over rows that are used, if they are
 pub over_is_sound : (objects : Objects) (rows : List GraphRow) (request : Request) {old new : Option (List ℕ)} {answer : Result (Unit {0}) Fault} → IsAgreeing (with_rows rows objects) rows → ServesOver objects rows old request answer new → answer ≢ Err fault.Internal
 over_is_sound objects rows request agreeing =
-    serves_sound (readable_agrees (reads_all_lines request) (with_rows (used_rows request rows) objects) (used_rows request rows) (used (shows_subjects request)))
+    serves_sound (readable_agrees (reads_all_lines request) (with_rows (used_rows request rows) objects) (used_rows request rows) (used (shows_texts request)))
   where
     used : (t : Bool) → IsAgreeing (with_rows (used_if t rows) objects) (used_if t rows)
     used true = none_agree (with_rows [] objects) [] refl

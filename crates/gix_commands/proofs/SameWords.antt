@@ -1,6 +1,6 @@
 -- What words ask for is what the statement says that they ask for.
 use Rattle.std.proofs.Common.{arith, int_le, ◌<◌, ◌≤◌, ◌≡◌, ◌≢◌, ◌⊎◌, ◌+◌, ◌==◌, ◌||◌, ◌&&◌, nat_lt, nat_le, length, ℕ, ℤ, pos, List, [], ◌∷◌, ◌++◌, Bool, true, false, cond, Option, Some, None, Result, Ok, Err, codes, bytes_eq, refl, sym, ap, subst, ◌∙◌, inl}
-use Rattle.std.proofs.Common.{inr, eqb-true, ltb-true, leb-true}
+use Rattle.std.proofs.Common.{inr, option_map, replicate, ◌-◌, eqb-true, ltb-true, leb-true}
 use Rattle.std.specs.List.{list_all}
 use Rattle.std.specs.Option.{option_map}
 use Rattle.gix_commands.proofs.Common.{false≢true, ObjectId, HexError, id_from_hex, Fault, Order, Simple, Topo, Request, Commits, Files, Ahead, Contained, Containing, Bases, Ranked, Ids, begins_with_caret, begins_with_sign, without_caret, is_shown, with_id, with_word, ids_from, number_in, order_named, listed_of, chosen_of, since_of, by_first_parents, in_order_of, ended_files_of, file_of, files_by, files_from, files_of, limited_files_of, ahead_from, ahead_of, asked, several_among, several_from, several_of, request_named, request_of, recent_of, by_cutoff, IsLimit, IsNumber, Spells, AreTips, digits_in, Asked, Shown, chosen_from, commits_in, plain_of, page_choice}
@@ -12,7 +12,11 @@ use Rattle.gix_simple.specs.declared.Sorting.TheVariants as sorting
 use Rattle.gix_topo.specs.declared.Sorting.TheVariants as topo
 use Rattle.gix_statement.specs.WholeStatement as page
 use Rattle.gix_statement.specs.WholeStatement.{Chooses}
-use Rattle.gix_words.specs.Words.{WordReader, changed_by, changed_by_number, either_of, ended_of, first_number, formed_of, limited_of, merges_of, named_of, number_option_of, numbered_of, option_of, skipped_of, timed_of, titled_of, until_of}
+use Rattle.gix_words.specs.Words.{WordReader, changed_by, changed_by_value, either_of, ended_of, first_value, formatted_of, formed_of, limited_of, merges_of, named_of, number_option_of, valued_of, value_option_of, option_of, skipped_of, timed_of, titled_of, until_of}
+use Rattle.std.proofs.Math.Seq.{take-append_seam}
+use Rattle.gix_words.specs.declared.format.Format.{Format}
+use Rattle.gix_words.specs.Formats.{format_bytes, format_of, packed}
+use Rattle.gix_statement.specs.Formats.{is_format}
 use Rattle.gix_words.specs.declared.fault.Fault.TheVariants as fault
 use Rattle.gix_words.specs.declared.words.Merges.{Merges}
 use Rattle.gix_words.specs.declared.words.Merges.TheVariants as merges
@@ -192,6 +196,15 @@ AreChosen lowest words (Ok a) = IsChosen lowest words a
 abbrev Reads : ℕ → WordReader → Type 0
 Reads lowest read = (n : ℕ) (words : List (List ℕ)) → AreChosen lowest words (read n words)
 
+-- the bytes of a format
+bytes_packed : (text : List ℕ) → length text ≤ 128 → format_bytes (packed text) ≡ text
+unfolding packed
+bytes_packed text short = take-append_seam text (replicate (128 - length text) 0)
+
+-- what is chosen, by the bytes of its format
+abbrev with_bytes : page.Choice → List ℕ → page.Choice
+with_bytes choice format = record choice { line = record choice.line { format = format } }
+
 plain_reads : Reads 9 plain_of
 plain_reads n words = go (list_all begins_with_caret words) refl
   where
@@ -219,9 +232,12 @@ module _ (place : ℕ) where
       go (Err e) h = h
       go (Ok a) h = record { place = h.place; chooses = h.chooses; late = omega (arith, h.late); some = h.some; ever = λ k. h.ever (omega arith); all = λ k. h.all (omega (arith, k)) }
 
-  -- what such an option, and a number behind it where it has one, changes
+  -- what such an option, and a word behind it where it has one, changes, before words whose options are of a place at least
+  abbrev AddsBefore : (least : ℕ) → List (List ℕ) → (Shown → Shown) → Type 0
+  AddsBefore least option change = (words : List (List ℕ)) (a : Asked) → IsChosen least words a → IsChosen place (option ++ words) (record a { shown = change a.shown })
+
   abbrev Adds : List (List ℕ) → (Shown → Shown) → Type 0
-  Adds option change = (words : List (List ℕ)) (a : Asked) → IsChosen (place + 1) words a → IsChosen place (option ++ words) (record a { shown = change a.shown })
+  Adds = AddsBefore (place + 1)
 
   -- an option of a late place chooses nothing by the time or the parents of a commit
   late_adds : 1 < place → (option : List (List ℕ)) (change : Shown → Shown) → ((shown : Shown) → (change shown).until ≡ shown.until) → ((shown : Shown) → (change shown).merges ≡ shown.merges)
@@ -236,30 +252,35 @@ module _ (place : ℕ) where
     all = λ k. all a.shown ∙ h.all (omega (arith, late));
   }
 
-  changed_are : (option : List (List ℕ)) (change : Shown → Shown) → Adds option change → (words : List (List ℕ)) (r : Result Asked Fault) → AreChosen (place + 1) words r → AreChosen place (option ++ words) (changed_by change r)
-  changed_are option change adds words (Err e) h = h
-  changed_are option change adds words (Ok a) h = adds words a h
+  changed_are : (least : ℕ) (option : List (List ℕ)) (change : Shown → Shown) → AddsBefore least option change → (words : List (List ℕ)) (r : Result Asked Fault) → AreChosen least words r → AreChosen place (option ++ words) (changed_by change r)
+  changed_are least option change adds words (Err e) h = h
+  changed_are least option change adds words (Ok a) h = adds words a h
 
   module _ (name : List ℕ) where
     option_reads : (change : Shown → Shown) (next other : WordReader) → Adds (name ∷ []) change → Reads (place + 1) next → Reads place other → Reads place (option_of name change next other)
     option_reads change next other adds reads others n [] = others n []
     option_reads change next other adds reads others n (option ∷ words) =
         by_name (λ w o. AreChosen place (w ∷ words) (either_of change next other n (w ∷ words) o)) option name
-        (changed_are (name ∷ []) change adds words (next (n + 1) words) (reads (n + 1) words)) (others n (option ∷ words))
+        (changed_are (place + 1) (name ∷ []) change adds words (next (n + 1) words) (reads (n + 1) words)) (others n (option ∷ words))
+
+    value_option_reads : {X : Type 0} (least : ℕ) (read : List ℕ → Option X) (change : X → Shown → Shown) (next other : WordReader) → ((word : List ℕ) (x : X) → read word ≡ Some x → AddsBefore least (name ∷ word ∷ []) (change x))
+        → Reads least next → Reads place other → Reads place (value_option_of name read change next other)
+    value_option_reads least read change next other adds reads others n [] = others n []
+    value_option_reads {X} least read change next other adds reads others n (option ∷ words) =
+        by_name (λ w o. AreChosen place (w ∷ words) (valued_of read change next other n (w ∷ words) o)) option name (behind words) (others n (option ∷ words))
+      where
+        behind : (words : List (List ℕ)) → AreChosen place (name ∷ words) (changed_by_value change next n (first_value read words))
+        behind [] = tt
+        behind (word ∷ rest) = go (read word) refl
+          where
+            go : (o : Option X) → read word ≡ o → AreChosen place (name ∷ word ∷ rest) (changed_by_value change next n (option_map (λ x. (x, rest)) o))
+            go None e = tt
+            go (Some x) e = changed_are least (name ∷ word ∷ []) (change x) (adds word x e) rest (next (n + 2) rest) (reads (n + 2) rest)
 
     number_option_reads : (digits : ℕ) (change : ℕ → Shown → Shown) (next : WordReader) → ((number : List ℕ) (m : ℕ) → IsNumber 10 digits number m → Adds (name ∷ number ∷ []) (change m))
         → Reads (place + 1) next → Reads place (number_option_of name digits change next)
-    number_option_reads digits change next adds reads n [] = higher next reads n []
-    number_option_reads digits change next adds reads n (option ∷ words) =
-        by_name (λ w o. AreChosen place (w ∷ words) (numbered_of digits change next n (w ∷ words) o)) option name (behind words) (higher next reads n (option ∷ words))
-      where
-        behind : (words : List (List ℕ)) → AreChosen place (name ∷ words) (changed_by_number change next n (first_number digits words))
-        behind [] = tt
-        behind (number ∷ rest) = go (number_in digits number) refl
-          where
-            go : (o : Option ℕ) → number_in digits number ≡ o → AreChosen place (name ∷ number ∷ rest) (changed_by_number change next n (option_map (λ m. (m, rest)) o))
-            go None e = tt
-            go (Some m) e = changed_are (name ∷ number ∷ []) (change m) (adds number m (is_number digits number m e)) rest (next (n + 2) rest) (reads (n + 2) rest)
+    number_option_reads digits change next adds reads =
+        value_option_reads (place + 1) (number_in digits) change next next (λ number m e. adds number m (is_number digits number m e)) reads (higher next reads)
 
 ended_reads : Reads 8 ended_of
 unfolding ended_of
@@ -267,7 +288,7 @@ ended_reads = option_reads 8 (codes "-z") _ plain_of plain_of (late_adds 8 (omeg
 
 titled_reads : Reads 7 titled_of
 unfolding titled_of
-titled_reads = option_reads 7 (codes "--oneline") _ ended_of ended_of (late_adds 7 (omega arith) (codes "--oneline" ∷ []) _ (λ shown. refl) (λ shown. refl) (λ words a p late chooses. page.with_subject late chooses)) ended_reads (higher 7 ended_of ended_reads)
+titled_reads = option_reads 7 (codes "--oneline") _ ended_of ended_of (late_adds 7 (omega arith) (codes "--oneline" ∷ []) _ (λ shown. refl) (λ shown. refl) (λ words a p late chooses. subst (λ f. Chooses a.tips a.hidden 7 (codes "--oneline" ∷ words) (with_bytes (page_choice a.shown) f)) (sym (bytes_packed (codes " %s") (omega arith))) (page.with_subject late chooses))) ended_reads (higher 7 ended_of ended_reads)
 
 named_reads : Reads 6 named_of
 unfolding named_of
@@ -277,11 +298,42 @@ timed_reads : Reads 5 timed_of
 unfolding timed_of
 timed_reads = option_reads 5 (codes "--timestamp") _ named_of named_of (late_adds 5 (omega arith) (codes "--timestamp" ∷ []) _ (λ shown. refl) (λ shown. refl) (λ words a p late chooses. page.with_time late chooses)) named_reads (higher 5 named_of named_reads)
 
+formatted_reads : Reads 5 formatted_of
+unfolding formatted_of
+formatted_reads = value_option_reads 5 (codes "--format") 8 format_of _ ended_of timed_of adds ended_reads timed_reads
+  where
+    is_allowed : (text : List ℕ) (format : Format) → format_of text ≡ Some format → (format_bytes format ≡ text) × (is_format 0 text ≡ true) × (length text ≤ 128)
+    is_allowed text format e = go (is_format 0 text) (nat_le (length text) 128) refl refl e
+      where
+        go : (s t : Bool) → is_format 0 text ≡ s → nat_le (length text) 128 ≡ t → cond (s && t) (Some (packed text)) None ≡ Some format → (format_bytes format ≡ text) × (is_format 0 text ≡ true) × (length text ≤ 128)
+        go true true is short e =
+            let few : length text ≤ 128 = leb-true (length text) 128 short in
+            let same : packed text ≡ format = cc in
+            (ap format_bytes (sym same) ∙ bytes_packed text few, is, few)
+        go true false is short e = cc
+        go false t is short e = cc
+
+    without_id : page.Choice → page.Choice
+    without_id choice = record choice { line = record choice.line { has_id = false } }
+
+    adds : (text : List ℕ) (format : Format) → format_of text ≡ Some format
+        → AddsBefore 5 8 (codes "--format" ∷ text ∷ []) (λ shown. record shown { line = record shown.line { id = false; format = format } })
+    adds text format e words a h =
+        let allowed = is_allowed text format e in
+        record {
+          place = 5;
+          chooses = subst (λ f. Chooses a.tips a.hidden 5 (codes "--format" ∷ text ∷ words) (with_bytes (without_id (page_choice a.shown)) f)) (sym allowed.0) (page.with_format allowed.1 allowed.2 (omega (arith, h.late)) h.chooses);
+          late = omega arith;
+          some = h.some;
+          ever = λ k. h.ever (omega arith);
+          all = λ k. h.all (omega arith);
+        }
+
 formed_reads : Reads 4 formed_of
 unfolding formed_of
 formed_reads =
-    option_reads 4 (codes "--count") _ timed_of _ (late_adds 4 (omega arith) (codes "--count" ∷ []) _ (λ shown. refl) (λ shown. refl) (λ words a p late chooses. page.counted late chooses)) timed_reads
-    (option_reads 4 (codes "--reverse") _ timed_of timed_of (late_adds 4 (omega arith) (codes "--reverse" ∷ []) _ (λ shown. refl) (λ shown. refl) (λ words a p late chooses. page.reversed late chooses)) timed_reads (higher 4 timed_of timed_reads))
+    option_reads 4 (codes "--count") _ formatted_of _ (late_adds 4 (omega arith) (codes "--count" ∷ []) _ (λ shown. refl) (λ shown. refl) (λ words a p late chooses. page.counted late chooses)) formatted_reads
+    (option_reads 4 (codes "--reverse") _ formatted_of formatted_of (late_adds 4 (omega arith) (codes "--reverse" ∷ []) _ (λ shown. refl) (λ shown. refl) (λ words a p late chooses. page.reversed late chooses)) formatted_reads (higher 4 formatted_of formatted_reads))
 
 limited_reads : Reads 3 limited_of
 unfolding limited_of

@@ -17,7 +17,7 @@ use Rattle.gix_commands.specs.Opening.{AreReadFrom}
 use Rattle.gix_commands.specs.Pages.{AreRows, page_objects, page_rows}
 use Rattle.gix_commands.specs.Readable.{readable, reads_all_lines}
 use Rattle.gix_commands.specs.Run as run
-use Rattle.gix_commands.specs.Run.{RunsOver, Serves, ServesOver, shows_subjects, used_if}
+use Rattle.gix_commands.specs.Run.{RunsOver, Serves, ServesOver, shows_texts, used_if}
 use Rattle.gix_commands.specs.StoredRuns as store
 use Rattle.gix_commands.specs.StoredRuns.{RunsStored}
 use Rattle.gix_commands.proofs.PageCommits.{whole_text}
@@ -27,7 +27,7 @@ use Rattle.gix_commands.proofs.Promised.{promised}
 use Rattle.gix_commands.proofs.PromisedRuns.{unrowed_promises}
 use Rattle.gix_commands.proofs.RunFacts.{without_rows}
 use Rattle.gix_commands.proofs.SameWords.{AreWordsOf, are_words}
-use Rattle.gix_commands.proofs.SubjectWords.{shows_asked}
+use Rattle.gix_commands.proofs.TextWords.{shows_asked}
 use Rattle.gix_commands.proofs.ReadableObjects.{readable_agrees}
 use Rattle.gix_commands.proofs.ReachedIsRead.{reached_is_read}
 use Rattle.gix_commands.proofs.ReadableTexts.{have_texts, text_kept, tree_kept}
@@ -58,9 +58,9 @@ module _ (words : List (List ℕ)) (request : Request) (asked : request_of words
     tree_on i entries tree = tree_is_tree whole_text rows objects graph sound agree i entries (tree_kept (reads_all_lines request) (with_rows rows objects) i entries tree)
 
     served_over : Promises fault.Write words AreGiven old answer new
-    served_over = go (shows_subjects request) refl served
+    served_over = go (shows_texts request) refl served
       where
-        go : (t : Bool) → shows_subjects request ≡ t → Serves (seen request (used_if t rows) objects) (used_if t rows) old request answer new → Promises fault.Write words AreGiven old answer new
+        go : (t : Bool) → shows_texts request ≡ t → Serves (seen request (used_if t rows) objects) (used_if t rows) old request answer new → Promises fault.Write words AreGiven old answer new
         go true shows s =
             unrowed_promises words request asked objects those consistent AreGiven given old answer new
             (subst (λ (o : Objects). Serves (readable (reads_all_lines request) o) [] old request answer new) (without_rows objects) s)

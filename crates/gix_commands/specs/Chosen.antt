@@ -20,6 +20,7 @@ use Rattle.gix_words.specs.declared.words.Line.{Line}
 use Rattle.gix_words.specs.declared.words.Merges.{Merges}
 use Rattle.gix_words.specs.declared.words.Merges.TheVariants as merges
 use Rattle.gix_words.specs.declared.words.Shown.{Shown}
+use Rattle.gix_words.specs.Formats.{format_bytes}
 
 abbrev pub kept_until : Option ℤ → ℤ → Bool → Bool
 kept_until None time kept = kept
@@ -40,7 +41,7 @@ page_form form.Count = page.Number
 page_form form.Reverse = page.Reversed
 
 abbrev pub page_line : Line → page.Line
-page_line has = record { has_time = has.time; has_parents = has.parents; has_subject = has.subject; ending = has.ending }
+page_line has = record { has_id = has.id; has_time = has.time; has_parents = has.parents; format = format_bytes has.format; ending = has.ending }
 
 -- what is written, in the words of the page
 abbrev pub page_choice : Shown → page.Choice

@@ -43,6 +43,8 @@ use Rattle.gix_commands.specs.Readable.{readable, reads_all_lines}
 use Rattle.gix_commands.specs.TopoWalked as topo
 use Rattle.gix_revwalk.specs.Infos.{given}
 use Rattle.gix_commands.specs.Walked.{Walk, Answers, IsWalkFault, StartsFrom, FailsAtStart, EndsBy, line_of, never_faulty, AsksForMore}
+use Rattle.gix_statement.specs.WholeStatement.{says_more}
+use Rattle.gix_words.specs.Formats.{format_bytes}
 use Rattle.gix_words.specs.Words.{Request, Commits, Files, Ahead, Contained, Containing, Bases, request_of}
 
 -- Over objects, rows for the walks of commits and a writer that has the bytes `old`: which answers a request may get, and which bytes the writer then has.
@@ -105,22 +107,22 @@ pub data Serves (objects : Objects) (rows : List GraphRow) (old : Option (List �
       → Serves objects rows old request answer full → Appends old new some → Appends new full more
       → Serves objects rows old request (Err fault.Write) new
 
--- whether subjects are asked for
-abbrev pub shows_subjects : Request → Bool
-shows_subjects (Commits order shown tips hidden) = shown.line.subject
-shows_subjects (Files shown tree) = false
-shows_subjects (Ahead one other) = false
-shows_subjects (Contained tip ids) = false
-shows_subjects (Containing target tips) = false
-shows_subjects (Bases one others) = false
+-- whether texts are asked for, by a format
+abbrev pub shows_texts : Request → Bool
+shows_texts (Commits order shown tips hidden) = says_more (format_bytes shown.line.format)
+shows_texts (Files shown tree) = false
+shows_texts (Ahead one other) = false
+shows_texts (Contained tip ids) = false
+shows_texts (Containing target tips) = false
+shows_texts (Bases one others) = false
 
--- the rows that are used: none where subjects are asked for, which no row has
-abbrev pub used_if : (has_subject : Bool) → List GraphRow → List GraphRow
+-- the rows that are used: none where texts are asked for, which no row has
+abbrev pub used_if : (has_texts : Bool) → List GraphRow → List GraphRow
 used_if true rows = []
 used_if false rows = rows
 
 abbrev pub used_rows : Request → List GraphRow → List GraphRow
-used_rows request rows = used_if (shows_subjects request) rows
+used_rows request rows = used_if (shows_texts request) rows
 
 -- The same where each row is of a commit: the commit is there too if nothing is stored at the row's id, and if the rows are used.
 abbrev pub ServesOver : Objects → List GraphRow → (old : Option (List ℕ)) → Request → Result (Unit {0}) Fault → Option (List ℕ) → Type 0

@@ -3,7 +3,7 @@ ghost use Rattle.std.specs.Prelude.{◌≡◌, ◌≢◌, ◌++◌, ◌∷◌, [
 ghost use Rattle.gix_commands.specs.Chosen.{Passes, IsHeaderOf, commit_with, fresh_choosing, is_kept, keeps, line_in, page_line, seconds_or_zero};
 ghost use Rattle.gix_commands.specs.Pages.{page_objects};
 ghost use Rattle.gix_statement.specs.WholeStatement as page;
-ghost use Rattle.gix_statement.specs.WholeStatement.{commit_line, subject, subject_in};
+ghost use Rattle.gix_statement.specs.WholeStatement.{commit_line, text_in};
 ghost use Rattle.gix_revwalk.specs.Commits.{time_of};
 ghost use Rattle.gix_revwalk.specs.Texts.{text_next};
 ghost use Rattle.std.specs.Bool.{if◌then◌else◌};
@@ -16,10 +16,10 @@ ghost use Rattle.gix_graph_store.specs.WithRows.{with_rows};
 ghost use Rattle.gix_revwalk.specs.Agreeing.{rows_in};
 
 use crate::commits::Lent;
-use crate::digits::add_id;
+use crate::digits::{add_digits, add_id};
 use gix_commitgraph::Graph;
+use gix_format::{Commit, add_formatted};
 use gix_hash::ObjectId;
-use gix_message::add_subject;
 use gix_object::find::{self, Find, existing_iter};
 use gix_records::LentStore;
 use gix_revwalk::read::{Header, find_header};
@@ -136,36 +136,17 @@ impl<'a> Chooser<'a> {
         ensures err { IfErr result (λ e. (e ≡ Fault.Memory) × (lines.new.items ≡ lines.old.items)) }
     {
         let has = self.shown.line;
-        if !has.time && !has.parents && !has.subject {
+        if has.id && !has.time && !has.parents && has.format.is_empty() {
             return Ok(add_id(lines, id, has.ending)?);
         }
         let mut text = Vec::new(self.alloc);
-        let header = self.header_for(has, id, &mut text)?;
+        let header = look_at(self.alloc, &self.objects, id, &mut text)?;
         text.clear();
-        if has.subject {
+        if !has.format.is_empty() {
             read_text(&self.objects, id, &mut text)?;
         }
         let line = line_of(self.alloc, has, id, &header, text.as_slice())?;
         Ok(lines.extend_from_slice(line.as_slice())?)
-    }
-
-    /// What a line has of the header of a commit, which isn't read if that is nothing.
-    ///
-    /// # Errors
-    /// `Memory`.
-    fn header_for(&self, has: Line, id: &ObjectId, text: &mut Vec<u8>) -> Result<Header, Fault>
-        ensures ok { IfOk result (λ header. (objects : page.Objects)
-            → commit_line objects (λ i. header.parent_ids.items) (λ i. seconds_or_zero header.time) (page_line has) id.now
-            ≡ commit_line objects (text_next self.now.objects) (time_of self.now.objects) (page_line has) id.now) }
-        ensures err { IfErr result (λ e. e ≡ Fault.Memory) }
-    {
-        if has.time || has.parents {
-            return look_at(self.alloc, &self.objects, id, text);
-        }
-        Ok(Header {
-            parent_ids: ParentIds::new(self.alloc),
-            time: Ok(0),
-        })
     }
 }
 
@@ -174,7 +155,7 @@ impl<'a> Chooser<'a> {
 /// # Errors
 /// `Memory`.
 fn read_text(objects: &Lent<'_>, id: &ObjectId, text: &mut Vec<u8>) -> Result<(), Fault>
-    ensures ok { OnOk result (subject text.new.items ≡ subject_in (page_objects objects.now id.now)) }
+    ensures ok { OnOk result (text.new.items ≡ text_in (page_objects objects.now id.now)) }
     ensures err { IfErr result (λ e. e ≡ Fault.Memory) }
 {
     match objects.find_into(id, text) {
@@ -241,17 +222,18 @@ fn line_of(
     ensures { IfOk result (λ line. line.items ≡ commit_line (λ i. Some (commit_with text.now)) (λ i. header.now.parent_ids.items)
         (λ i. seconds_or_zero header.now.time) (page_line has) id.now) }
 {
+    let parents = header.parent_ids.as_slice();
     let mut line = time_before(alloc, has.time, header)?;
-    let behind = if has.subject { b' ' } else { has.ending };
-    if has.parents {
-        add_ids(&mut line, id, header.parent_ids.as_slice(), behind)?;
-    } else {
-        add_id(&mut line, id, behind)?;
-    }
-    if has.subject {
-        add_subject(&mut line, text)?;
-        line.extend_from_slice(&[has.ending])?;
-    }
+    add_own_id(&mut line, has.id, id)?;
+    add_parents(&mut line, has.parents, parents)?;
+    let commit = Commit {
+        id: *id,
+        parents,
+        time: seconds_of(header),
+        text,
+    };
+    add_formatted(&mut line, has.format.as_bytes(), commit)?;
+    line.push(has.ending)?;
     Ok(line)
 }
 
@@ -267,22 +249,35 @@ fn time_before(alloc: Global, is_shown: bool, header: &Header) -> Result<Vec<u8>
     text.as_bytes().to_vec(alloc)
 }
 
-/// Adds an id, a space and each of the others, and this byte after the last.
-fn add_ids(
-    line: &mut Vec<u8>,
-    id: &ObjectId,
-    others: &[ObjectId],
-    ending: u8,
-) -> Result<(), AllocError>
-    ensures { OnOk result (line.new.items ≡ line.old.items
-        ++ (hex_of id.now ++ (flat_map (λ p. 32 ∷ hex_of p) others.now ++ ending ∷ []))) }
+/// Adds the id of a commit, or nothing.
+fn add_own_id(line: &mut Vec<u8>, is_shown: bool, id: &ObjectId) -> Result<(), AllocError>
+    ensures { OnOk result (line.new.items ≡ line.old.items ++ (if is_shown then hex_of id.now else [])) }
 {
-    let mut last = *id;
-    for other in others {
-        add_id(line, &last, b' ')?;
-        last = *other;
+    if is_shown {
+        add_digits(line, id)?;
     }
-    add_id(line, &last, ending)
+    Ok(())
+}
+
+/// Adds a space and each of these ids, or nothing.
+fn add_parents(line: &mut Vec<u8>, are_shown: bool, ids: &[ObjectId]) -> Result<(), AllocError>
+    ensures { OnOk result (line.new.items ≡ line.old.items ++ (if are_shown then flat_map (λ p. 32 ∷ hex_of p) ids.now else [])) }
+{
+    if are_shown {
+        add_ids(line, ids)?;
+    }
+    Ok(())
+}
+
+/// Adds a space and each of these ids.
+fn add_ids(line: &mut Vec<u8>, ids: &[ObjectId]) -> Result<(), AllocError>
+    ensures { OnOk result (line.new.items ≡ line.old.items ++ flat_map (λ p. 32 ∷ hex_of p) ids.now) }
+{
+    for id in ids {
+        line.push(b' ')?;
+        add_digits(line, id)?;
+    }
+    Ok(())
 }
 
 /// Whether each commit is kept, whatever it is.

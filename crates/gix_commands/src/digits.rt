@@ -28,6 +28,28 @@ pub fn add_id(lines: &mut Vec<u8>, id: &ObjectId, behind: u8) -> Result<(), Allo
     }
 }
 
+/// Adds an id in hex digits of lower case.
+///
+/// # Errors
+/// Out of memory. Nothing is added.
+pub fn add_digits(line: &mut Vec<u8>, id: &ObjectId) -> Result<(), AllocError>
+    ensures ok { OnOk result (line.new.items ≡ line.old.items ++ hex_of id.now) }
+    ensures err { OnErr result (line.new.items ≡ line.old.items) }
+{
+    match id {
+        ObjectId::Sha1(bytes) => {
+            let mut text = [0; 40];
+            put_digits(bytes, &mut text);
+            line.extend_from_slice(&text)
+        }
+        ObjectId::Sha256(bytes) => {
+            let mut text = [0; 64];
+            put_digits(bytes, &mut text);
+            line.extend_from_slice(&text)
+        }
+    }
+}
+
 /// Writes the two digits of each byte.
 #[inline(always)]
 fn put_digits(bytes: &[u8], text: &mut [u8])

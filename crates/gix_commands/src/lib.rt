@@ -9,7 +9,8 @@
 ghost use Rattle.std.specs.Prelude.{◌≡◌, ◌≢◌, ℕ, List, [], map, Some, Err, string_bytes};
 ghost use Rattle.gix_records.specs.Records.{Record, AreRecords};
 ghost use Rattle.gix_commands.specs.Run.{Runs, ServesOver, used_if};
-ghost use Rattle.gix_statement.specs.WholeStatement.{AreFed, Objects, Promises, Row};
+ghost use Rattle.gix_statement.specs.WholeStatement.{AreFed, Objects, Promises, Row, says_more};
+ghost use Rattle.gix_words.specs.Formats.{format_bytes};
 ghost use Rattle.gix_words.specs.Words.{Commits, request_of, request_of_command};
 ghost use Rattle.gix_revwalk.specs.Agreeing.{rows_in};
 
@@ -66,7 +67,8 @@ pub use stored::{run_named, run_stored};
 /// `--skip` and a number leave out the first lines of these, and `-n` and a number those behind as many; behind the last nothing is read.
 /// With `--reverse` the last of these lines comes first, and with `--count` one line says how many they are. With `--timestamp` a line
 /// begins with the committer's seconds and a space, with `--parents` a space and the id of each parent follow its id, with `--oneline` a space
-/// and the commit's subject are behind these, and with `-z` a byte 0 is at its end. `files` writes the mode, the id and the path of each
+/// and the commit's subject are behind these, and with `-z` a byte 0 is at its end. With `--format` and a format, without these but `-z`, it
+/// is what the format says, and the id isn't before that. `files` writes the mode, the id and the path of each
 /// entry of the tree and of the trees in it, one a line, and with `-n` and a number the first of these lines alone, though it reads all
 /// trees. `ahead` writes how many commits the first id reaches and the second doesn't, a space, and how many the second reaches and the
 /// first doesn't. `contains` writes those of its further ids that the first reaches, in the order given, one a line, and `containing` those
@@ -137,11 +139,15 @@ fn serve<W: Write>(
     }
 }
 
-/// The rows that are used: none where subjects are asked for, which no row has.
+/// The rows that are used: none if there is a format, since no row has a text.
 fn used_graph(shown: Shown, graph: Option<&Graph>) -> Option<&Graph>
-    ensures { rows_in result ≡ used_if shown.line.subject (rows_in graph.entry) }
+    ensures { rows_in result ≡ used_if (says_more (format_bytes shown.line.format)) (rows_in graph.entry) }
 {
-    if shown.line.subject { None } else { graph }
+    if shown.line.format.is_empty() {
+        graph
+    } else {
+        None
+    }
 }
 
 /// A list of commits that is asked for.

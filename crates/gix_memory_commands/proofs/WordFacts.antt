@@ -2,7 +2,7 @@
 use Rattle.std.proofs.Common.{ℕ, zero, suc, ◌≡◌, ◌<◌, List, [], ◌∷◌, ◌++◌, Bool, true, false, length, take, drop, map, refl, ap, ◌∙◌, arith, get_or}
 use Rattle.std.specs.Str.Lossy.{utf8_lossy}
 use Rattle.std.proofs.lemmas.Bool.{cond-false, cond-true}
-use Rattle.gix_statement.specs.WholeStatement.{onto}
+use Rattle.gix_statement.specs.Formats.{onto}
 use Rattle.gix_memory_commands.specs.WordsOf.{is_between, words_of}
 
 is_false : (t : Bool) → (t ≡ true → ⊥) → t ≡ false

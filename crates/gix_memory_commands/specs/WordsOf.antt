@@ -1,6 +1,6 @@
 -- The words in a text: what is between spaces and newlines.
 use Rattle.std.specs.Prelude.{ℕ, ◌==◌, List, [], ◌∷◌, Bool, ◌||◌, if◌then◌else◌}
-use Rattle.gix_statement.specs.WholeStatement.{onto}
+use Rattle.gix_statement.specs.Formats.{onto}
 
 -- whether this byte, a space or a newline, is between words
 abbrev pub is_between : ℕ → Bool

@@ -24,6 +24,9 @@ pub enum Misuse {
     /// Behind `--skip` there is no number.
     #[error("--skip needs a number of 1 to 9 digits")]
     Skip,
+    /// Behind `--format` there is none.
+    #[error("--format needs 1 to 128 bytes, in which each % begins a field: %H, %h, %T, %P, %s, %an, %ae, %ct, %ci, %n or %%")]
+    Format,
     /// Behind this option there is no time that can be used.
     #[error("{0} needs seconds of 1 to 10 digits, or a date from 1970 on, as 2024-05-01 or 2024-05-01T12:00:00Z")]
     Time(&'static str),

@@ -71,6 +71,8 @@ pub struct Options {
     pub counts: bool,
     /// Whether the last line comes first.
     pub is_reversed: bool,
+    /// What a line says of its commit, in place of the id.
+    pub format: Option<String>,
     /// Whether a line begins with the committer's seconds.
     pub gives_time: bool,
     /// Whether a line has the ids of the parents.
@@ -101,6 +103,7 @@ impl Drop for Options {
             limit: _,
             counts: _,
             is_reversed: _,
+            format: _,
             gives_time: _,
             gives_parents: _,
             gives_subject: _,
@@ -127,6 +130,7 @@ impl Options {
             limit: None,
             counts: false,
             is_reversed: false,
+            format: None,
             gives_time: false,
             gives_parents: false,
             gives_subject: false,
@@ -134,6 +138,11 @@ impl Options {
             gives_names: false,
             certificate: None,
         }
+    }
+
+    /// Whether lines say what no row of a commit-graph has.
+    pub fn give_text(&self) -> bool {
+        self.gives_subject || self.format.is_some()
     }
 
     /// Notes an option without a value, and says whether the word is one.
@@ -164,6 +173,7 @@ impl Options {
             "-n" | "--max-count" => &mut self.limit,
             "--skip" => &mut self.skip,
             "--certificate" => &mut self.certificate,
+            "--format" => &mut self.format,
             "--since" | "--after" => &mut self.since,
             _ => &mut self.until,
         }
@@ -178,6 +188,7 @@ impl Options {
             (self.no_merges, "--no-merges"),
             (self.counts, "--count"),
             (self.is_reversed, "--reverse"),
+            (self.format.is_some(), "--format"),
             (self.gives_time, "--timestamp"),
             (self.gives_parents, "--parents"),
             (self.gives_subject, "--oneline"),
@@ -186,6 +197,23 @@ impl Options {
             if is_given {
                 return Some(option);
             }
+        }
+        None
+    }
+
+    /// An option that doesn't go with `--format`, if there is one.
+    fn against_format(&self) -> Option<&'static str> {
+        if self.gives_subject {
+            return Some("--oneline");
+        }
+        if self.gives_parents {
+            return Some("--parents");
+        }
+        if self.gives_time {
+            return Some("--timestamp");
+        }
+        if self.takes_border {
+            return Some("--border");
         }
         None
     }
@@ -515,6 +543,11 @@ impl Arguments {
         if self.options.gives_subject && self.options.takes_border {
             return Err(Misuse::Misfit("--oneline", "--border"));
         }
+        if self.options.format.is_some() {
+            if let Some(option) = self.options.against_format() {
+                return Err(Misuse::Misfit("--format", option));
+            }
+        }
         if self.options.by_first_parents
             && !matches!(name, Name::Breadth | Name::Topo | Name::Date)
         {
@@ -612,6 +645,7 @@ fn text_of(alloc: Global, option: &str, value: &str) -> Result<String, Misuse> {
     let is_right = match option {
         "-n" | "--max-count" | "--skip" => is_number(value, 9),
         "--certificate" => !value.is_empty(),
+        "--format" => !value.is_empty() && value.len() <= 128 && is_format(value.as_bytes()),
         _ => return digits_of(alloc, option, value),
     };
     if is_right {
@@ -620,6 +654,7 @@ fn text_of(alloc: Global, option: &str, value: &str) -> Result<String, Misuse> {
     Err(match option {
         "--skip" => Misuse::Skip,
         "--certificate" => Misuse::NoFile,
+        "--format" => Misuse::Format,
         _ => Misuse::Limit,
     })
 }
@@ -670,6 +705,7 @@ fn takes_value(option: &str) -> bool {
             | "--until"
             | "--before"
             | "--certificate"
+            | "--format"
     )
 }
 
@@ -678,6 +714,26 @@ fn is_number(word: &str, most: usize) -> bool {
     !word.is_empty()
         && word.len() <= most
         && word.as_bytes().iter().all(|byte| byte.is_ascii_digit())
+}
+
+/// Whether each `%` begins a field that a format may have.
+fn is_format(text: &[u8]) -> bool {
+    let mut left = text;
+    for _ in 0..text.len() {
+        left = match left {
+            [
+                b'%',
+                b'%' | b'n' | b'H' | b'h' | b'T' | b'P' | b's',
+                behind @ ..,
+            ] => behind,
+            [b'%', b'a', b'n' | b'e', behind @ ..] => behind,
+            [b'%', b'c', b't' | b'i', behind @ ..] => behind,
+            [b'%', ..] => return false,
+            [_, behind @ ..] => behind,
+            [] => return true,
+        };
+    }
+    true
 }
 
 /// What is wrong with a word that is to be a revision, whatever the repository has.

@@ -85,6 +85,63 @@ const CASES: &[(&str, &str)] = &[
         "-C . newest --oneline --border HEAD",
         "--oneline doesn't go with --border",
     ),
+    (
+        "-C . topo --format=%H%h%T%P%s%an%ae%ct%ci%n%% -z --count HEAD",
+        "",
+    ),
+    ("-C . breadth --format a=b HEAD", ""),
+    (
+        "-C . topo HEAD --format",
+        "--format needs 1 to 128 bytes, in which each % begins a field: %H, %h, %T, %P, %s, %an, %ae, %ct, %ci, %n or %%",
+    ),
+    (
+        "-C . topo HEAD --format=",
+        "--format needs 1 to 128 bytes, in which each % begins a field: %H, %h, %T, %P, %s, %an, %ae, %ct, %ci, %n or %%",
+    ),
+    (
+        "-C . topo HEAD --format %",
+        "--format needs 1 to 128 bytes, in which each % begins a field: %H, %h, %T, %P, %s, %an, %ae, %ct, %ci, %n or %%",
+    ),
+    (
+        "-C . topo HEAD --format %ad",
+        "--format needs 1 to 128 bytes, in which each % begins a field: %H, %h, %T, %P, %s, %an, %ae, %ct, %ci, %n or %%",
+    ),
+    (
+        "-C . topo HEAD --format %B",
+        "--format needs 1 to 128 bytes, in which each % begins a field: %H, %h, %T, %P, %s, %an, %ae, %ct, %ci, %n or %%",
+    ),
+    (
+        "-C . topo HEAD --format xxxxxxxxxxxxxxxxxxxxxxxxxxxxxxxxxxxxxxxxxxxxxxxxxxxxxxxxxxxxxxxxxxxxxxxxxxxxxxxxxxxxxxxxxxxxxxxxxxxxxxxxxxxxxxxxxxxxxxxxxxxxxxxxx",
+        "--format needs 1 to 128 bytes, in which each % begins a field: %H, %h, %T, %P, %s, %an, %ae, %ct, %ci, %n or %%",
+    ),
+    (
+        "-C . topo HEAD --format xxxxxxxxxxxxxxxxxxxxxxxxxxxxxxxxxxxxxxxxxxxxxxxxxxxxxxxxxxxxxxxxxxxxxxxxxxxxxxxxxxxxxxxxxxxxxxxxxxxxxxxxxxxxxxxxxxxxxxxxxxxxxxxx",
+        "",
+    ),
+    (
+        "-C . topo --pretty=format:%H HEAD",
+        "no option is called \"--pretty=format:%H\"",
+    ),
+    (
+        "-C . newest --oneline --format %H HEAD",
+        "--format doesn't go with --oneline",
+    ),
+    (
+        "-C . newest --format %H --parents HEAD",
+        "--format doesn't go with --parents",
+    ),
+    (
+        "-C . newest --timestamp --format %H HEAD",
+        "--format doesn't go with --timestamp",
+    ),
+    (
+        "-C . newest --format %H --border HEAD",
+        "--format doesn't go with --border",
+    ),
+    (
+        "-C . ahead --format %H a b",
+        "--format doesn't go with ahead",
+    ),
     ("-C . files -n 1 HEAD -z", ""),
     ("-C . ahead -n 1 a b", "-n doesn't go with ahead"),
     (

@@ -244,6 +244,7 @@ fn push_options(
     push_value(alloc, "-n", &options.limit, words)?;
     push_flag(alloc, options.counts, "--count", words)?;
     push_flag(alloc, options.is_reversed, "--reverse", words)?;
+    push_value(alloc, "--format", &options.format, words)?;
     push_flag(alloc, options.gives_time, "--timestamp", words)?;
     push_flag(alloc, options.gives_parents, "--parents", words)?;
     push_flag(alloc, options.gives_subject, "--oneline", words)?;

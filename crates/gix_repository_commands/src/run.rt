@@ -26,8 +26,8 @@ pub struct Answered {
 }
 
 /// Runs the command that the words are over the objects of a part of a repository, which grows until none is missing that it may still
-/// read. Where there is a graph, commits that have a row of it aren't read. With `--oneline` each commit has to be read, so no graph may be
-/// given.
+/// read. Where there is a graph, commits that have a row of it aren't read. With `--oneline` or `--format` each commit has to be read, so
+/// no graph may be given.
 ///
 /// # Errors
 ///

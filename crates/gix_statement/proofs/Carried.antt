@@ -3,7 +3,7 @@ use Rattle.std.proofs.Common.{◌≡◌, ◌≢◌, ◌⊎◌, ℕ, ℤ, List, [
 use Rattle.std.proofs.lemmas.List.Elements.{All-contains}
 use Rattle.gix_hash.proofs.Ids.Membership.{no_member}
 use Rattle.gix_hash.specs.declared.ObjectId.{ObjectId}
-use Rattle.gix_statement.proofs.SameLines.{same_subjects, text_same}
+use Rattle.gix_statement.proofs.SameLines.{same_texts, text_same}
 use Rattle.gix_statement.specs.WholeStatement.{Object, Objects, Row, IsText, IsCommit, IsThere, IsHistory, Clash, Carries, Lists, lists, Serves, commits, ahead, contains, containing, bases, files, IsTree, Unfolds, whole, other, tree, Entry}
 
 module _ (read objects : Objects) (rows others : List Row) (all : (i : ObjectId) (o : Object) → read i ≡ Some o → objects i ≡ Some o) (agree : (r : Row) → Contains rows r → IsCommit objects others r) where
@@ -38,7 +38,7 @@ module _ (read objects : Objects) (rows others : List Row) (all : (i : ObjectId)
     lists_too : (bytes : List ℕ) (words : List (List ℕ)) → Lists read rows parents time bytes true words → Lists objects others parents time bytes true words
     lists_too bytes words (lists option more c ids named chooses some follows there texts begins allows ended may is_written) =
         lists option more c ids named chooses some follows (all_there ids there) (λ e. all_texts ids (texts e)) begins allows ended may
-        (is_written ∙ same_subjects read objects parents time c ids (λ e i m. text_same read objects i (All-contains (IsThere read []) ids i (texts e) m) (all i)))
+        (is_written ∙ same_texts read objects parents time c ids (λ e i m. text_same read objects i (All-contains (IsThere read []) ids i (texts e) m) (all i)))
 
     serves_too : (old new : Option (List ℕ)) (words : List (List ℕ)) → Serves read rows parents time old new words → Serves objects others parents time old new words
     serves_too old new words (commits ids l appends) = commits ids (lists_too ids words l) appends

@@ -6,7 +6,7 @@ use Rattle.std.specs.Io.KnownBytes.{Appends}
 use Rattle.std.proofs.lemmas.List.Elements.{All-contains, All-nil}
 use Rattle.gix_hash.proofs.Ids.Membership.{no_member}
 use Rattle.gix_hash.specs.declared.ObjectId.{ObjectId}
-use Rattle.gix_statement.specs.WholeStatement.{IsLimit, allowed, Objects, Row, IsThere, IsHistory, InEach, Allows, AreTips, Begins, IsWhole, IsNext, breadth, newest, oldest, date, topo, parent, Follows, id_line, digits_in, Spells, Keeps, Lists, lists, Serves, ahead, containing, bases, IsBase, by_bytes, files, Reaches, start, IsNumberShown, IsTree, Unfolds, Entry, entry_line, Choice, Chooses, Lines, chosen, commit_line, written}
+use Rattle.gix_statement.specs.WholeStatement.{IsLimit, allowed, Objects, Row, IsThere, IsHistory, InEach, Allows, AreTips, Begins, IsWhole, IsNext, breadth, newest, oldest, date, topo, parent, Follows, id_line, digits_in, Spells, Keeps, Lists, lists, Serves, ahead, containing, bases, IsBase, by_bytes, files, Reaches, start, IsNumberShown, IsTree, Unfolds, Entry, entry_line, Choice, Chooses, Lines, chosen, commit_line, says_more, written}
 use Rattle.gix_statement.proofs.Heart.{IsSimple}
 use Rattle.gix_statement.proofs.EachHistory.{base_back, base_there, containing_there, counted_there, moved, same_parents, same_time, filter_same}
 use Rattle.gix_statement.proofs.Descents.{IsDown, begins_down, followed_down, whole_down}
@@ -21,7 +21,7 @@ module _ (objects : Objects) (rows : List Row) (parents : ObjectId → List Obje
 
   module _ (by : List ℕ) (option words : List (List ℕ)) (c : Choice) (place : ℕ) (tips hidden ids : List ObjectId)
       (named : Contains (codes "breadth" ∷ codes "newest" ∷ codes "oldest" ∷ codes "topo" ∷ codes "date" ∷ []) by)
-      (chooses : Chooses tips hidden place words c) (some : tips ≢ []) (there : All (IsThere objects rows) ids) (texts : c.line.has_subject ≡ true → All (IsThere objects []) ids)
+      (chooses : Chooses tips hidden place words c) (some : tips ≢ []) (there : All (IsThere objects rows) ids) (texts : says_more c.line.format ≡ true → All (IsThere objects []) ids)
       (allows : Allows c.limit (length (chosen parents time c ids))) (ended : Bool) (may : (ended ≡ true) ⊎ (c.form ≡ Lines))
       (bytes : List ℕ) (is_written : bytes ≡ written (commit_line objects parents time c.line) c.form (chosen parents time c ids)) (appends : Appends old new bytes) where
     abbrev those : List (List ℕ)

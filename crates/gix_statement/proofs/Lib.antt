@@ -25,6 +25,7 @@ mod RunExamples
 mod LineExamples
 mod EntryExamples
 mod SubjectExamples
+mod FormatExamples
 mod GraphExamples
 mod HoleExamples
 mod SinceExample

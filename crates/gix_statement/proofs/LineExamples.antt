@@ -99,9 +99,9 @@ module _ (parents : ObjectId → List ObjectId) (time : ObjectId → ℤ) (histo
   abbrev whole_line : List ℕ
   whole_line = codes "-5 2222222222222222222222222222222222222222 1111111111111111111111111111111111111111 abababababababababababababababababababab\n"
 
-  is_whole_line : page.commit_line read_in parents time (record { has_time = true; has_parents = true; has_subject = false; ending = 10 }) child ++ [] ≡ whole_line
+  is_whole_line : page.commit_line read_in parents time (record { has_id = true; has_time = true; has_parents = true; format = []; ending = 10 }) child ++ [] ≡ whole_line
   unfolding digits hex_on_literals
-  is_whole_line = (λ k. page.commit_line read_in (λ i. names k) (λ i. is_early k) (record { has_time = true; has_parents = true; has_subject = false; ending = 10 }) child ++ [])
+  is_whole_line = (λ k. page.commit_line read_in (λ i. names k) (λ i. is_early k) (record { has_id = true; has_time = true; has_parents = true; format = []; ending = 10 }) child ++ [])
 
   whole_served : Serves read_in [] parents time (Some []) (Some whole_line) (asked (codes "--timestamp" ∷ codes "--parents" ∷ []))
   whole_served = commits whole_line
@@ -114,7 +114,7 @@ module _ (parents : ObjectId → List ObjectId) (time : ObjectId → ℤ) (histo
   abbrev zero_line : List ℕ
   zero_line = codes "2222222222222222222222222222222222222222" ++ 0 ∷ []
 
-  is_zero_line : page.commit_line read_in parents time (record { has_time = false; has_parents = false; has_subject = false; ending = 0 }) child ++ [] ≡ zero_line
+  is_zero_line : page.commit_line read_in parents time (record { has_id = true; has_time = false; has_parents = false; format = []; ending = 0 }) child ++ [] ≡ zero_line
   unfolding hex_on_literals
   is_zero_line = refl
 
@@ -129,7 +129,7 @@ module _ (parents : ObjectId → List ObjectId) (time : ObjectId → ℤ) (histo
   abbrev subject_line : List ℕ
   subject_line = codes "2222222222222222222222222222222222222222 A merge of two\n"
 
-  is_subject_line : page.commit_line read_in parents time (record { has_time = false; has_parents = false; has_subject = true; ending = 10 }) child ++ [] ≡ subject_line
+  is_subject_line : page.commit_line read_in parents time (record { has_id = true; has_time = false; has_parents = false; format = codes " %s"; ending = 10 }) child ++ [] ≡ subject_line
   unfolding hex_on_literals
   is_subject_line = refl
 
@@ -140,6 +140,21 @@ module _ (parents : ObjectId → List ObjectId) (time : ObjectId → ℤ) (histo
       (λ ended more. absurd (omega (arith, more))) (inl refl) (sym is_subject_line))
       refl
 
+  -- WITH --format
+  abbrev format_line : List ℕ
+  format_line = codes "2222222222 2 parents: 1111111111111111111111111111111111111111 abababababababababababababababababababab%\n"
+
+  is_format_line : page.commit_line read_in parents time (record { has_id = false; has_time = false; has_parents = false; format = codes "%h 2 parents: %P%%"; ending = 10 }) child ++ [] ≡ format_line
+  unfolding hex_on_literals
+  is_format_line = (λ k. page.commit_line read_in (λ i. names k) time (record { has_id = false; has_time = false; has_parents = false; format = codes "%h 2 parents: %P%%"; ending = 10 }) child ++ [])
+
+  format_served : Serves read_in [] parents time (Some []) (Some format_line) (asked (codes "--format" ∷ codes "%h 2 parents: %P%%" ∷ []))
+  format_served = commits format_line
+      (lists [] (codes "-n" ∷ codes "1" ∷ codes "--format" ∷ codes "%h 2 parents: %P%%" ∷ codes "2222222222222222222222222222222222222222" ∷ []) _ (child ∷ []) {hidden = []} (0, omega arith, refl)
+      (page.at_most 1 number_one (omega arith) (page.with_format refl (omega arith) (omega arith) (page.everything (inl (child, [], refl, spelled, (refl, refl)))))) (λ e. cc) page.all is_there (λ e. is_there) first (omega arith)
+      (λ ended more. absurd (omega (arith, more))) (inl refl) (sym is_format_line))
+      refl
+
 line_of_merge : {E : Type 0} (e : E) → Promises e (asked (codes "--timestamp" ∷ codes "--parents" ∷ [])) (λ objects rows. AreFed (Some input) objects × (rows ≡ [])) (Some []) (Ok tt)
     (Some (codes "-5 2222222222222222222222222222222222222222 1111111111111111111111111111111111111111 abababababababababababababababababababab\n"))
 line_of_merge e = (read_in, [], (fed, refl), ((λ i j d l m. absurd (omega (arith, m))), λ r c n. absurd (no_member r c)), whole_served)
@@ -147,3 +162,7 @@ line_of_merge e = (read_in, [], (fed, refl), ((λ i j d l m. absurd (omega (arit
 subject_of_merge : {E : Type 0} (e : E) → Promises e (asked (codes "--oneline" ∷ [])) (λ objects rows. AreFed (Some input) objects × (rows ≡ [])) (Some []) (Ok tt)
     (Some (codes "2222222222222222222222222222222222222222 A merge of two\n"))
 subject_of_merge e = (read_in, [], (fed, refl), ((λ i j d l m. absurd (omega (arith, m))), λ r c n. absurd (no_member r c)), subject_served)
+
+format_of_merge : {E : Type 0} (e : E) → Promises e (asked (codes "--format" ∷ codes "%h 2 parents: %P%%" ∷ [])) (λ objects rows. AreFed (Some input) objects × (rows ≡ [])) (Some []) (Ok tt)
+    (Some (codes "2222222222 2 parents: 1111111111111111111111111111111111111111 abababababababababababababababababababab%\n"))
+format_of_merge e = (read_in, [], (fed, refl), ((λ i j d l m. absurd (omega (arith, m))), λ r c n. absurd (no_member r c)), format_served)

@@ -11,10 +11,10 @@ use Rattle.std.specs.Str.Parse.{AllDigits, digits_value}
 use Rattle.gix_hash.proofs.Ids.Membership.{Contains-here, Contains-there, Contains-cons_cases, no_member}
 use Rattle.gix_hash.specs.declared.ObjectId.{ObjectId}
 use Rattle.gix_hash.specs.declared.ObjectId.TheVariants.{Sha1, Sha256}
-use Rattle.gix_statement.specs.WholeStatement.{IsLimit, allowed, Objects, Row, IsPending, IsReady, IsFirst, IsBest, Keeps, empty, kept, passed, IsNext, breadth, newest, oldest, date, topo, AreMadeReady, by_time, Begins, IsWhole, Allows, AreTips, Follows, all, first, since, Spells, digits_in, bytes_in, Lists, lists, HasBegun, IsCutOff, OneAnswer, Serves, commits, ahead, contains, containing, bases, IsBase, by_bytes, files, Entry, Object, AreEntries, IsTree, Unfolds, whole, other, tree, Clash, Reaches, id_line, entry_line, IsNumberShown, Form, Choice, Chooses, everything, until, merges, no_merges, skip, at_most, reversed, counted, with_time, with_parents, with_subject, zero_ended, IsThere, chosen, commit_line, written, Lines, Reversed, Number}
+use Rattle.gix_statement.specs.WholeStatement.{IsLimit, allowed, Objects, Row, IsPending, IsReady, IsFirst, IsBest, Keeps, empty, kept, passed, IsNext, breadth, newest, oldest, date, topo, AreMadeReady, by_time, Begins, IsWhole, Allows, AreTips, Follows, all, first, since, Spells, digits_in, bytes_in, Lists, lists, HasBegun, IsCutOff, OneAnswer, Serves, commits, ahead, contains, containing, bases, IsBase, by_bytes, files, Entry, Object, AreEntries, IsTree, Unfolds, whole, other, tree, Clash, Reaches, id_line, entry_line, IsNumberShown, Form, Choice, Chooses, everything, until, merges, no_merges, skip, at_most, reversed, counted, with_time, with_parents, says_more, with_format, with_subject, zero_ended, IsThere, chosen, commit_line, written, Lines, Reversed, Number}
 use Rattle.gix_statement.proofs.OneCommit.{spelled_same, append_same, first_same, id_same}
 use Rattle.gix_statement.proofs.Carried.{both_of, first_kept, same_object, second_kept}
-use Rattle.gix_statement.proofs.SameLines.{same_subjects, text_same}
+use Rattle.gix_statement.proofs.SameLines.{same_texts, text_same}
 use Rattle.gix_statement.proofs.Tests.{not_among, other_head}
 use Rattle.std.specs.Fmt.{digits}
 use Rattle.std.specs.Char.{digit_value}
@@ -288,7 +288,8 @@ chosen_once words a b (reversed late x) (reversed late_too y) = let h = chosen_o
 chosen_once words a b (counted late x) (counted late_too y) = let h = chosen_once _ _ _ x y in (ap (λ (c : Choice). record c { form = Number }) h.0, h.1, h.2)
 chosen_once words a b (with_time late x) (with_time late_too y) = let h = chosen_once _ _ _ x y in (ap (λ (c : Choice). record c { line = record c.line { has_time = true } }) h.0, h.1, h.2)
 chosen_once words a b (with_parents late x) (with_parents late_too y) = let h = chosen_once _ _ _ x y in (ap (λ (c : Choice). record c { line = record c.line { has_parents = true } }) h.0, h.1, h.2)
-chosen_once words a b (with_subject late x) (with_subject late_too y) = let h = chosen_once _ _ _ x y in (ap (λ (c : Choice). record c { line = record c.line { has_subject = true } }) h.0, h.1, h.2)
+chosen_once words a b (with_format {format = format} is short late x) (with_format same brief late_too y) = let h = chosen_once _ _ _ x y in (ap (λ (c : Choice). record c { line = record c.line { has_id = false; format = format } }) h.0, h.1, h.2)
+chosen_once words a b (with_subject late x) (with_subject late_too y) = let h = chosen_once _ _ _ x y in (ap (λ (c : Choice). record c { line = record c.line { format = codes " %s" } }) h.0, h.1, h.2)
 chosen_once words a b (zero_ended late x) (zero_ended late_too y) = let h = chosen_once _ _ _ x y in (ap (λ (c : Choice). record c { line = record c.line { ending = 0 } }) h.0, h.1, h.2)
 chosen_once {tips} {hidden} words a b (everything t) (until {number = number} {words = ws} n is late x) = no_tip (codes "--until") (number ∷ ws) tips hidden (omega arith) t
 chosen_once {tips} {hidden} words a b (everything t) (merges {words = ws} late x) = no_tip (codes "--merges") ws tips hidden (omega arith) t
@@ -299,6 +300,7 @@ chosen_once {tips} {hidden} words a b (everything t) (reversed {words = ws} late
 chosen_once {tips} {hidden} words a b (everything t) (counted {words = ws} late x) = no_tip (codes "--count") ws tips hidden (omega arith) t
 chosen_once {tips} {hidden} words a b (everything t) (with_time {words = ws} late x) = no_tip (codes "--timestamp") ws tips hidden (omega arith) t
 chosen_once {tips} {hidden} words a b (everything t) (with_parents {words = ws} late x) = no_tip (codes "--parents") ws tips hidden (omega arith) t
+chosen_once {tips} {hidden} words a b (everything t) (with_format {format = format} {words = ws} is short late x) = no_tip (codes "--format") (format ∷ ws) tips hidden (omega arith) t
 chosen_once {tips} {hidden} words a b (everything t) (with_subject {words = ws} late x) = no_tip (codes "--oneline") ws tips hidden (omega arith) t
 chosen_once {tips} {hidden} words a b (everything t) (zero_ended {words = ws} late x) = no_tip (codes "-z") ws tips hidden (omega arith) t
 chosen_once {others = others} {below = below} words a b (until {number = number} {words = ws} n is late x) (everything t) = no_tip (codes "--until") (number ∷ ws) others below (omega arith) t
@@ -310,6 +312,7 @@ chosen_once {others = others} {below = below} words a b (reversed {words = ws} l
 chosen_once {others = others} {below = below} words a b (counted {words = ws} late x) (everything t) = no_tip (codes "--count") ws others below (omega arith) t
 chosen_once {others = others} {below = below} words a b (with_time {words = ws} late x) (everything t) = no_tip (codes "--timestamp") ws others below (omega arith) t
 chosen_once {others = others} {below = below} words a b (with_parents {words = ws} late x) (everything t) = no_tip (codes "--parents") ws others below (omega arith) t
+chosen_once {others = others} {below = below} words a b (with_format {format = format} {words = ws} is short late x) (everything t) = no_tip (codes "--format") (format ∷ ws) others below (omega arith) t
 chosen_once {others = others} {below = below} words a b (with_subject {words = ws} late x) (everything t) = no_tip (codes "--oneline") ws others below (omega arith) t
 chosen_once {others = others} {below = below} words a b (zero_ended {words = ws} late x) (everything t) = no_tip (codes "-z") ws others below (omega arith) t
 
@@ -331,6 +334,7 @@ no_option words c (reversed late x) more = other_word (codes "--reverse") _ (λ 
 no_option words c (counted late x) more = other_word (codes "--count") _ (λ e. let l : 7 ≡ 14 = ap length e in omega (arith, l)) (λ e. let l : 99 ≡ 115 = ap (λ w. get_or w 2 0) e in omega (arith, l)) more
 no_option words c (with_time late x) more = other_word (codes "--timestamp") _ (λ e. let l : 11 ≡ 14 = ap length e in omega (arith, l)) (λ e. let l : 11 ≡ 7 = ap length e in omega (arith, l)) more
 no_option words c (with_parents late x) more = other_word (codes "--parents") _ (λ e. let l : 9 ≡ 14 = ap length e in omega (arith, l)) (λ e. let l : 9 ≡ 7 = ap length e in omega (arith, l)) more
+no_option words c (with_format is short late x) more = other_word (codes "--format") _ (λ e. let l : 8 ≡ 14 = ap length e in omega (arith, l)) (λ e. let l : 8 ≡ 7 = ap length e in omega (arith, l)) more
 no_option words c (with_subject late x) more = other_word (codes "--oneline") _ (λ e. let l : 9 ≡ 14 = ap length e in omega (arith, l)) (λ e. let l : 9 ≡ 7 = ap length e in omega (arith, l)) more
 no_option words c (zero_ended late x) more = other_word (codes "-z") _ (λ e. let l : 2 ≡ 14 = ap length e in omega (arith, l)) (λ e. let l : 2 ≡ 7 = ap length e in omega (arith, l)) more
 
@@ -418,10 +422,10 @@ module _ (parents : ObjectId → List ObjectId) (time : ObjectId → ℤ) where
       let whole_too : close ≡ true → Long parents followed time starts hidden c by others =
       (λ e. subst (λ (T : Type 0). T) (λ k. Long parents (sym f.0 k) time (sym f.1 k) (sym t.2 k) (sym t.0 k) (sym first_word k) others) (begun, allowed, stopped e)) in
       let line : ObjectId → List ℕ = commit_line (both_of read objects) parents time c.line in
-      let is_written : bytes ≡ written line c.form (chosen parents time c ids) = bytes_written ∙ same_subjects read (both_of read objects) parents time c ids (λ e i m. text_same read (both_of read objects) i (All-contains (IsThere read []) ids i (texts e) m) (first_kept read objects i)) in
+      let is_written : bytes ≡ written line c.form (chosen parents time c ids) = bytes_written ∙ same_texts read (both_of read objects) parents time c ids (λ e i m. text_same read (both_of read objects) i (All-contains (IsThere read []) ids i (texts e) m) (first_kept read objects i)) in
       let full_so : full ≡ written line c.form (chosen parents time c others) =
       full_written ∙ ap (λ (x : Choice). written (commit_line objects parents time x.line) x.form (chosen parents time x others)) (sym t.0)
-      ∙ same_subjects objects (both_of read objects) parents time c others (λ e i m. text_same objects (both_of read objects) i (All-contains (IsThere objects []) others i (texts_too (ap (λ (x : Choice). x.line.has_subject) (sym t.0) ∙ e)) m) (second_kept read objects clash i)) in
+      ∙ same_texts objects (both_of read objects) parents time c others (λ e i m. text_same objects (both_of read objects) i (All-contains (IsThere objects []) others i (texts_too (ap (λ (x : Choice). says_more x.line.format) (sym t.0) ∙ e)) m) (second_kept read objects clash i)) in
       let same : end ≡ true → close ≡ true → bytes ≡ full =
       (λ e l. is_written ∙ ap (written line c.form) (begun_once parents followed time starts hidden c by ids others [] ids others (begins, allows, ended e) (whole_too l) refl refl) ∙ sym full_so) in
       let up : (r : List ObjectId) → c.form ≡ Lines → chosen parents time c others ≡ chosen parents time c ids ++ r → (left : List ℕ) × (full ≡ bytes ++ left) =

@@ -8,7 +8,7 @@ use Rattle.gix_hash.proofs.Ids.Membership.{Contains-cons_cases, no_member, same_
 use Rattle.gix_hash.specs.Id.{is_same}
 use Rattle.gix_hash.specs.declared.ObjectId.{ObjectId}
 use Rattle.gix_hash.specs.declared.ObjectId.TheVariants.{Sha1, Sha256}
-use Rattle.gix_statement.specs.WholeStatement.{Objects, Row, Allows, AreTips, digits_in, IsCommit, IsThere, IsHistory, IsShown, IsWhole, Promises, Serves, commits, ahead, contains, containing, bases, files, lists, Follows, all, first, since, Spells, Reaches, start, parent, Choice, Chooses, everything, until, merges, no_merges, skip, at_most, counted, reversed, with_time, with_parents, with_subject, zero_ended}
+use Rattle.gix_statement.specs.WholeStatement.{Objects, Row, Allows, AreTips, digits_in, IsCommit, IsThere, IsHistory, IsShown, IsWhole, Promises, Serves, commits, ahead, contains, containing, bases, files, lists, Follows, all, first, since, Spells, Reaches, start, parent, Choice, Chooses, everything, until, merges, no_merges, skip, at_most, counted, reversed, with_time, with_parents, with_format, with_subject, zero_ended}
 use Rattle.gix_statement.proofs.OneCommit.{spelled_same}
 use Rattle.gix_statement.proofs.Tests.{not_among, is_hex}
 
@@ -97,6 +97,7 @@ module _ (objects : Objects) (nothing : (i : ObjectId) → objects i ≡ None) w
   one_chosen words (reversed late chooses) is = let l : 9 ≡ 40 = ap length (heads (codes "--reverse") tip _ [] is) in absurd (omega (arith, l))
   one_chosen words (with_time late chooses) is = let l : 11 ≡ 40 = ap length (heads (codes "--timestamp") tip _ [] is) in absurd (omega (arith, l))
   one_chosen words (with_parents late chooses) is = let l : 9 ≡ 40 = ap length (heads (codes "--parents") tip _ [] is) in absurd (omega (arith, l))
+  one_chosen words (with_format right short late chooses) is = let l : 8 ≡ 40 = ap length (heads (codes "--format") tip _ [] is) in absurd (omega (arith, l))
   one_chosen words (with_subject late chooses) is = let l : 9 ≡ 40 = ap length (heads (codes "--oneline") tip _ [] is) in absurd (omega (arith, l))
   one_chosen words (zero_ended late chooses) is = let l : 2 ≡ 40 = ap length (heads (codes "-z") tip _ [] is) in absurd (omega (arith, l))
 
@@ -111,6 +112,7 @@ module _ (objects : Objects) (nothing : (i : ObjectId) → objects i ≡ None) w
   not_chosen words rest (reversed late chooses) is = let l : 9 ≡ 7 = ap length (heads (codes "--reverse") (codes "--since") _ rest is) in omega (arith, l)
   not_chosen words rest (with_time late chooses) is = let l : 11 ≡ 7 = ap length (heads (codes "--timestamp") (codes "--since") _ rest is) in omega (arith, l)
   not_chosen words rest (with_parents late chooses) is = let l : 9 ≡ 7 = ap length (heads (codes "--parents") (codes "--since") _ rest is) in omega (arith, l)
+  not_chosen words rest (with_format right short late chooses) is = let l : 8 ≡ 7 = ap length (heads (codes "--format") (codes "--since") _ rest is) in omega (arith, l)
   not_chosen words rest (with_subject late chooses) is = let l : 9 ≡ 7 = ap length (heads (codes "--oneline") (codes "--since") _ rest is) in omega (arith, l)
   not_chosen words rest (zero_ended late chooses) is = let l : 2 ≡ 7 = ap length (heads (codes "-z") (codes "--since") _ rest is) in omega (arith, l)
 

@@ -1,6 +1,6 @@
 -- Subjects of commits, as `git log --format=%s` writes them.
 use Rattle.std.proofs.Common.{◌≡◌, ℕ, List, [], ◌∷◌, ◌++◌, codes, refl}
-use Rattle.gix_statement.specs.WholeStatement.{subject}
+use Rattle.gix_statement.specs.Formats.{subject}
 
 abbrev head : List ℕ
 head = codes "tree abababababababababababababababababababab\nauthor A <a> 0\ncommitter A <a> 0\n"

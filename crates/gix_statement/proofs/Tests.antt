@@ -9,7 +9,8 @@ use Rattle.std.specs.Fmt.{signed_decimal}
 use Rattle.std.specs.Io.KnownBytes.{Appends}
 use Rattle.hex.specs.Hex.{encode_lower}
 use Rattle.gix_hash.specs.declared.ObjectId.{ObjectId}
-use Rattle.gix_statement.specs.WholeStatement.{IsHex, none, byte, Objects, Row, HasBegun, lists, Choice, Chooses, everything, until, merges, no_merges, skip, at_most, counted, reversed, with_time, with_parents, with_subject, zero_ended, Lines, bytes_in, subject_in, chosen, commit_line, written}
+use Rattle.gix_statement.specs.Formats.{formatted}
+use Rattle.gix_statement.specs.WholeStatement.{IsHex, none, byte, Objects, Row, HasBegun, lists, Choice, Chooses, everything, until, merges, no_merges, skip, at_most, counted, reversed, with_time, with_parents, with_format, with_subject, zero_ended, Lines, bytes_in, text_in, chosen, commit_line, written}
 
 -- all of these are digits
 abbrev pub are_digits : ℕ → List ℕ → Bool
@@ -82,6 +83,7 @@ chosen_ending words (counted late chooses) = chosen_ending _ chooses
 chosen_ending words (reversed late chooses) = chosen_ending _ chooses
 chosen_ending words (with_time late chooses) = chosen_ending _ chooses
 chosen_ending words (with_parents late chooses) = chosen_ending _ chooses
+chosen_ending words (with_format is short late chooses) = chosen_ending _ chooses
 chosen_ending words (with_subject late chooses) = chosen_ending _ chooses
 chosen_ending words (zero_ended late chooses) = inr refl
 
@@ -94,8 +96,8 @@ pub begun_lines : (objects : Objects) (rows : List Row) (parents : ObjectId → 
 begun_lines objects rows parents time old new words (bytes, lists option more c ids named chooses some follows there texts begins allows ended may is_written, appends) = (
   line,
   chosen parents time c ids,
-  λ i. ended_line (if c.line.has_time then signed_decimal (time i) ++ 32 ∷ [] else []) (encode_lower (bytes_in i)) (if c.line.has_parents then flat_map (λ p. 32 ∷ encode_lower (bytes_in p)) (parents i) else [])
-      (if c.line.has_subject then 32 ∷ subject_in (objects i) else []) c.line.ending (chosen_ending more chooses),
+  λ i. ended_line (if c.line.has_time then signed_decimal (time i) ++ 32 ∷ [] else []) (if c.line.has_id then encode_lower (bytes_in i) else []) (if c.line.has_parents then flat_map (λ p. 32 ∷ encode_lower (bytes_in p)) (parents i) else [])
+      (formatted (record { id = i; parents = parents i; time = time i; text = text_in (objects i) }) 0 c.line.format) c.line.ending (chosen_ending more chooses),
   subst (Appends old new) (is_written ∙ ap (λ form. written line form (chosen parents time c ids)) (only_lines may)) appends,
 )
   where

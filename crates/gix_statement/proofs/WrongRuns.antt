@@ -9,7 +9,7 @@ use Rattle.gix_statement.proofs.OneCommit.{one_commit}
 use Rattle.gix_statement.proofs.OneOutput.{output_of_both}
 use Rattle.gix_statement.proofs.Tests.{IsEnded, IsEnding, begun_lines}
 use Rattle.gix_statement.specs.CommitGraph.{AreLayers}
-use Rattle.gix_statement.specs.WholeStatement.{Objects, Row, Promises, HasBegun, Serves, commits, ahead, contains, containing, bases, files, Lists, lists, AreTips, Follows, all, first, since, digits_in, Agree, AreNamed, InEach, IsHash, IsText, Choice, Chooses, everything, until, merges, no_merges, skip, at_most, counted, reversed, with_time, with_parents, with_subject, zero_ended}
+use Rattle.gix_statement.specs.WholeStatement.{Objects, Row, Promises, HasBegun, Serves, commits, ahead, contains, containing, bases, files, Lists, lists, AreTips, Follows, all, first, since, digits_in, Agree, AreNamed, InEach, IsHash, IsText, Choice, Chooses, everything, until, merges, no_merges, skip, at_most, counted, reversed, with_time, with_parents, with_format, with_subject, zero_ended}
 
 -- HALF A LINE is left only by a run whose writer failed.
 abbrev last_of : ℕ → List ℕ → ℕ
@@ -52,7 +52,7 @@ no_short_tip word words tips hidden short (inr (i, more, is, id, w, s, a)) =
     let l : length word ≡ suc (length id) = ap length w in
     omega (arith, short, wide i, s.0, l)
 
-module _ (by n word : List ℕ) (more : List (List ℕ)) (short : length word < 40) (uncounted : word ≢ codes "--count") (forward : word ≢ codes "--reverse") (timeless : word ≢ codes "--timestamp") (alone : word ≢ codes "--parents") (untitled : word ≢ codes "--oneline") (newlines : word ≢ codes "-z") where
+module _ (by n word : List ℕ) (more : List (List ℕ)) (short : length word < 40) (uncounted : word ≢ codes "--count") (forward : word ≢ codes "--reverse") (timeless : word ≢ codes "--timestamp") (formless : word ≢ codes "--format") (alone : word ≢ codes "--parents") (untitled : word ≢ codes "--oneline") (newlines : word ≢ codes "-z") where
   abbrev Asked : List (List ℕ)
   Asked = by ∷ codes "-n" ∷ n ∷ word ∷ more
 
@@ -67,6 +67,7 @@ module _ (by n word : List ℕ) (more : List (List ℕ)) (short : length word < 
   none_late words late (reversed before chooses) is = let head : codes "--reverse" ≡ word = cc in forward (sym head)
   none_late words late (with_time before chooses) is = let head : codes "--timestamp" ≡ word = cc in timeless (sym head)
   none_late words late (with_parents before chooses) is = let head : codes "--parents" ≡ word = cc in alone (sym head)
+  none_late words late (with_format right brief before chooses) is = let head : codes "--format" ≡ word = cc in formless (sym head)
   none_late words late (with_subject before chooses) is = let head : codes "--oneline" ≡ word = cc in untitled (sym head)
   none_late words late (zero_ended before chooses) is = let head : codes "-z" ≡ word = cc in newlines (sym head)
 
@@ -81,6 +82,7 @@ module _ (by n word : List ℕ) (more : List (List ℕ)) (short : length word < 
   no_words words (reversed before chooses) is = let head : codes "--reverse" ≡ codes "-n" = cc in let l : 9 ≡ 2 = ap length head in omega (arith, l)
   no_words words (with_time before chooses) is = let head : codes "--timestamp" ≡ codes "-n" = cc in let l : 11 ≡ 2 = ap length head in omega (arith, l)
   no_words words (with_parents before chooses) is = let head : codes "--parents" ≡ codes "-n" = cc in let l : 9 ≡ 2 = ap length head in omega (arith, l)
+  no_words words (with_format right brief before chooses) is = let head : codes "--format" ≡ codes "-n" = cc in let l : 8 ≡ 2 = ap length head in omega (arith, l)
   no_words words (with_subject before chooses) is = let head : codes "--oneline" ≡ codes "-n" = cc in let l : 9 ≡ 2 = ap length head in omega (arith, l)
   no_words words (zero_ended before chooses) is = let head : codes "-z" ≡ codes "-n" = cc in let l : 122 ≡ 110 = ap (λ w. get_or w 1 0) head in omega (arith, l)
 
@@ -136,7 +138,7 @@ module _ (by n word : List ℕ) (more : List (List ℕ)) (short : length word < 
 
 no_second_limit : {E : Type 0} (writer_failed : E) (AreGiven : Objects → List Row → Type 0) (by n tip : List ℕ) (old new : Option (List ℕ))
     → Promises writer_failed (by ∷ codes "-n" ∷ n ∷ codes "-n" ∷ n ∷ tip ∷ []) AreGiven old (Ok tt) new → ⊥
-no_second_limit writer_failed AreGiven by n tip = nothing_behind_a_limit by n (codes "-n") (n ∷ tip ∷ []) (omega arith) (λ e. cc) (λ e. cc) (λ e. cc) (λ e. cc) (λ e. cc) (λ e. let l : 110 ≡ 122 = ap (λ w. get_or w 1 0) e in omega (arith, l)) writer_failed AreGiven
+no_second_limit writer_failed AreGiven by n tip = nothing_behind_a_limit by n (codes "-n") (n ∷ tip ∷ []) (omega arith) (λ e. cc) (λ e. cc) (λ e. cc) (λ e. cc) (λ e. cc) (λ e. cc) (λ e. let l : 110 ≡ 122 = ap (λ w. get_or w 1 0) e in omega (arith, l)) writer_failed AreGiven
 
 -- LAYERS in another order, or one of them twice: each says how many are below it.
 not_in_another_order : (a b : List ℕ) (rows others : List Row) → AreLayers [] (a ∷ b ∷ []) [] rows → AreLayers [] (b ∷ a ∷ []) [] others → ⊥

@@ -58,7 +58,7 @@ fn unchecked() -> Known {
 }
 
 /// The rows that a question may use: those of the border, those of git's commit-graph where it was checked or is trusted, or none. No row
-/// has a subject.
+/// has what `--oneline` and `--format` write.
 pub(crate) fn rows(
     rt: &HostRuntime,
     repository: &mut Repository<HostRuntime>,
@@ -70,7 +70,7 @@ pub(crate) fn rows(
             is_unchecked: false,
         });
     }
-    if options.rows == Rows::Unused || options.gives_subject {
+    if options.rows == Rows::Unused || options.give_text() {
         return Ok(nothing());
     }
     let paths = repository.graph_layers()?;

@@ -23,6 +23,7 @@ use Rattle.gix_words.specs.declared.words.Order.{Order}
 use Rattle.gix_words.specs.declared.words.SomeIds.{SomeIds}
 use Rattle.gix_words.specs.declared.words.Order.TheVariants.{Simple, Topo}
 use Rattle.gix_words.specs.declared.words.Shown.{Shown}
+use Rattle.gix_words.specs.Formats.{format_of, no_format, packed}
 
 pub data Request : Type 0 where
   -- the commits that the tips reach and the hidden ones don't, in an order, and what is written of them
@@ -141,7 +142,7 @@ files_from shown n (Err e) = Err (fault.Id n)
 
 -- all that is listed, one a line
 abbrev pub all_lines : Shown
-all_lines = record { until = None; merges = merges.Any; skip = 0; limit = None; form = form.Lines; line = record { time = false; parents = false; subject = false; ending = 10 } }
+all_lines = record { until = None; merges = merges.Any; skip = 0; limit = None; form = form.Lines; line = record { id = true; time = false; parents = false; format = no_format; ending = 10 } }
 
 abbrev pub chosen_from : Result Ids Fault → Result Asked Fault
 chosen_from (Ok ids) = Ok (record { shown = all_lines; tips = ids.0; hidden = ids.1 })
@@ -173,30 +174,40 @@ either_of change next other n words None = other n words
 abbrev pub option_of : List ℕ → (Shown → Shown) → (next other : WordReader) → WordReader
 option_of name change next other n words = either_of change next other n words (behind_option name words)
 
+-- what the first word is read as, and the words behind it
+abbrev pub first_value : {X : Type 0} → (read : List ℕ → Option X) → List (List ℕ) → Option (X × List (List ℕ))
+first_value read [] = None
+first_value read (word ∷ words) = option_map (λ x. (x, words)) (read word)
+
+abbrev pub changed_by_value : {X : Type 0} → (X → Shown → Shown) → (next : WordReader) → ℕ → Option (X × List (List ℕ)) → Result Asked Fault
+changed_by_value change next n None = Err fault.Usage
+changed_by_value change next n (Some found) = changed_by (change found.0) (next (n + 2) found.1)
+
+abbrev pub valued_of : {X : Type 0} → (read : List ℕ → Option X) → (X → Shown → Shown)
+    → (next other : WordReader) → ℕ → List (List ℕ) → Option (List (List ℕ)) → Result Asked Fault
+valued_of read change next other n words (Some behind) = changed_by_value change next n (first_value read behind)
+valued_of read change next other n words None = other n words
+
+-- maybe this option and a word that is read as its value, and words for the next reader. Without it the words are for another
+abbrev pub value_option_of : {X : Type 0} → List ℕ → (read : List ℕ → Option X) → (X → Shown → Shown) → (next other : WordReader) → WordReader
+value_option_of name read change next other n words = valued_of read change next other n words (behind_option name words)
+
 -- the number of at most so many digits that the first word spells, and the words behind it
 abbrev pub first_number : (digits : ℕ) → List (List ℕ) → Option (ℕ × List (List ℕ))
-first_number digits [] = None
-first_number digits (number ∷ words) = option_map (λ n. (n, words)) (number_in digits number)
-
-abbrev pub changed_by_number : (ℕ → Shown → Shown) → (next : WordReader) → ℕ → Option (ℕ × List (List ℕ)) → Result Asked Fault
-changed_by_number change next n None = Err fault.Usage
-changed_by_number change next n (Some found) = changed_by (change found.0) (next (n + 2) found.1)
-
-abbrev pub numbered_of : (digits : ℕ) → (ℕ → Shown → Shown) → (next : WordReader) → ℕ → List (List ℕ) → Option (List (List ℕ)) → Result Asked Fault
-numbered_of digits change next n words (Some behind) = changed_by_number change next n (first_number digits behind)
-numbered_of digits change next n words None = next n words
+first_number digits = first_value (number_in digits)
 
 -- maybe this option and a number of at most so many digits, and words for the next reader
 abbrev pub number_option_of : List ℕ → (digits : ℕ) → (ℕ → Shown → Shown) → (next : WordReader) → WordReader
-number_option_of name digits change next n words = numbered_of digits change next n words (behind_option name words)
+number_option_of name digits change next = value_option_of name (number_in digits) change next next
 
 -- ids, the first of them word n, and before them maybe options in one order, each at most once: `--until` and a time, `--merges` or
--- `--no-merges`, `--skip` and a number, `-n` and a limit, `--count` or `--reverse`, `--timestamp`, `--parents`, `--oneline`, `-z`
+-- `--no-merges`, `--skip` and a number, `-n` and a limit, `--count` or `--reverse`, `--format` and a format or maybe `--timestamp`,
+-- `--parents` and `--oneline`, `-z`
 unfoldable pub ended_of : WordReader
 ended_of = option_of (codes "-z") (λ shown. record shown { line = record shown.line { ending = 0 } }) plain_of plain_of
 
 unfoldable pub titled_of : WordReader
-titled_of = option_of (codes "--oneline") (λ shown. record shown { line = record shown.line { subject = true } }) ended_of ended_of
+titled_of = option_of (codes "--oneline") (λ shown. record shown { line = record shown.line { format = packed (codes " %s") } }) ended_of ended_of
 
 unfoldable pub named_of : WordReader
 named_of = option_of (codes "--parents") (λ shown. record shown { line = record shown.line { parents = true } }) titled_of titled_of
@@ -204,10 +215,15 @@ named_of = option_of (codes "--parents") (λ shown. record shown { line = record
 unfoldable pub timed_of : WordReader
 timed_of = option_of (codes "--timestamp") (λ shown. record shown { line = record shown.line { time = true } }) named_of named_of
 
+unfoldable pub formatted_of : WordReader
+formatted_of =
+    value_option_of (codes "--format") format_of (λ format shown. record shown { line = record shown.line { id = false; format = format } })
+    ended_of timed_of
+
 unfoldable pub formed_of : WordReader
 formed_of =
-    option_of (codes "--count") (λ shown. record shown { form = form.Count }) timed_of
-    (option_of (codes "--reverse") (λ shown. record shown { form = form.Reverse }) timed_of timed_of)
+    option_of (codes "--count") (λ shown. record shown { form = form.Count }) formatted_of
+    (option_of (codes "--reverse") (λ shown. record shown { form = form.Reverse }) formatted_of formatted_of)
 
 unfoldable pub limited_of : WordReader
 limited_of = number_option_of (codes "-n") 9 (λ limit shown. record shown { limit = Some limit }) formed_of

@@ -4,7 +4,9 @@
 #![tactic(auto)]
 
 mod fault;
+mod format;
 mod words;
 
 pub use fault::Fault;
+pub use format::Format;
 pub use words::{Command, EntryLines, Form, Line, Merges, Order, Shown, read_command};

@@ -2,9 +2,11 @@
 ghost use Rattle.std.specs.Prelude.{◌≡◌, ◌≤◌, IfSome, map, string_bytes};
 ghost use Rattle.std.specs.List.{list_all};
 ghost use Rattle.std.specs.Option.{option_map};
-ghost use Rattle.gix_words.specs.Words.{Bases, Contained, Containing, Gives, Tells, AddsId, begins_with_caret, begins_with_dash, begins_with_sign, number_in, behind_option, first_number, request_of_command, request_of, order_named, by_first_parents, by_cutoff, ids_from, plain_of, ended_of, titled_of, named_of, timed_of, asked_by, until_of, merges_of, skipped_of, limited_of, formed_of, listed_of, since_of, in_order_of, file_of, ended_files_of, limited_files_of, files_of, ahead_of, is_shown, several_among, several_of, several_in, asked};
+ghost use Rattle.gix_words.specs.Formats.{format_of};
+ghost use Rattle.gix_words.specs.Words.{Bases, Contained, Containing, Gives, Tells, AddsId, begins_with_caret, begins_with_dash, begins_with_sign, number_in, behind_option, first_number, first_value, request_of_command, request_of, order_named, by_first_parents, by_cutoff, ids_from, plain_of, ended_of, titled_of, named_of, timed_of, asked_by, until_of, merges_of, skipped_of, limited_of, formatted_of, formed_of, listed_of, since_of, in_order_of, file_of, ended_files_of, limited_files_of, files_of, ahead_of, is_shown, several_among, several_of, several_in, asked};
 
 use crate::fault::Fault;
+use crate::format::Format;
 use gix_hash::ObjectId;
 use gix_revwalk::{CommitTimeOrder, Parents};
 use gix_simple::Sorting;
@@ -47,15 +49,17 @@ pub enum Form {
     Reverse,
 }
 
-/// What a line of a commit has besides the id.
+/// What a line of a commit has.
 #[derive(Clone, Copy)]
 pub struct Line {
+    /// The id.
+    pub id: bool,
     /// Before it the committer's seconds and a space.
     pub time: bool,
     /// Behind it a space and the id of each parent.
     pub parents: bool,
-    /// Behind these a space and the commit's subject.
-    pub subject: bool,
+    /// Behind these what it says of the commit.
+    pub format: Format,
     /// The byte at its end.
     pub ending: u8,
 }
@@ -135,8 +139,9 @@ pub enum Command {
 /// commits to be hidden, each after a `^`; or `files`, maybe `-n` and a limit, maybe `-z`, and one id; or `ahead` and two ids; or
 /// `contains`, `containing` or `merge-base` and two ids at least. The options come in this order, each at most once: `--first-parent` for
 /// `breadth`, `topo` and `date`, or `--since` and a time for `newest` and `oldest`, `--until` and a time, `--merges` or `--no-merges`,
-/// `--skip` and a number, `-n` and a limit, `--count` or `--reverse`, `--timestamp`, `--parents`, `--oneline`, `-z`. An id is 40 or 64 hex digits, a
-/// time 1 to 10 decimal digits, another number 1 to 9.
+/// `--skip` and a number, `-n` and a limit, `--count` or `--reverse`, `--format` and a format or else `--timestamp`, `--parents`,
+/// `--oneline`, `-z`. An id is 40 or 64 hex digits, a time 1 to 10 decimal digits, another number 1 to 9. A format has 128 bytes at most,
+/// and each `%` in it begins a field: `%H`, `%h`, `%T`, `%P`, `%s`, `%an`, `%ae`, `%ct`, `%ci`, `%n` or `%%`.
 ///
 /// # Errors
 /// `Usage` where the words are no command, as where `files`, `ahead`, `contains`, `containing` or `merge-base` has a word that begins with `^` or `-`. `Id` at
@@ -372,15 +377,33 @@ fn formed(alloc: Global, words: &[String], number: usize) -> Result<Chosen, Faul
     ensures { Gives asked_by result (formed_of number (map string_bytes words.now)) }
 {
     if let Some(behind) = behind_option("--count", words) {
-        let mut chosen = timed(alloc, behind, number + 1)?;
+        let mut chosen = formatted(alloc, behind, number + 1)?;
         chosen.shown.form = Form::Count;
         return Ok(chosen);
     }
     let Some(behind) = behind_option("--reverse", words) else {
+        return formatted(alloc, words, number);
+    };
+    let mut chosen = formatted(alloc, behind, number + 1)?;
+    chosen.shown.form = Form::Reverse;
+    Ok(chosen)
+}
+
+/// What these words choose: maybe `--format` and a format, and then maybe `-z`, or else further options, and ids.
+#[tactic(auto, unfolding(crate::specs::Words::formatted_of))]
+fn formatted(alloc: Global, words: &[String], number: usize) -> Result<Chosen, Fault>
+    requires few { number ≤ 12 }
+    ensures { Gives asked_by result (formatted_of number (map string_bytes words.now)) }
+{
+    let Some(behind) = behind_option("--format", words) else {
         return timed(alloc, words, number);
     };
-    let mut chosen = timed(alloc, behind, number + 1)?;
-    chosen.shown.form = Form::Reverse;
+    let Some((format, behind)) = first_format(behind) else {
+        return Err(Fault::Usage);
+    };
+    let mut chosen = ended(alloc, behind, number + 2)?;
+    chosen.shown.line.id = false;
+    chosen.shown.line.format = format;
     Ok(chosen)
 }
 
@@ -422,7 +445,7 @@ fn titled(alloc: Global, words: &[String], number: usize) -> Result<Chosen, Faul
         return ended(alloc, words, number);
     };
     let mut chosen = ended(alloc, behind, number + 1)?;
-    chosen.shown.line.subject = true;
+    chosen.shown.line.format = Format::subject();
     Ok(chosen)
 }
 
@@ -462,6 +485,17 @@ fn first_number(words: &[String], digits: usize) -> Option<(u64, &[String])>
     };
     let number = number_in(number, digits)?;
     Some((number, behind))
+}
+
+/// The format that the first word is, and the words behind it.
+fn first_format(words: &[String]) -> Option<(Format, &[String])>
+    ensures { option_map (λ found. (found.0, map string_bytes found.1.now)) result ≡ first_value format_of (map string_bytes words.now) }
+{
+    let [format, behind @ ..] = words else {
+        return None;
+    };
+    let format = Format::read(format.as_bytes())?;
+    Some((format, behind))
 }
 
 /// The number that 1 to so many decimal digits spell.
@@ -508,9 +542,10 @@ fn chosen_ids(alloc: Global, ids: &[String], number: usize) -> Result<Chosen, Fa
         limit: None,
         form: Form::Lines,
         line: Line {
+            id: true,
             time: false,
             parents: false,
-            subject: false,
+            format: Format::none(),
             ending: b'\n',
         },
     };

@@ -1,0 +1,151 @@
+-- What a format writes of a commit: `formatted`, at the end. A text is a list of bytes: 10 is a newline, 32 a space, 37 `%`, 45 `-`, 58 `:`,
+-- 60 `<`, 62 `>`.
+use Rattle.std.specs.Prelude.{ℕ, zero, suc, ◌+◌, ◌-◌, ◌*◌, ◌/◌, ◌%◌, ◌==◌, ◌&&◌, ◌||◌, nat_lt, nat_le, nat_eq, ℤ, pos, negsuc, ◌+ℤ◌, ◌-ℤ◌, List, [], ◌∷◌, ◌++◌}
+use Rattle.std.specs.Prelude.{length, map, take, drop, replicate, flat_map, sum, take_while, not, Bool, false, if◌then◌else◌, Option, None, Some, is_some, codes}
+use Rattle.std.specs.Fmt.{digits, signed_decimal}
+use Rattle.std.specs.List.{list_all, starts_with}
+use Rattle.std.specs.Str.{bytes_eq}
+use Rattle.std.specs.Str.Parse.{digits_value}
+use Rattle.hex.specs.Hex.{encode_lower}
+use Rattle.gix_hash.specs.declared.ObjectId.{ObjectId}
+use Rattle.gix_hash.specs.declared.ObjectId.TheVariants.{Sha1, Sha256}
+
+abbrev pub bytes_in : ObjectId → List ℕ
+bytes_in (Sha1 bytes) = bytes
+bytes_in (Sha256 bytes) = bytes
+
+abbrev pub digits_in : ObjectId → ℕ
+digits_in (Sha1 bytes) = 40
+digits_in (Sha256 bytes) = 64
+
+abbrev pub hex : ObjectId → List ℕ
+hex i = encode_lower (bytes_in i)
+
+-- SUBJECTS: a commit's message is what is behind its first empty line, up to a byte 0. Its subject are the lines of that from the first
+-- that isn't blank up to a blank one, each without white space at its end, and with a space before each but the first.
+abbrev pub message : (before : ℕ) → List ℕ → List ℕ
+message before [] = []
+message before (b ∷ text) = if before == 10 && b == 10 then text else message b text
+
+abbrev pub onto : ℕ → List (List ℕ) → List (List ℕ)
+onto b [] = []
+onto b (line ∷ lines) = (b ∷ line) ∷ lines
+
+abbrev pub lines_in : List ℕ → List (List ℕ)
+lines_in [] = [] ∷ []
+lines_in (b ∷ text) = if b == 0 then [] ∷ [] else if b == 10 then [] ∷ lines_in text else onto b (lines_in text)
+
+abbrev pub trimmed : List ℕ → List ℕ
+trimmed [] = []
+trimmed (b ∷ line) = if length (trimmed line) == 0 && (b == 32 || b == 9 || b == 13) then [] else b ∷ trimmed line
+
+abbrev pub from_text : List (List ℕ) → List (List ℕ)
+from_text [] = []
+from_text ([] ∷ lines) = from_text lines
+from_text ((b ∷ line) ∷ lines) = (b ∷ line) ∷ lines
+
+abbrev pub up_to_blank : List (List ℕ) → List ℕ
+up_to_blank [] = []
+up_to_blank ([] ∷ lines) = []
+up_to_blank ((b ∷ line) ∷ lines) = 32 ∷ b ∷ (line ++ up_to_blank lines)
+
+abbrev pub subject : List ℕ → List ℕ
+subject text = drop 1 (up_to_blank (from_text (map trimmed (lines_in (message 10 text)))))
+
+-- PEOPLE: what the last line of a header says that begins with a word. The first empty line ends the header.
+abbrev pub header : (word : List ℕ) → List (List ℕ) → (found : List ℕ) → List ℕ
+header word [] found = found
+header word ([] ∷ lines) found = found
+header word ((b ∷ line) ∷ lines) found = header word lines (if starts_with nat_eq (b ∷ line) word then drop (length word) (b ∷ line) else found)
+
+abbrev pub person : (word : List ℕ) → (text : List ℕ) → List ℕ
+person word text = header word (lines_in text) []
+
+abbrev pub name_in : List ℕ → List ℕ  -- what is before the first `<`, without white space at its end
+name_in said = trimmed (take_while (λ b. not (b == 60)) said)
+
+abbrev pub behind : ℕ → List ℕ → List ℕ  -- what is behind the first such byte
+behind c [] = []
+behind c (b ∷ text) = if b == c then text else behind c text
+
+abbrev pub address_in : List ℕ → List ℕ  -- between the first `<` and the next `>`
+address_in said = take_while (λ b. not (b == 62)) (behind 60 said)
+
+-- DATES: at the end of a committer is how far the clock was ahead of UTC, a sign and hours and minutes of two digits each, or else that is 0.
+abbrev pub is_offset : List ℕ → Bool
+is_offset [] = false
+is_offset (sign ∷ rest) = (sign == 43 || sign == 45) && length rest == 4 && list_all (λ b. nat_le 48 b && nat_le b 57) rest
+
+abbrev pub offset : List ℕ → List ℕ
+offset said = let last = drop (length said - 5) said in if is_offset last && not (bytes_eq last (codes "-0000")) then last else codes "+0000"
+
+abbrev pub from_1970 : ℤ → ℕ  -- a clock before 1970 is set to its first second
+from_1970 (pos n) = n
+from_1970 (negsuc n) = 0
+
+abbrev pub clock : ℤ → List ℕ → ℕ  -- the seconds of such a clock since 1970
+clock time [] = from_1970 time
+clock time (sign ∷ rest) = let seconds = 3600 * digits_value 10 (take 2 rest) + 60 * digits_value 10 (drop 2 rest) in
+    from_1970 (if sign == 45 then time -ℤ pos seconds else time +ℤ pos seconds)
+
+abbrev pub padded : (width : ℕ) → ℕ → List ℕ
+padded width n = let number = digits 10 false n in replicate (width - length number) 48 ++ number
+
+abbrev pub months : (year : ℕ) → List ℕ  -- how many days each has
+months year = 31 ∷ (if year % 4 == 0 && (not (year % 100 == 0) || year % 400 == 0) then 29 else 28) ∷ 31 ∷ 30 ∷ 31 ∷ 30 ∷ 31 ∷ 31 ∷ 30 ∷ 31 ∷ 30 ∷ 31 ∷ []
+
+abbrev pub month_and_day : (month : ℕ) → (months : List ℕ) → (days : ℕ) → List ℕ  -- so many days behind the first of the month
+month_and_day month [] days = []
+month_and_day month (n ∷ others) days =
+    if nat_lt days n then padded 2 month ++ 45 ∷ padded 2 (suc days) else month_and_day (suc month) others (days - n)
+
+abbrev pub date : (years year days : ℕ) → List ℕ  -- so many days behind the first of the year, in one of so many years
+date zero year days = []
+date (suc years) year days =
+    if nat_lt days (sum (months year)) then padded 4 year ++ 45 ∷ month_and_day 1 (months year) days else date years (suc year) (days - sum (months year))
+
+-- as `2005-04-07 15:13:13 -0700`: dates come again after 400 years, which are 146097 days
+abbrev pub date_and_time : ℤ → (offset : List ℕ) → List ℕ
+date_and_time time offset = let now = clock time offset in let day = now / 86400 in let second = now % 86400 in
+    date 400 (1970 + 400 * (day / 146097)) (day % 146097) ++ 32 ∷ (padded 2 (second / 3600) ++ 58 ∷ (padded 2 (second / 60 % 60)
+    ++ 58 ∷ (padded 2 (second % 60) ++ 32 ∷ offset)))
+
+-- FIELDS of a commit: each has a name of two bytes. A letter behind a `%` is one, and behind `%a` or `%c` a letter with this `a` or `c`.
+pub record Commit : Type 0 where
+  pub id : ObjectId
+  pub parents : List ObjectId
+  pub time : ℤ
+  pub text : List ℕ
+
+abbrev pub fields : List (List ℕ × (Commit → List ℕ))
+fields = (codes "%%", λ c. codes "%") ∷ (codes "%n", λ c. 10 ∷ []) ∷ (codes "%H", λ c. hex c.id) ∷ (codes "%h", λ c. take 10 (hex c.id))
+    ∷ (codes "%T", λ c. take (digits_in c.id) (drop 5 c.text)) ∷ (codes "%P", λ c. drop 1 (flat_map (λ p. 32 ∷ hex p) c.parents))
+    ∷ (codes "%s", λ c. subject c.text) ∷ (codes "an", λ c. name_in (person (codes "author ") c.text))
+    ∷ (codes "ae", λ c. address_in (person (codes "author ") c.text)) ∷ (codes "ct", λ c. signed_decimal c.time)
+    ∷ (codes "ci", λ c. date_and_time c.time (offset (person (codes "committer ") c.text))) ∷ []
+
+abbrev pub field_among : List (List ℕ × (Commit → List ℕ)) → (name : List ℕ) → Option (Commit → List ℕ)
+field_among [] name = None
+field_among ((own, value) ∷ others) name = if bytes_eq own name then Some value else field_among others name
+
+abbrev pub field : (before letter : ℕ) → Option (Commit → List ℕ)
+field before letter = field_among fields (before ∷ letter ∷ [])
+
+abbrev pub said : Option (Commit → List ℕ) → Commit → List ℕ
+said None c = []
+said (Some value) c = value c
+
+-- FORMATS: fields, and other bytes as they are. Behind the first byte of a field's name the rest has that before it, and else 0.
+abbrev pub is_format : (before : ℕ) → List ℕ → Bool
+is_format before [] = before == 0
+is_format before (b ∷ text) =
+    if before == 0 then is_format (if b == 37 then 37 else 0) text
+    else if before == 37 && (b == 97 || b == 99) then is_format b text
+    else is_some (field before b) && is_format 0 text
+
+abbrev pub formatted : Commit → (before : ℕ) → List ℕ → List ℕ
+formatted c before [] = []
+formatted c before (b ∷ text) =
+    if before == 0 then (if b == 37 then formatted c 37 text else b ∷ formatted c 0 text)
+    else if before == 37 && (b == 97 || b == 99) then formatted c b text
+    else said (field before b) c ++ formatted c 0 text
