@@ -13,7 +13,7 @@ use Rattle.gix_batches.specs.declared.commit.CommitId.{CommitId}
 use Rattle.gix_batches.specs.declared.commit.Ending.{Ending}
 use Rattle.gix_batches.specs.declared.commit.Ending.TheVariants.{Ended, More, Small, Failed}
 use Rattle.gix_revwalk.specs.Infos.{given}
-use Rattle.gix_commands.specs.Walked.{AsksForMore, Ends, EndsBy, before, enough, failed as fell, finished, cut_short}
+use Rattle.gix_commands.specs.Walked.{Any, AsksForMore, Ends, EndsBy, before, enough, failed as fell, finished, cut_short, unstored}
 use Rattle.gix_batches.specs.Draws.{Draws, ended, failed, more, small, Fills, FillsFront, Holds, IsFull, IsOver, IsSkipped, Passes, ending_at, ids_given, least_of, most_of}
 use Rattle.gix_batches.specs.Slices.{Told, commit_of, commits_of, id_of, ids_of, told_by, told_of}
 use Rattle.gix_batches.proofs.Slots.{put_next}
@@ -113,12 +113,12 @@ module _ {W E : Type 0} (Steps : W → Option (Result Info E) → W → Type 0) 
   pub drawn_one : (walk at new : W) (infos : List Info) (answer : Result Info E) (info : Info) → Yields Steps walk (given infos) at → Steps at (Some answer) new → answer ≡ Ok info → Yields Steps walk (given (infos ++ info ∷ [])) new
   drawn_one walk at new infos answer info h step is = given_more walk at new infos (info ∷ []) h (new, subst (λ (a : Result Info E). Steps at (Some a) new) is step, refl)
 
-  pub by_limit : (limit : Option ℕ) (walk : W) (infos : List Info) {answer : Result (Unit {0}) Fault} → AsksForMore limit (length infos) → Ends Steps Tells walk infos answer → EndsBy Steps Tells ids_given limit walk infos answer
+  pub by_limit : (limit : Option ℕ) (walk : W) (infos : List Info) {answer : Result (Unit {0}) Fault} → AsksForMore limit (length infos) → Ends Steps Tells Any walk infos answer → EndsBy Steps Tells Any ids_given limit walk infos answer
   by_limit None walk infos asks ends = ends
   by_limit (Some n) walk infos asks ends = before ends (omega (arith, asks, many infos))
 
   -- a fault came
-  pub fault_came : (walk at new : W) (infos : List Info) (answer : Result Info E) (e : E) (f : Fault) → Yields Steps walk (given infos) at → Steps at (Some answer) new → answer ≡ Err e → Tells e f → Ends Steps Tells walk infos (Err f)
+  pub fault_came : (walk at new : W) (infos : List Info) (answer : Result Info E) (e : E) (f : Fault) → Yields Steps walk (given infos) at → Steps at (Some answer) new → answer ≡ Err e → Tells e f → Ends Steps Tells Any walk infos (Err f)
   fault_came walk at new infos answer e f h step is tells = fell e f new (at, h, subst (λ (a : Result Info E). Steps at (Some a) new) is step) tells
 
   -- the parents of the next commit don't fit
@@ -200,10 +200,11 @@ module _ {W E : Type 0} (Steps : W → Option (Result Info E) → W → Type 0) 
 
     -- what is drawn behind them
     module _ (mid : W) (some : List Info) (passed : Yields Steps walk (given some) mid) (infos : List Info) where
-      ends_more : {answer : Result (Unit {0}) Fault} → Ends Steps Tells mid infos answer → Ends Steps Tells walk (some ++ infos) answer
+      ends_more : {answer : Result (Unit {0}) Fault} → Ends Steps Tells Any mid infos answer → Ends Steps Tells Any walk (some ++ infos) answer
       ends_more (finished last h) = finished last (h.0, given_more walk mid h.0 some infos passed h.1, h.2)
       ends_more (fell e f last h tells) = fell e f last (h.0, given_more walk mid h.0 some infos passed h.1, h.2) tells
       ends_more (cut_short info last h) = cut_short info last (h.0, given_more walk mid h.0 some infos passed h.1, h.2)
+      ends_more (unstored info last h none) = absurd (none tt)
 
       both : length (some ++ infos) ≡ length some + length infos
       both = length-append some infos

@@ -1,5 +1,5 @@
 -- What the slices hold is what the page promises of the records.
-use Rattle.std.proofs.Common.{◌≡◌, ◌≢◌, ◌<◌, ℕ, Bool, false, List, [], ◌∷◌, ◌++◌, flat_map, Option, Some, None, Result, Ok, Err, IfErr, IfOk, refl, sym, ap, subst, ◌∙◌, inl, inr, arith}
+use Rattle.std.proofs.Common.{◌≡◌, ◌≢◌, ◌<◌, ℕ, ℤ, Bool, true, false, List, [], ◌∷◌, ◌++◌, flat_map, Option, Some, None, Result, Ok, Err, IfErr, IfOk, refl, sym, ap, subst, ◌∙◌, inl, inr, arith}
 use Rattle.std.specs.List.{AllByRecursion}
 use Rattle.std.proofs.lemmas.List.{length-map, map-append}
 use Rattle.gix_hash.specs.declared.ObjectId.{ObjectId}
@@ -13,7 +13,7 @@ use Rattle.gix_revwalk.specs.Commits.{time_of}
 use Rattle.gix_revwalk.specs.Texts.{text_next}
 use Rattle.gix_revwalk.specs.declared.Info.{Info}
 use Rattle.gix_statement.specs.WholeStatement as page
-use Rattle.gix_statement.specs.WholeStatement.{AreFed, Entry, IsCommit, IsTree, Lists, Row, id_line}
+use Rattle.gix_statement.specs.WholeStatement.{AreFed, IsCommit, Lists, Row, id_line, lists}
 use Rattle.gix_statement.proofs.LinesOnce.{IsSpelled, fed_spelled}
 use Rattle.gix_words.specs.Words.{Commits, Request, request_of}
 use Rattle.gix_words.specs.declared.fault.Fault.{Fault}
@@ -31,7 +31,7 @@ use Rattle.gix_words.specs.Words.{request_of_command}
 use Rattle.gix_words.specs.declared.words.Command.{Command}
 use Rattle.gix_words.specs.declared.words.Command.TheVariants as command_of
 use Rattle.gix_commands.specs.Checked.{CheckedWalk, Checks}
-use Rattle.gix_commands.specs.Chosen.{fresh_choosing, kept_in, line_in}
+use Rattle.gix_commands.specs.Chosen.{HasObject, HasText, fresh_choosing, kept_in, line_in}
 use Rattle.gix_commands.specs.Output.{WritesBegun, written}
 use Rattle.gix_commands.specs.TopoWalked as topo
 use Rattle.gix_commands.specs.Pages.{page_objects}
@@ -39,14 +39,14 @@ use Rattle.gix_commands.specs.Readable.{readable, reads_all_lines}
 use Rattle.gix_commands.specs.Run.{Runs, Serves, served}
 use Rattle.gix_commands.specs.StoredRuns as stored_runs
 use Rattle.gix_commands.specs.StoredRuns.{RunsStored}
-use Rattle.gix_commands.specs.Walked.{Answers, EndsBy, IsWalkFault}
+use Rattle.gix_commands.specs.Walked.{Answers, Any, EndsBy, IsWalkFault}
 use Rattle.gix_commands.proofs.GivenRuns.{records_unread, serves_unread, words_unread}
 use Rattle.gix_commands.proofs.ReadableTexts.{have_texts, bytes_kept, text_kept, tree_kept}
 use Rattle.gix_commands.proofs.MemoryFaults.{failed_so}
 use Rattle.gix_commands.proofs.RightRuns.{unrowed_read}
 use Rattle.gix_commands.proofs.RunFacts.{runs_input, runs_sound, runs_words, serves_checked, serves_sound, serves_topo, serves_walk, without_rows}
 use Rattle.gix_commands.proofs.SameCommits.{are_fed}
-use Rattle.gix_commands.proofs.SameCommitsThere.{each_on, lists_on}
+use Rattle.gix_commands.proofs.GivenObjects.{HasAll, each_on, here_on, same_bytes, texts_on}
 use Rattle.gix_commands.proofs.SameWords.{AreWordsOf, are_words}
 use Rattle.gix_batches.specs.declared.commit.Batch.{Batch}
 use Rattle.gix_batches.specs.declared.commit.Commit.{Commit}
@@ -57,7 +57,7 @@ use Rattle.gix_batches.specs.Batches.{AsksForNone, Fails, FailsOver, IfFailed, I
 use Rattle.gix_batches.specs.Draws.{Draws, Fills, IsSkipped, failed, ids_given}
 use Rattle.gix_batches.specs.Slices.{Told, told_by, told_of}
 use Rattle.gix_batches.specs.Walks.{FillsBy, IsItself, breadth, down, timed}
-use Rattle.gix_batches.proofs.ShownWalks.{IsNextGood, all_kept, shown_breadth, shown_down, shown_timed}
+use Rattle.gix_batches.proofs.ShownWalks.{IsNextGood, all_kept, any_by, shown_breadth, shown_down, shown_timed}
 use Rattle.gix_batches.proofs.ToldWords.{says_id}
 use Rattle.gix_batches.proofs.Unwritten.{checked_by, records_unwritten, simple_by, topo_by, words_unwritten}
 
@@ -77,19 +77,21 @@ module _ (all_lines : Bool) (objects : Objects) (words : List (List ℕ)) where
   commit_on r (inl text) = inl (text_kept all_lines objects r text)
   commit_on r (inr (none, c)) = absurd (no_member r c)
 
-  tree_on : (i : ObjectId) (entries : List Entry) → IsTree (page_objects seen) i entries → IsTree (page_objects objects) i entries
-  tree_on = tree_kept all_lines objects
+  told_on : (told : List Told) → AllByRecursion (IsTold (page_objects seen) words) told → AllByRecursion (IsTold (page_objects objects) words) told
+  told_on [] all = tt
+  told_on (t ∷ told) ((r, text, says), all) = ((r, text_kept all_lines objects r text, says), told_on told all)
 
-  texts_on : (told : List Told) → AllByRecursion (IsTold (page_objects seen) words) told → AllByRecursion (IsTold (page_objects objects) words) told
-  texts_on [] all = tt
-  texts_on (t ∷ told) ((r, text, says), all) = ((r, text_kept all_lines objects r text, says), texts_on told all)
+  on : HasAll (page_objects seen) Any (page_objects objects) []
+  on = record { commit = commit_on; tree = tree_kept all_lines objects; text = λ i any there. bytes_kept all_lines objects i there }
+
+  lists_on : (ps : ObjectId → List ObjectId) (ts : ObjectId → ℤ) (bytes : List ℕ) (ended : Bool) (asked : List (List ℕ)) → Lists (page_objects seen) [] ps ts bytes ended asked → Lists (page_objects objects) [] ps ts bytes ended asked
+  lists_on ps ts bytes ended asked (lists option more c ids named chooses some follows there texts begins allows all may is_written) =
+      lists option more c ids named chooses some follows (λ k d few. here_on on _ (there k d few)) (texts_on on c ids (λ e i m. tt) there) begins allows all may (is_written ∙ same_bytes on ps ts c ids (λ e i m. tt) there)
 
   pub shows_on : (told : List Told) (ended : Bool) → Shows (page_objects seen) words told ended → Shows (page_objects objects) words told ended
   shows_on told ended s = record {
-    lists = each_on (page_objects seen) (page_objects objects) [] [] commit_on tree_on
-        (λ ps ts. Lists (page_objects seen) [] ps ts (flat_map (λ (t : Told). id_line t.id) told) ended words) (λ ps ts. Lists (page_objects objects) [] ps ts (flat_map (λ (t : Told). id_line t.id) told) ended words)
-        (λ ps ts. lists_on (page_objects seen) (page_objects objects) [] [] commit_on tree_on ps ts (flat_map (λ (t : Told). id_line t.id) told) ended words words (λ _. bytes_kept all_lines objects) refl) s.lists;
-    texts = texts_on told s.texts;
+    lists = each_on on (λ ps ts h. lists_on ps ts (flat_map (λ (t : Told). id_line t.id) told) ended words (s.lists ps ts h));
+    texts = told_on told s.texts;
   }
 
 -- each id that has a text is spelled
@@ -106,7 +108,7 @@ told_skipped skip some infos ending (inr (less, none, over)) = inr (subst (λ n.
 
 -- a served run that fails for no writer is why a batch fails
 abbrev pub OfServed : Objects → (Fault → Type 0) → Request → Type 0
-OfServed objects FailsSo request = (e : Fault) (lines : List ℕ) → Serves (readable (reads_all_lines request) objects) [] (Some []) request (Err e) (Some lines)
+OfServed objects FailsSo request = (e : Fault) (lines : List ℕ) → Serves (HasObject objects []) (readable (reads_all_lines request) objects) [] (Some []) request (Err e) (Some lines)
     → e ≢ fault.Write → FailsSo e
 
 -- over objects that are given so
@@ -147,8 +149,8 @@ module _ (words : List (List ℕ)) (objects : Objects) (AreGiven : page.Objects 
             full = f.full;
           })
 
-      module _ (of_served : OfServed objects FailsSo request) (lines : List Info → List ℕ) (serves : (infos : List Info) (e : Fault) → EndsBy Steps Tells ids_given limit walk infos (Err e) → Serves read [] (Some []) request (Err e) (Some (lines infos)))
-          (unwritten : (infos : List Info) (e : Fault) → EndsBy Steps Tells ids_given limit walk infos (Err e) → e ≢ fault.Write) where
+      module _ (of_served : OfServed objects FailsSo request) (lines : List Info → List ℕ) (serves : (infos : List Info) (e : Fault) → EndsBy Steps Tells Any ids_given limit walk infos (Err e) → Serves (HasObject objects []) read [] (Some []) request (Err e) (Some (lines infos)))
+          (unwritten : (infos : List Info) (e : Fault) → EndsBy Steps Tells Any ids_given limit walk infos (Err e) → e ≢ fault.Write) where
         fails_so : (infos : List Info) (ending : Ending) → Draws Steps Tells limit walk infos ending → IfFailed FailsSo ending
         fails_so infos Ended d = tt
         fails_so infos More d = tt
@@ -183,10 +185,11 @@ module _ (words : List (List ℕ)) (objects : Objects) (AreGiven : page.Objects 
     lines_by o infos = flat_map (line_in o shown_all) (kept_in o shown_all infos)
 
     module _ {W E : Type 0} (Steps : W → Option (Result Info E) → W → Type 0) (Tells : E → Fault → Type 0) (o : Objects) (walk : W) where
-      writes_lines : (infos : List Info) (e : Fault) → EndsBy Steps Tells ids_given limit walk infos (Err e) → WritesBegun Steps Tells (kept_in o shown_all) limit (line_in o shown_all) form.Lines walk (Some []) (Err e) (Some (lines_by o infos))
+      writes_lines : (infos : List Info) (e : Fault) → EndsBy Steps Tells Any ids_given limit walk infos (Err e) → WritesBegun Steps Tells (HasText (HasObject objects []) shown_all) (kept_in o shown_all) limit (line_in o shown_all) form.Lines walk (Some []) (Err e) (Some (lines_by o infos))
       writes_lines infos e ends = written (record {
         infos = infos;
-        ends = subst (λ (those : List Info → List ObjectId). EndsBy Steps Tells those limit walk infos (Err e)) (λ k xs. sym (all_kept limit (text_next o) (time_of o) (ids_given xs)) k) ends;
+        ends = any_by (HasText (HasObject objects []) shown_all) (kept_in o shown_all) limit (Err e) (subst (λ (those : List Info → List ObjectId). EndsBy Steps Tells Any those limit walk infos (Err e)) (λ k xs. sym (all_kept limit (text_next o) (time_of o) (ids_given xs)) k) ends);
+        have = λ info c e. let no : false ≡ true = e in cc;
         writes = refl;
       })
 
@@ -196,7 +199,7 @@ module _ (words : List (List ℕ)) (objects : Objects) (AreGiven : page.Objects 
         let o = seen_by (Simple m sorting.BreadthFirst) in
         both_so words objects AreGiven given spelled FailsSo skip old new rooms filled request Answers IsWalkFault limit walk batch f
         (subst (ShowsDrawn o Answers IsWalkFault limit walk) (sym is) (shown_breadth o (none_agree o [] refl) (unrowed_read o) name option rest limit tips hidden some place chooses m sorting.BreadthFirst named chosen (have_texts request objects) walk starts refl))
-        how (lines_by o) (λ infos e ends. serves_walk o [] (Some []) m sorting.BreadthFirst shown_all tips hidden (Some (lines_by o infos)) walk (fresh_choosing o shown_all) refl refl starts (Err e) (writes_lines Answers IsWalkFault o walk infos e ends))
+        how (lines_by o) (λ infos e ends. serves_walk objects o [] (Some []) m sorting.BreadthFirst shown_all tips hidden (Some (lines_by o infos)) walk (fresh_choosing o objects [] shown_all) refl refl starts (Err e) (writes_lines Answers IsWalkFault o walk infos e ends))
         (simple_by limit walk)
     by_order order how (name, option, rest, is, named, chosen, place, chooses, some) (timed {m = m} {by = by} walk other starts f) =
         let request = Commits (Simple m by) shown_all tips hidden in
@@ -204,14 +207,14 @@ module _ (words : List (List ℕ)) (objects : Objects) (AreGiven : page.Objects 
         let checked : CheckedWalk = record { walk = walk; objects = o; rows = []; lost = None } in
         both_so words objects AreGiven given spelled FailsSo skip old new rooms filled request Checks IsItself limit checked batch f
         (subst (ShowsDrawn o Checks IsItself limit checked) (sym is) (shown_timed o (none_agree o [] refl) (unrowed_read o) name option rest limit tips hidden some place chooses m by named chosen (have_texts request objects) walk starts))
-        how (lines_by o) (λ infos e ends. serves_checked o [] (Some []) m by shown_all tips hidden (Some (lines_by o infos)) walk checked (fresh_choosing o shown_all) refl refl other starts (Err e) (writes_lines Checks IsItself o checked infos e ends))
+        how (lines_by o) (λ infos e ends. serves_checked objects o [] (Some []) m by shown_all tips hidden (Some (lines_by o infos)) walk checked (fresh_choosing o objects [] shown_all) refl refl other starts (Err e) (writes_lines Checks IsItself o checked infos e ends))
         (checked_by o walk limit)
     by_order order how (name, option, rest, is, named, chosen, place, chooses, some) (down {m = m} {by = by} walk built f) =
         let request = Commits (Topo m by) shown_all tips hidden in
         let o = seen_by (Topo m by) in
         both_so words objects AreGiven given spelled FailsSo skip old new rooms filled request topo.Answers topo.IsWalkFault limit walk batch f
         (subst (ShowsDrawn o topo.Answers topo.IsWalkFault limit walk) (sym is) (shown_down o (none_agree o [] refl) (unrowed_read o) name option rest limit tips hidden some place chooses m by named chosen (have_texts request objects) walk built))
-        how (lines_by o) (λ infos e ends. serves_topo o [] (Some []) m by shown_all tips hidden (Some (lines_by o infos)) walk (fresh_choosing o shown_all) refl built (Err e) (writes_lines topo.Answers topo.IsWalkFault o walk infos e ends))
+        how (lines_by o) (λ infos e ends. serves_topo objects o [] (Some []) m by shown_all tips hidden (Some (lines_by o infos)) walk (fresh_choosing o objects [] shown_all) refl built (Err e) (writes_lines topo.Answers topo.IsWalkFault o walk infos e ends))
         (topo_by limit walk)
 
   -- THE LAW: what a walk filled is promised
@@ -234,11 +237,11 @@ module _ (words : List (List ℕ)) (objects : Objects) (AreGiven : page.Objects 
     filled_fails skip old new rooms filled (Err e) f = tt
 
     -- and what one answers that couldn't
-    pub unstarted_fails : (result : Result Batch Fault) → IfErr result (λ e. Serves (readable (reads_all_lines (Commits order (all_lines_to limit) tips hidden)) (with_rows [] objects)) [] (Some []) (Commits order (all_lines_to limit) tips hidden) (Err e) (Some []))
+    pub unstarted_fails : (result : Result Batch Fault) → IfErr result (λ e. Serves (HasObject objects []) (readable (reads_all_lines (Commits order (all_lines_to limit) tips hidden)) (with_rows [] objects)) [] (Some []) (Commits order (all_lines_to limit) tips hidden) (Err e) (Some []))
         → IfErr result (λ e. e ≢ fault.Write) → IfErr result FailsSo
     unstarted_fails (Ok batch) s unwritten = tt
     unstarted_fails (Err e) s unwritten =
-        how e [] (subst (λ (o : Objects). Serves (readable (reads_all_lines (Commits order (all_lines_to limit) tips hidden)) o) [] (Some []) (Commits order (all_lines_to limit) tips hidden) (Err e) (Some [])) (without_rows objects) s) unwritten
+        how e [] (subst (λ (o : Objects). Serves (HasObject objects []) (readable (reads_all_lines (Commits order (all_lines_to limit) tips hidden)) o) [] (Some []) (Commits order (all_lines_to limit) tips hidden) (Err e) (Some [])) (without_rows objects) s) unwritten
 
 -- RECORDS: why a batch over them fails
 module _ (words : List (List ℕ)) (records : List ℕ) where
@@ -263,7 +266,7 @@ module _ (words : List (List ℕ)) (records : List ℕ) where
 
     pub served_fails : (order : Order) (limit : Option ℕ) (tips hidden : List ObjectId) → request_of words ≡ Ok (Commits order (all_lines_to limit) tips hidden) → IsServed words objects (AreFed (Some records)) is_fed fed_so (Fails words records) limit tips hidden order
     served_fails order limit tips hidden asked e lines s unwritten =
-        as_run e lines (served (Commits order (all_lines_to limit) tips hidden) read.0 read.1 asked read.2 read.3 (subst (λ (o : Objects). Serves (readable (reads_all_lines (Commits order (all_lines_to limit) tips hidden)) o) [] (Some []) (Commits order (all_lines_to limit) tips hidden) (Err e) (Some lines)) read.4 s))
+        as_run e lines (served (Commits order (all_lines_to limit) tips hidden) read.0 read.1 asked read.2 read.3 (subst (λ (o : Objects). Serves (HasObject o []) (readable (reads_all_lines (Commits order (all_lines_to limit) tips hidden)) o) [] (Some []) (Commits order (all_lines_to limit) tips hidden) (Err e) (Some lines)) read.4 s))
         (λ same. serves_unread s (ap (λ x. Err x) same)) unwritten
 
 -- OBJECTS that are there: why a batch over them fails
@@ -279,7 +282,7 @@ module _ (words : List (List ℕ)) (objects : Objects) where
     served_over order limit tips hidden asked e lines s unwritten =
         runs_over lines
         (stored_runs.served (Commits order (all_lines_to limit) tips hidden) asked (λ i row l. absurd (omega (arith, l))) (λ row object c. absurd (no_member row c))
-        (subst (λ (o : Objects). Serves (readable (reads_all_lines (Commits order (all_lines_to limit) tips hidden)) o) [] (Some []) (Commits order (all_lines_to limit) tips hidden) (Err e) (Some lines)) (sym (without_rows objects)) s))
+        (subst (λ (o : Objects). Serves (HasObject objects []) (readable (reads_all_lines (Commits order (all_lines_to limit) tips hidden)) o) [] (Some []) (Commits order (all_lines_to limit) tips hidden) (Err e) (Some lines)) (sym (without_rows objects)) s))
         (λ same. serves_unread s (ap (λ x. Err x) same)) unwritten
         (λ same. serves_sound (none_agree (readable (reads_all_lines (Commits order (all_lines_to limit) tips hidden)) objects) [] refl) s (ap (λ x. Err x) same))
 

@@ -23,9 +23,10 @@ use Rattle.gix_commands.specs.Chosen.{kept_in, page_choice}
 use Rattle.gix_commands.specs.Pages.{HaveTexts, page_objects}
 use Rattle.gix_commands.specs.TopoWalked as topo
 use Rattle.gix_revwalk.specs.Infos.{given}
-use Rattle.gix_commands.specs.Walked.{Walk, Answers, AsksForMore, Ends, EndsBy, IsWalkFault, StartsFrom, before, cut_short, enough, failed as fell, finished}
+use Rattle.gix_commands.specs.Walked.{Walk, Answers, Any, AsksForMore, Ends, EndsBy, IsWalkFault, StartsFrom, before, cut_short, enough, failed as fell, finished, unstored}
 use Rattle.gix_commands.proofs.CheckedWalks.{IsChecked, enough_on, from_by, well, lacking}
 use Rattle.gix_commands.proofs.CommitRuns.{ids_in}
+use Rattle.gix_commands.proofs.GivenObjects.{itself}
 use Rattle.gix_commands.proofs.RightRuns.{AreRead, down_there, simple_there}
 use Rattle.gix_commands.proofs.RightSimple as simple
 use Rattle.gix_commands.proofs.RightTopo as down
@@ -44,19 +45,33 @@ use Rattle.gix_batches.proofs.ToldWords.{behind_free, says_down, says_simple}
 
 -- what a walk gave, however it ended
 module _ {W E : Type 0} (Steps : W → Option (Result Info E) → W → Type 0) (Tells : E → Fault → Type 0) (walk : W) (infos : List Info) where
-  ends_drawn : {answer : Result (Unit {0}) Fault} → Ends Steps Tells walk infos answer → (at : W) × Yields Steps walk (given infos) at
+  ends_drawn : {answer : Result (Unit {0}) Fault} → Ends Steps Tells Any walk infos answer → (at : W) × Yields Steps walk (given infos) at
   ends_drawn (finished last h) = (h.0, h.1)
   ends_drawn (fell e f last h tells) = (h.0, h.1)
   ends_drawn (cut_short info last h) = (h.0, h.1)
+  ends_drawn (unstored info last h none) = (h.0, h.1)
 
-  pub by_drawn : (limit : Option ℕ) (answer : Result (Unit {0}) Fault) → EndsBy Steps Tells ids_given limit walk infos answer → (at : W) × Yields Steps walk (given infos) at
+  pub by_drawn : (limit : Option ℕ) (answer : Result (Unit {0}) Fault) → EndsBy Steps Tells Any ids_given limit walk infos answer → (at : W) × Yields Steps walk (given infos) at
   by_drawn None answer ends = ends_drawn ends
   by_drawn (Some n) answer (enough at h e) = (at, h)
   by_drawn (Some n) answer (before ends less) = ends_drawn ends
 
-  failed_asks : (limit : Option ℕ) (f : Fault) → EndsBy Steps Tells ids_given limit walk infos (Err f) → AsksForMore limit (length infos)
+  failed_asks : (limit : Option ℕ) (f : Fault) → EndsBy Steps Tells Any ids_given limit walk infos (Err f) → AsksForMore limit (length infos)
   failed_asks None f ends = tt
   failed_asks (Some n) f (before ends less) = omega (arith, less, many infos)
+
+-- what nothing was asked of has what is asked
+module _ {W E : Type 0} {Steps : W → Option (Result Info E) → W → Type 0} {Tells : E → Fault → Type 0} (Has : ObjectId → Type 0) {walk : W} {infos : List Info} where
+  any_ends : {answer : Result (Unit {0}) Fault} → Ends Steps Tells Any walk infos answer → Ends Steps Tells Has walk infos answer
+  any_ends (finished last h) = finished last h
+  any_ends (fell e f last h tells) = fell e f last h tells
+  any_ends (cut_short info last h) = cut_short info last h
+  any_ends (unstored info last h none) = absurd (none tt)
+
+  pub any_by : (those : List Info → List ObjectId) (limit : Option ℕ) (answer : Result (Unit {0}) Fault) → EndsBy Steps Tells Any those limit walk infos answer → EndsBy Steps Tells Has those limit walk infos answer
+  any_by those None answer ends = any_ends ends
+  any_by those (Some n) answer (enough at h e) = enough at h e
+  any_by those (Some n) answer (before ends less) = before (any_ends ends) less
 
 within_one : (limit : Option ℕ) (infos : List Info) (next : Info) → AsksForMore limit (length infos) → Allows limit (length (infos ++ next ∷ []))
 within_one None infos next asks = tt
@@ -80,7 +95,7 @@ module _ {W E : Type 0} (Steps : W → Option (Result Info E) → W → Type 0) 
   front walk [] next at h = (walk, refl)
   front walk (i ∷ infos) next at h = let m = front h.0 infos next at h.2 in (m.0, (h.0, h.1, m.1))
 
-  module _ (Tells : E → Fault → Type 0) (limit : Option ℕ) (walk : W) (Good : Bool → List Info → Type 0) (of_ended : (infos : List Info) → EndsBy Steps Tells ids_given limit walk infos (Ok tt) → Good true infos)
+  module _ (Tells : E → Fault → Type 0) (limit : Option ℕ) (walk : W) (Good : Bool → List Info → Type 0) (of_ended : (infos : List Info) → EndsBy Steps Tells Any ids_given limit walk infos (Ok tt) → Good true infos)
       (of_begun : (infos : List Info) (at : W) → Yields Steps walk (given infos) at → Allows limit (length infos) → Good false infos) where
     pub shown : (infos : List Info) (ending : Ending) → Draws Steps Tells limit walk infos ending → Good (has_ended ending) infos × IsNextGood Good infos ending
     shown infos Ended (ended ends) = (of_ended infos ends, tt)
@@ -125,17 +140,17 @@ module _ (objects : Objects) (agrees : IsAgreeing objects []) (read : AreRead ob
         shows_read objects asked (by_mode m) (time_if (time_order m by)) (λ r. says_simple r name option rest (behind_free tips hidden chooses) m by named chosen_by) all infos (each_line all infos l) l.0
         (read_simple objects agrees m by tips hidden walk starts infos last drawn)
 
-    ended_good : (infos : List Info) → EndsBy Answers IsWalkFault ids_given limit walk infos (Ok tt) → GoesOnWhole objects [] by limit (length infos) infos → Good true infos
+    ended_good : (infos : List Info) → EndsBy Answers IsWalkFault Any ids_given limit walk infos (Ok tt) → GoesOnWhole objects [] by limit (length infos) infos → Good true infos
     ended_good infos ends whole =
         let d = by_drawn Answers IsWalkFault walk infos limit (Ok tt) ends in
         good true infos d.0 d.1
-        (simple.ended_so objects [] agrees m by tips hidden some (simple_there objects [] agrees read None (Commits (Simple m by) shown_all tips hidden) have m by shown_all tips hidden refl) name option rest named chosen_by shown_all place chooses limit refl walk starts infos
-        (subst (λ (those : List Info → List ObjectId). EndsBy Answers IsWalkFault those limit walk infos (Ok tt)) (sym kept_so) ends) (subst (λ n. GoesOnWhole objects [] by limit n infos) (sym (number_so infos)) whole))
+        (simple.ended_so objects [] agrees m by tips hidden some (simple_there objects [] agrees read Any (page_objects objects) [] (itself (page_objects objects)) None (Commits (Simple m by) shown_all tips hidden) have m by shown_all tips hidden refl) Any (page_objects objects) [] (itself (page_objects objects)) name option rest named chosen_by shown_all place chooses limit refl walk starts infos (λ info c e. tt)
+        (subst (λ (those : List Info → List ObjectId). EndsBy Answers IsWalkFault Any those limit walk infos (Ok tt)) (sym kept_so) ends) (subst (λ n. GoesOnWhole objects [] by limit n infos) (sym (number_so infos)) whole))
 
     begun_good : (infos : List Info) (last : Walk) → Yields Answers walk (given infos) last → Allows limit (length infos) → (by ≢ sorting.BreadthFirst → HaveParents objects [] (take (length infos - 1) infos)) → Good false infos
     begun_good infos last drawn within parents =
         good false infos last drawn
-        (simple.begun_so objects [] agrees m by tips hidden some (simple_there objects [] agrees read None (Commits (Simple m by) shown_all tips hidden) have m by shown_all tips hidden refl) name option rest named chosen_by shown_all place chooses refl walk starts infos last drawn
+        (simple.begun_so objects [] agrees m by tips hidden some (simple_there objects [] agrees read Any (page_objects objects) [] (itself (page_objects objects)) None (Commits (Simple m by) shown_all tips hidden) have m by shown_all tips hidden refl) Any (page_objects objects) [] (itself (page_objects objects)) name option rest named chosen_by shown_all place chooses refl walk starts infos (λ info c e. tt) last drawn
         (subst (Allows limit) (sym (number_so infos)) within) parents)
 
     abbrev pub IsShown : List Info → Ending → Type 0
@@ -149,22 +164,22 @@ module _ (objects : Objects) (agrees : IsAgreeing objects []) (read : AreRead ob
     abbrev checked : CheckedWalk
     checked = record { walk = walk; objects = objects; rows = []; lost = None }
 
-    checked_ended : (infos : List Info) {answer : Result (Unit {0}) Fault} → IsChecked objects [] ids_given walk limit infos answer → answer ≡ Ok tt → Good true infos
-    checked_ended infos {answer} (well ends whole) is = ended_good infos (subst (EndsBy Answers IsWalkFault ids_given limit walk infos) is ends) (λ other. subst (λ n. HaveParents objects [] (gone_on limit n infos)) (many infos) whole)
+    checked_ended : (infos : List Info) {answer : Result (Unit {0}) Fault} → IsChecked objects [] Any ids_given walk limit infos answer → answer ≡ Ok tt → Good true infos
+    checked_ended infos {answer} (well ends whole) is = ended_good infos (subst (EndsBy Answers IsWalkFault Any ids_given limit walk infos) is ends) (λ other. subst (λ n. HaveParents objects [] (gone_on limit n infos)) (many infos) whole)
     checked_ended infos (lacking at h asks lacks) is = cc
 
     -- drawn so far, the walk and the parents behind all but the last
-    drawn_so : (infos : List Info) → IsChecked objects [] ids_given walk (Some (length infos)) infos (Ok tt) → (at : Walk) × Yields Answers walk (given infos) at × HaveParents objects [] (take (length infos - 1) infos)
+    drawn_so : (infos : List Info) → IsChecked objects [] Any ids_given walk (Some (length infos)) infos (Ok tt) → (at : Walk) × Yields Answers walk (given infos) at × HaveParents objects [] (take (length infos - 1) infos)
     drawn_so infos (well (enough at h e) whole) = (at, h, subst (HaveParents objects []) (enough_on objects [] (length infos) (length (ids_given infos)) infos e) whole)
     drawn_so infos (well (before ends less) whole) = absurd (omega (arith, less, many infos))
 
     checked_begun : (infos : List Info) (at : CheckedWalk) → Yields Checks checked (given infos) at → Allows limit (length infos) → Good false infos
     checked_begun infos at h within =
-        let d = drawn_so infos (from_by objects [] ids_given walk (Some (length infos)) infos (Ok tt) (enough at h (many infos))) in
+        let d = drawn_so infos (from_by objects [] Any ids_given walk (Some (length infos)) infos (Ok tt) (enough at h (many infos))) in
         begun_good infos d.0 d.1 within (λ other. d.2)
 
     pub shown_timed : (infos : List Info) (ending : Ending) → Draws Checks IsItself limit checked infos ending → IsShown infos ending
-    shown_timed = shown Checks IsItself limit checked Good (λ infos ends. checked_ended infos (from_by objects [] ids_given walk limit infos (Ok tt) ends) refl) checked_begun
+    shown_timed = shown Checks IsItself limit checked Good (λ infos ends. checked_ended infos (from_by objects [] Any ids_given walk limit infos (Ok tt) ends) refl) checked_begun
 
   module _ (m : Parents) (by : TopoSorting) (named : IsNameOf name (Topo m by)) (chosen : IsOptionOf option (Topo m by)) (have : HaveTexts (Commits (Topo m by) shown_all tips hidden) (page_objects objects)) (walk : topo.Walk) (built : topo.IsBuiltFrom objects [] m by tips hidden (Ok walk)) where
     good_down : (all : Bool) (infos : List Info) (last : topo.Walk) → Yields topo.Answers walk (given infos) last → Listed all infos → Good all infos
@@ -172,15 +187,15 @@ module _ (objects : Objects) (agrees : IsAgreeing objects []) (read : AreRead ob
         shows_read objects asked (λ ids. ids) (λ time. Some time) (λ r. says_down r name option rest (behind_free tips hidden chooses) m by named) all infos (each_line all infos l) l.0
         (read_down objects agrees m by tips hidden walk built infos last drawn)
 
-    down_ended : (infos : List Info) → EndsBy topo.Answers topo.IsWalkFault ids_given limit walk infos (Ok tt) → Good true infos
+    down_ended : (infos : List Info) → EndsBy topo.Answers topo.IsWalkFault Any ids_given limit walk infos (Ok tt) → Good true infos
     down_ended infos ends =
         let d = by_drawn topo.Answers topo.IsWalkFault walk infos limit (Ok tt) ends in
-        good_down true infos d.0 d.1 (down.ended_so objects [] agrees m by tips hidden some (down_there objects [] agrees read None (Commits (Topo m by) shown_all tips hidden) have) (read m by tips hidden) walk built name option rest named chosen shown_all place chooses limit refl infos
-        (subst (λ (those : List Info → List ObjectId). EndsBy topo.Answers topo.IsWalkFault those limit walk infos (Ok tt)) (sym kept_so) ends))
+        good_down true infos d.0 d.1 (down.ended_so objects [] agrees m by tips hidden some (down_there objects [] agrees read Any (page_objects objects) [] (itself (page_objects objects)) None (Commits (Topo m by) shown_all tips hidden) have) (read m by tips hidden) Any (page_objects objects) [] (itself (page_objects objects)) walk built name option rest named chosen shown_all place chooses limit refl infos (λ info c e. tt)
+        (subst (λ (those : List Info → List ObjectId). EndsBy topo.Answers topo.IsWalkFault Any those limit walk infos (Ok tt)) (sym kept_so) ends))
 
     down_begun : (infos : List Info) (at : topo.Walk) → Yields topo.Answers walk (given infos) at → Allows limit (length infos) → Good false infos
     down_begun infos at h within =
-        good_down false infos at h (down.begun_so objects [] agrees m by tips hidden some (down_there objects [] agrees read None (Commits (Topo m by) shown_all tips hidden) have) (read m by tips hidden) walk built name option rest named chosen shown_all place chooses refl infos at h
+        good_down false infos at h (down.begun_so objects [] agrees m by tips hidden some (down_there objects [] agrees read Any (page_objects objects) [] (itself (page_objects objects)) None (Commits (Topo m by) shown_all tips hidden) have) (read m by tips hidden) Any (page_objects objects) [] (itself (page_objects objects)) walk built name option rest named chosen shown_all place chooses refl infos (λ info c e. tt) at h
         (subst (Allows limit) (sym (number_so infos)) within))
 
     pub shown_down : (infos : List Info) (ending : Ending) → Draws topo.Answers topo.IsWalkFault limit walk infos ending → Good (has_ended ending) infos × IsNextGood Good infos ending

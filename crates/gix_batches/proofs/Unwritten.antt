@@ -20,7 +20,7 @@ use Rattle.gix_words.specs.declared.fault.Fault.{Fault}
 use Rattle.gix_words.specs.declared.fault.Fault.TheVariants as fault
 use Rattle.gix_commands.specs.Checked.{Checks}
 use Rattle.gix_commands.specs.TopoWalked as topo
-use Rattle.gix_commands.specs.Walked.{Answers, Ends, EndsBy, IsStartFault, IsWalkFault, Walk, before, cut_short, enough, failed, finished}
+use Rattle.gix_commands.specs.Walked.{Answers, Any, Ends, EndsBy, IsStartFault, IsWalkFault, Walk, before, cut_short, enough, failed, finished, unstored}
 use Rattle.gix_commands.proofs.CheckedWalks.{IsChecked, from_by, lacking, well}
 use Rattle.gix_revwalk.specs.declared.Parents.{Parents}
 use Rattle.gix_commands.proofs.LostParents.{lost_so}
@@ -43,32 +43,33 @@ topo_unwritten (topo_error.Find e) = find_unwritten e
 topo_unwritten other = λ e. cc
 
 module _ {W E : Type 0} (Steps : W → Option (Result Info E) → W → Type 0) (Tells : E → Fault → Type 0) (tells : (e : E) (f : Fault) → Tells e f → f ≢ fault.Write) (walk : W) (infos : List Info) where
-  ends_unwritten : {answer : Result (Unit {0}) Fault} → Ends Steps Tells walk infos answer → answer ≢ Err fault.Write
+  ends_unwritten : {answer : Result (Unit {0}) Fault} → Ends Steps Tells Any walk infos answer → answer ≢ Err fault.Write
   ends_unwritten (finished new h) = λ e. cc
   ends_unwritten (failed e f new h is) = λ same. tells e f is (let g : f ≡ fault.Write = cc in g)
   ends_unwritten (cut_short info new h) = λ e. cc
+  ends_unwritten (unstored info new h none) = λ e. cc
 
-  by_unwritten : (limit : Option ℕ) (answer : Result (Unit {0}) Fault) → EndsBy Steps Tells ids_given limit walk infos answer → answer ≢ Err fault.Write
+  by_unwritten : (limit : Option ℕ) (answer : Result (Unit {0}) Fault) → EndsBy Steps Tells Any ids_given limit walk infos answer → answer ≢ Err fault.Write
   by_unwritten None answer ends = ends_unwritten ends
   by_unwritten (Some n) _ (enough at h e) = λ e. cc
   by_unwritten (Some n) answer (before ends less) = ends_unwritten ends
 
 -- breadth first
-pub simple_by : (limit : Option ℕ) (walk : Walk) (infos : List Info) (e : Fault) → EndsBy Answers IsWalkFault ids_given limit walk infos (Err e) → e ≢ fault.Write
+pub simple_by : (limit : Option ℕ) (walk : Walk) (infos : List Info) (e : Fault) → EndsBy Answers IsWalkFault Any ids_given limit walk infos (Err e) → e ≢ fault.Write
 simple_by limit walk infos e ends = λ same. by_unwritten Answers IsWalkFault (λ e f is same. walk_unwritten e (sym is ∙ same)) walk infos limit (Err e) ends (ap (λ x. Err x) same)
 
 -- by time
-checked_unwritten : (objects : Objects) (walk : Walk) (limit : Option ℕ) (infos : List Info) (answer : Result (Unit {0}) Fault) → IsChecked objects [] ids_given walk limit infos answer → answer ≢ Err fault.Write
+checked_unwritten : (objects : Objects) (walk : Walk) (limit : Option ℕ) (infos : List Info) (answer : Result (Unit {0}) Fault) → IsChecked objects [] Any ids_given walk limit infos answer → answer ≢ Err fault.Write
 checked_unwritten objects walk limit infos answer (well ends whole) = by_unwritten Answers IsWalkFault (λ e f is same. walk_unwritten e (sym is ∙ same)) walk infos limit answer ends
 checked_unwritten objects walk limit infos _ (lacking {why = why} at h more l) =
     failed_so (λ (r : Result (Unit {0}) Fault). r ≢ Err fault.Write) (λ e. cc) (Err why) why refl
     (λ other same. lost_so (λ f. f ≢ fault.Write) (λ i e. cc) (λ i e. cc) (λ e. cc) objects [] l.last.parent_ids.items why (l.lacks other) (let g : why ≡ fault.Write = cc in g))
 
-pub checked_by : (objects : Objects) (walk : Walk) (limit : Option ℕ) (infos : List Info) (e : Fault) → EndsBy Checks IsItself ids_given limit (record { walk = walk; objects = objects; rows = []; lost = None }) infos (Err e) → e ≢ fault.Write
-checked_by objects walk limit infos e ends = λ same. checked_unwritten objects walk limit infos (Err e) (from_by objects [] ids_given walk limit infos (Err e) ends) (ap (λ x. Err x) same)
+pub checked_by : (objects : Objects) (walk : Walk) (limit : Option ℕ) (infos : List Info) (e : Fault) → EndsBy Checks IsItself Any ids_given limit (record { walk = walk; objects = objects; rows = []; lost = None }) infos (Err e) → e ≢ fault.Write
+checked_by objects walk limit infos e ends = λ same. checked_unwritten objects walk limit infos (Err e) (from_by objects [] Any ids_given walk limit infos (Err e) ends) (ap (λ x. Err x) same)
 
 -- topological
-pub topo_by : (limit : Option ℕ) (walk : topo.Walk) (infos : List Info) (e : Fault) → EndsBy topo.Answers topo.IsWalkFault ids_given limit walk infos (Err e) → e ≢ fault.Write
+pub topo_by : (limit : Option ℕ) (walk : topo.Walk) (infos : List Info) (e : Fault) → EndsBy topo.Answers topo.IsWalkFault Any ids_given limit walk infos (Err e) → e ≢ fault.Write
 topo_by limit walk infos e ends = λ same. by_unwritten topo.Answers topo.IsWalkFault (λ e f is same. topo_unwritten e (sym is ∙ same)) walk infos limit (Err e) ends (ap (λ x. Err x) same)
 
 -- a walk that can't start

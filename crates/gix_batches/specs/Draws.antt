@@ -10,7 +10,7 @@ use Rattle.gix_batches.specs.declared.commit.CommitId.{CommitId}
 use Rattle.gix_batches.specs.declared.commit.Ending.{Ending}
 use Rattle.gix_batches.specs.declared.commit.Ending.TheVariants.{Ended, More, Small, Failed}
 use Rattle.gix_revwalk.specs.Infos.{given}
-use Rattle.gix_commands.specs.Walked.{AsksForMore, EndsBy, Ends}
+use Rattle.gix_commands.specs.Walked.{Any, AsksForMore, EndsBy, Ends}
 use Rattle.gix_batches.specs.Slices.{Told, commits_of, ids_of, told_by}
 
 -- how many commits are passed, and how many are put at most
@@ -34,8 +34,8 @@ ids_given infos = map (λ info. info.id) infos
 -- further, or its next commit has so many parents
 pub data Draws {W E : Type 0} (Steps : W → Option (Result Info E) → W → Type 0) (Tells : E → Fault → Type 0) (limit : Option ℕ) (walk : W)
     (infos : List Info) : Ending → Type 0 where
-  ended : EndsBy Steps Tells ids_given limit walk infos (Ok tt) → Draws Steps Tells limit walk infos Ended
-  failed : (f : Fault) → EndsBy Steps Tells ids_given limit walk infos (Err f) → Draws Steps Tells limit walk infos (Failed f)
+  ended : EndsBy Steps Tells Any ids_given limit walk infos (Ok tt) → Draws Steps Tells limit walk infos Ended
+  failed : (f : Fault) → EndsBy Steps Tells Any ids_given limit walk infos (Err f) → Draws Steps Tells limit walk infos (Failed f)
   more : (at : W) → Yields Steps walk (given infos) at → AsksForMore limit (length infos) → Draws Steps Tells limit walk infos More
   small : (at : W) (next : Info) → Yields Steps walk (given (infos ++ next ∷ [])) at → AsksForMore limit (length infos)
       → Draws Steps Tells limit walk infos (Small (length next.parent_ids.items))
@@ -43,8 +43,8 @@ pub data Draws {W E : Type 0} (Steps : W → Option (Result Info E) → W → Ty
 -- so many commits were drawn, or it stopped before
 abbrev pub Passes : {W E : Type 0} → (W → Option (Result Info E) → W → Type 0) → (E → Fault → Type 0) → ℕ → W → Result (Unit {0}) Ending → W → Type 0
 Passes Steps Tells number walk (Ok done) new = (infos : List Info) × Yields Steps walk (given infos) new × (length infos ≡ number)
-Passes Steps Tells number walk (Err Ended) new = (infos : List Info) × Ends Steps Tells walk infos (Ok tt) × (length infos < number)
-Passes Steps Tells number walk (Err (Failed f)) new = (infos : List Info) × Ends Steps Tells walk infos (Err f) × (length infos < number)
+Passes Steps Tells number walk (Err Ended) new = (infos : List Info) × Ends Steps Tells Any walk infos (Ok tt) × (length infos < number)
+Passes Steps Tells number walk (Err (Failed f)) new = (infos : List Info) × Ends Steps Tells Any walk infos (Err f) × (length infos < number)
 Passes Steps Tells number walk (Err More) new = ⊥
 Passes Steps Tells number walk (Err (Small n)) new = ⊥
 

@@ -6,7 +6,7 @@ use Rattle.gix_revwalk.specs.declared.Parents.TheVariants as mode
 use Rattle.gix_simple.specs.declared.Sorting.TheVariants as sorting
 use Rattle.gix_commands.specs.Ahead.{Counts, Draws, ahead_line}
 use Rattle.gix_commands.specs.Run.{Serves}
-use Rattle.gix_commands.specs.Walked.{Answers, IsWalkFault}
+use Rattle.gix_commands.specs.Walked.{Answers, Any, IsWalkFault}
 use Rattle.gix_commands.proofs.KeptLists.{all_followed, tips_kept}
 use Rattle.gix_commands.proofs.SimpleRuns.{all_read, listed_whole}
 use Rattle.gix_commands.proofs.ListedCommits.{IsShown, IsSimpleBy, ListsBy}
@@ -27,7 +27,7 @@ module _ (objects : Objects) (rows : List GraphRow) (agreeing : IsAgreeing objec
   difference : (infos : List Info) → Draws objects rows tip hidden infos (Ok tt) → AreDistinct (map (λ info. info.id) infos) × ((i : ObjectId) → Contains (map (λ info. info.id) infos) i ↔ IsShown objects (tip ∷ []) (hidden ∷ []) i)
   difference infos d = of_ends d.ends
     where
-      of_ends : Ends Answers IsWalkFault d.walk infos (Ok tt) → AreDistinct (map (λ info. info.id) infos) × ((i : ObjectId) → Contains (map (λ info. info.id) infos) i ↔ IsShown objects (tip ∷ []) (hidden ∷ []) i)
+      of_ends : Ends Answers IsWalkFault Any d.walk infos (Ok tt) → AreDistinct (map (λ info. info.id) infos) × ((i : ObjectId) → Contains (map (λ info. info.id) infos) i ↔ IsShown objects (tip ∷ []) (hidden ∷ []) i)
       of_ends (finished new h) =
           plain_list objects (tip ∷ []) (hidden ∷ []) (map (λ info. info.id) infos)
           (listed_whole objects rows mode.All sorting.BreadthFirst (tip ∷ []) (hidden ∷ []) d.walk d.starts agreeing infos h.0 new h.1 h.2 (λ e. cc))
@@ -41,13 +41,13 @@ module _ (objects : Objects) (rows : List GraphRow) (agreeing : IsAgreeing objec
   read_whole : (infos : List Info) → Draws objects rows tip hidden infos (Ok tt) → AreWhole objects (tip ∷ hidden ∷ [])
   read_whole infos d = of_ends d.ends
     where
-      of_ends : Ends Answers IsWalkFault d.walk infos (Ok tt) → AreWhole objects (tip ∷ hidden ∷ [])
+      of_ends : Ends Answers IsWalkFault Any d.walk infos (Ok tt) → AreWhole objects (tip ∷ hidden ∷ [])
       of_ends (finished new h) = all_read objects rows mode.All sorting.BreadthFirst (tip ∷ []) (hidden ∷ []) d.walk d.starts agreeing infos h.0 new h.1 h.2 (λ e. cc) (λ e. cc)
 
-pub counted_so : (objects : Objects) (rows : List GraphRow) → IsAgreeing objects rows → (one other : ObjectId) (old new : Option (List ℕ)) → Serves objects rows old (Ahead one other) (Ok tt) new
+pub counted_so : {Stored : ObjectId → Type 0} → (objects : Objects) (rows : List GraphRow) → IsAgreeing objects rows → (one other : ObjectId) (old new : Option (List ℕ)) → Serves Stored objects rows old (Ahead one other) (Ok tt) new
     → (ahead behind : ℕ) × IsNumberOf (IsShown objects (one ∷ []) (other ∷ [])) ahead × IsNumberOf (IsShown objects (other ∷ []) (one ∷ [])) behind × Appends old new (ahead_line ahead behind)
 counted_so objects rows agreeing one other old new (counted ahead behind a b written) = (ahead, behind, number_of objects rows agreeing one other ahead a, number_of objects rows agreeing other one behind b, written)
 
 -- and has read all that both reach
-pub counted_whole : (objects : Objects) (rows : List GraphRow) → IsAgreeing objects rows → (one other : ObjectId) (old new : Option (List ℕ)) → Serves objects rows old (Ahead one other) (Ok tt) new → AreWhole objects (one ∷ other ∷ [])
+pub counted_whole : {Stored : ObjectId → Type 0} → (objects : Objects) (rows : List GraphRow) → IsAgreeing objects rows → (one other : ObjectId) (old new : Option (List ℕ)) → Serves Stored objects rows old (Ahead one other) (Ok tt) new → AreWhole objects (one ∷ other ∷ [])
 counted_whole objects rows agreeing one other old new (counted ahead behind a b written) = read_whole objects rows agreeing one other a.0 a.1

@@ -18,14 +18,14 @@ module _ (objects : Objects) (rows : List GraphRow) (agreeing : IsAgreeing objec
       (ap fault_of_bases (store_alone objects (never_faulty objects) rows one others e agreeing (λ i r. whole_from objects i (whole i r)) f))
 
   -- all that was reached was read, or has a row that agrees
-  pub joined_so : (old new : Option (List ℕ)) → others ≢ [] → Serves objects rows old (Bases one others) (Ok tt) new
+  pub joined_so : {Stored : ObjectId → Type 0} → (old new : Option (List ℕ)) → others ≢ [] → Serves Stored objects rows old (Bases one others) (Ok tt) new
       → (bases : List ObjectId) × AreBases (parents_of objects) one others bases × AreWhole objects (one ∷ others) × Appends old new (lines_of_ids bases)
   joined_so old new some (joined bases found written) = (bases, found.bases_are agreeing, (λ i r. subst IsSome (sym (found.read agreeing some i r).stored) refl), written)
 
-  joins_well : {old : Option (List ℕ)} → AreWhole objects (one ∷ others) → (answer : Result (Unit {0}) Fault) (new : Option (List ℕ)) → Serves objects rows old (Bases one others) answer new → EndsWell answer
+  joins_well : {Stored : ObjectId → Type 0} → {old : Option (List ℕ)} → AreWhole objects (one ∷ others) → (answer : Result (Unit {0}) Fault) (new : Option (List ℕ)) → Serves Stored objects rows old (Bases one others) answer new → EndsWell answer
   joins_well whole answer new (not_joined e f) = absurd (no_fault_reached whole e f)
   joins_well whole answer new s = tt
 
 pub bases_succeeds : BasesSucceeds
 bases_succeeds words input records one others answer old new asked are whole =
-    ends_whole words input records (Bases one others) (one ∷ others) answer old new asked are whole (λ objects rows agreeing all given left. joins_well objects rows agreeing one others all given left)
+    ends_whole words input records (Bases one others) (one ∷ others) answer old new asked are whole (λ Stored objects rows each agreeing all given left. joins_well objects rows agreeing one others all given left)

@@ -1,6 +1,6 @@
 -- What a checked walk gives, its walk gives, and the parents of each commit behind which it goes on are there.
 use Rattle.std.proofs.Common.{◌<◌, nat_lt, ltb-true, ◌≡◌, ◌+◌, ◌-◌, ◌⊎◌, ℕ, zero, suc, List, [], ◌∷◌, ◌++◌, length, take, Contains, Option, None, Some, Result, Ok, Err, refl, sym, ap, subst, ◌∙◌, ⊎_elim, arith, inl, inr, take_at}
-use Rattle.std.specs.Iterator.{Yields}
+use Rattle.std.specs.Iterator.{Yields, YieldsThen}
 use Rattle.gix_commands.proofs.Common.{ObjectId, cond-true, cond-false, false_from_ne_true, Contains-cons_cases, Contains-append_cases, no_member, only_member, Objects, GraphRow, Info, Fault, Ends, EndsBy, finished, cut_short, enough, before}
 use Rattle.std.proofs.lemmas.Bool.{lt-ltb}
 use Rattle.std.proofs.lemmas.List.{length-append}
@@ -9,7 +9,7 @@ use Rattle.gix_words.specs.declared.fault.Fault.TheVariants as fault
 use Rattle.gix_words.specs.Faults.{fault_of_walk}
 use Rattle.gix_commands.specs.Checked.{CheckedWalk, Checks, HasParents, HaveParents, LacksParent, Looks, gone_on, ended, failed, gave, lost}
 use Rattle.gix_revwalk.specs.Infos.{given}
-use Rattle.gix_commands.specs.Walked.{Walk, Answers, AsksForMore, IsWalkFault}
+use Rattle.gix_commands.specs.Walked.{Walk, Answers, AsksForMore, IsWalkFault, unstored}
 use Rattle.gix_commands.specs.Walked as walked
 
 -- which fault of a run a fault of a checked walk is: itself
@@ -138,15 +138,15 @@ module _ (objects : Objects) (rows : List GraphRow) where
   pub enough_on : (n k : ℕ) (infos : List Info) → k ≡ n → gone_on (Some n) k infos ≡ take (length infos - 1) infos
   enough_on n k infos all = cond-false (nat_lt k n) _ _ (false_from_ne_true (nat_lt k n) (λ e. let less : k < n = ltb-true k n e in omega (arith, less, all)))
 
-  module _ (those : List Info → List ObjectId) where
+  module _ (Has : ObjectId → Type 0) (those : List Info → List ObjectId) where
     -- how the walk below ended, or that a parent isn't there
     pub data IsChecked (walk : Walk) (limit : Option ℕ) (infos : List Info) : Result (Unit {0}) Fault → Type 0 where
-      well : {answer : Result (Unit {0}) Fault} → EndsBy Answers IsWalkFault those limit walk infos answer → HaveParents objects rows (gone_on limit (length (those infos)) infos) → IsChecked walk limit infos answer
+      well : {answer : Result (Unit {0}) Fault} → EndsBy Answers IsWalkFault Has those limit walk infos answer → HaveParents objects rows (gone_on limit (length (those infos)) infos) → IsChecked walk limit infos answer
       lacking : {why : Fault} (at : Walk) → Yields Answers walk (given infos) at → AsksForMore limit (length (those infos)) → LacksParent objects rows infos why → IsChecked walk limit infos (Err why)
 
     -- with a limit or without
     abbrev ByLimit : Walk → Option ℕ → List Info → Type 0
-    ByLimit walk limit infos = (answer : Result (Unit {0}) Fault) → Ends Answers IsWalkFault walk infos answer → EndsBy Answers IsWalkFault those limit walk infos answer
+    ByLimit walk limit infos = (answer : Result (Unit {0}) Fault) → Ends Answers IsWalkFault Has walk infos answer → EndsBy Answers IsWalkFault Has those limit walk infos answer
 
     module _ (walk : Walk) (limit : Option ℕ) (infos : List Info) (by : ByLimit walk limit infos) (keep : HaveParents objects rows infos → HaveParents objects rows (gone_on limit (length (those infos)) infos)) (more : AsksForMore limit (length (those infos))) where
       -- the walk had no more commits
@@ -156,9 +156,9 @@ module _ (objects : Objects) (rows : List GraphRow) where
       no_commit at new d (commit n a looks) e = cc
       no_commit at new d (by_parent why is) e = cc
 
-      -- there was no memory for the line of a commit
-      no_line : (at new : CheckedWalk) (d : Drawn walk None infos at) (info : Info) → One at.walk at.lost info new → IsChecked walk limit infos (Err fault.Memory)
-      no_line at new d info o = well (by (Err fault.Memory) (cut_short info o.last (at.walk, d.inner, o.answered))) (keep (all_have walk infos at d o.open_to))
+      -- no line of a commit was written
+      no_line : (at new : CheckedWalk) (d : Drawn walk None infos at) (info : Info) → One at.walk at.lost info new → (e : Fault) → ((last : Walk) → YieldsThen Answers walk (given infos) (Some (Ok info)) last → Ends Answers IsWalkFault Has walk infos (Err e)) → IsChecked walk limit infos (Err e)
+      no_line at new d info o e ends = well (by (Err e) (ends o.last (at.walk, d.inner, o.answered))) (keep (all_have walk infos at d o.open_to))
 
       -- a parent isn't there
       lacks : (at : CheckedWalk) (d : Drawn walk None infos at) (why : Fault) → at.lost ≡ Some why → IsChecked walk limit infos (Err why)
@@ -181,7 +181,7 @@ module _ (objects : Objects) (rows : List GraphRow) where
           let whose : why ≡ f = cc in
           subst (λ (x : Fault). IsChecked walk limit infos (Err x)) whose (lacks at d why here)
 
-      from_ends : (answer : Result (Unit {0}) Fault) → Ends Checks IsItself (checked walk None) infos answer → IsChecked walk limit infos answer
+      from_ends : (answer : Result (Unit {0}) Fault) → Ends Checks IsItself Has (checked walk None) infos answer → IsChecked walk limit infos answer
       from_ends answer (finished new h) =
           let d = drawn infos walk None h.0 h.1 in
           no_commit h.0 new d (came h.0.walk h.0.lost (subst (λ c. Checks c None new) d.over h.2)) refl
@@ -190,10 +190,13 @@ module _ (objects : Objects) (rows : List GraphRow) where
           a_fault h.0 new d e f (came h.0.walk h.0.lost (subst (λ c. Checks c (Some (Err e)) new) d.over h.2)) refl is
       from_ends answer (cut_short info new h) =
           let d = drawn infos walk None h.0 h.1 in
-          no_line h.0 new d info (one h.0.walk h.0.lost info new (subst (λ c. Checks c (Some (Ok info)) new) d.over h.2))
+          no_line h.0 new d info (one h.0.walk h.0.lost info new (subst (λ c. Checks c (Some (Ok info)) new) d.over h.2)) fault.Memory (λ last. cut_short info last)
+      from_ends answer (unstored info new h none) =
+          let d = drawn infos walk None h.0 h.1 in
+          no_line h.0 new d info (one h.0.walk h.0.lost info new (subst (λ c. Checks c (Some (Ok info)) new) d.over h.2)) (fault.Missing info.id) (λ last given. unstored info last given none)
 
     -- how a checked walk ended that was drawn so far
-    pub from_by : (walk : Walk) (limit : Option ℕ) (infos : List Info) (answer : Result (Unit {0}) Fault) → EndsBy Checks IsItself those limit (checked walk None) infos answer → IsChecked walk limit infos answer
+    pub from_by : (walk : Walk) (limit : Option ℕ) (infos : List Info) (answer : Result (Unit {0}) Fault) → EndsBy Checks IsItself Has those limit (checked walk None) infos answer → IsChecked walk limit infos answer
     from_by walk None infos answer ends = from_ends walk None infos (λ _ e. e) (λ all. all) tt answer ends
     from_by walk (Some n) infos answer (enough at h all) =
         let d = drawn infos walk None at h in

@@ -1,10 +1,11 @@
 -- What a chooser has chosen of the commits that a walk gave.
-use Rattle.std.proofs.Common.{◌≡◌, ◌≢◌, ◌-◌, ◌+◌, ◌<◌, ℕ, zero, suc, List, [], ◌∷◌, ◌++◌, length, map, drop, filter, Bool, true, false, Option, Some, None, refl, sym, ap, subst, ◌∙◌, arith, append-nil, length-append}
-use Rattle.gix_commands.proofs.Common.{ObjectId, Objects, Info, Shown, cond-false, cond-true, kept_in, text_next, time_of}
+use Rattle.std.proofs.Common.{◌≡◌, ◌≢◌, ◌-◌, ◌+◌, ◌<◌, ℕ, zero, suc, List, [], ◌∷◌, ◌++◌, length, map, drop, filter, Bool, true, false, Option, Some, None, refl, sym, ap, subst, ◌∙◌, ⊎_elim, arith, append-nil, length-append}
+use Rattle.gix_commands.proofs.Common.{Contains-append_cases, no_member, only_member, ObjectId, Objects, Info, Shown, cond-false, cond-true, kept_in, text_next, time_of}
 use Rattle.std.proofs.lemmas.List.Elements.{filter-append}
 use Rattle.std.proofs.lemmas.List.{drop-append-le, drop_all, map-append}
-use Rattle.gix_commands.specs.Chosen.{Choosing, Passes, fresh_choosing, is_kept, keeps, line_in, one_less, skipped, taken, unkept}
+use Rattle.gix_commands.specs.Chosen.{Choosing, HasObject, HasText, HasTextIn, Passes, fresh_choosing, is_kept, keeps, line_in, one_less, skipped, taken, unkept}
 use Rattle.gix_commands.specs.Output.{Held, Takes}
+use Rattle.gix_commands.specs.Walked.{Have}
 use Rattle.gix_words.specs.declared.words.Form.{Form}
 use Rattle.gix_commands.proofs.OutputFacts.{IsLimitLeft, takes_more}
 
@@ -26,7 +27,20 @@ module _ (p : ObjectId → Bool) (skip : ℕ) (ids : List ObjectId) (i : ObjectI
   taken_more : p i ≡ true → skip - length (filter p ids) ≡ 0 → drop skip (filter p (ids ++ i ∷ [])) ≡ drop skip (filter p ids) ++ i ∷ []
   taken_more e none = ap (drop skip) (kept_more e) ∙ drop-append-le skip (filter p ids) (i ∷ []) (omega (arith, none))
 
-module _ (objects : Objects) (shown : Shown) where
+-- what some commits have, and one more has
+pub have_none : (Has : ObjectId → Type 0) → Have Has []
+have_none Has info c = absurd (no_member info c)
+
+pub have_more : (Has : ObjectId → Type 0) (infos : List Info) (info : Info) → Have Has infos → Has info.id → Have Has (infos ++ info ∷ [])
+have_more Has infos info all one other c = ⊎_elim (all other) (λ m. subst (λ (i : Info). Has i.id) (only_member info other m) one) (Contains-append_cases infos (info ∷ []) other c)
+
+module _ (from : Choosing) where
+  abbrev objects : Objects
+  objects = from.objects
+
+  abbrev shown : Shown
+  shown = from.shown
+
   abbrev test : ObjectId → Bool
   test i = is_kept shown (length (text_next objects i)) (time_of objects i)
 
@@ -36,6 +50,8 @@ module _ (objects : Objects) (shown : Shown) where
   -- a chooser to which these commits were shown
   pub record IsAt (infos : List Info) (c : Choosing) : Type 0 where
     pub objects_are : c.objects ≡ objects
+    pub stored_are : c.stored ≡ from.stored
+    pub rows_are : c.rows ≡ from.rows
     pub shown_is : c.shown ≡ shown
     pub skips : c.skip ≡ shown.skip - length (filter test (ids_in infos))
     pub left : IsLimitLeft shown.limit (length (kept_in objects shown infos)) c.left
@@ -51,9 +67,11 @@ module _ (objects : Objects) (shown : Shown) where
   limit_whole None n e = refl
   limit_whole (Some most) n e = (most, refl, omega (arith, e))
 
-  pub at_first : (c : Choosing) → c ≡ fresh_choosing objects shown → IsAt [] c
-  at_first c is = subst (IsAt []) (sym is) (record {
+  pub at_first : from ≡ fresh_choosing objects from.stored from.rows shown → IsAt [] from
+  at_first is = subst (IsAt []) (sym is) (record {
     objects_are = refl;
+    stored_are = refl;
+    rows_are = refl;
     shown_is = refl;
     skips = omega arith;
     left = limit_whole shown.limit (length (kept_in objects shown [])) (ap length none_kept);
@@ -87,6 +105,8 @@ module _ (objects : Objects) (shown : Shown) where
           let kept = ap (drop shown.skip) same in (
             record {
               objects_are = at.objects_are;
+              stored_are = at.stored_are;
+              rows_are = at.rows_are;
               shown_is = at.shown_is;
               skips = at.skips ∙ ap (λ xs. shown.skip - length xs) (sym same);
               left = subst (λ xs. IsLimitLeft shown.limit (length xs) c.left) (sym kept) at.left;
@@ -99,6 +119,8 @@ module _ (objects : Objects) (shown : Shown) where
           let kept = ap (drop shown.skip) all ∙ skipped_more test shown.skip (ids_in infos) info.id is (subst (λ n. 0 < n) at.skips more) in (
             record {
               objects_are = at.objects_are;
+              stored_are = at.stored_are;
+              rows_are = at.rows_are;
               shown_is = at.shown_is;
               skips = omega (arith, at.skips, number);
               left = subst (λ xs. IsLimitLeft shown.limit (length xs) c.left) (sym kept) at.left;
@@ -111,12 +133,18 @@ module _ (objects : Objects) (shown : Shown) where
           let kept = ap (drop shown.skip) all ∙ taken_more test shown.skip (ids_in infos) info.id is (sym at.skips ∙ none) in (
             record {
               objects_are = at.objects_are;
+              stored_are = at.stored_are;
+              rows_are = at.rows_are;
               shown_is = at.shown_is;
               skips = omega (arith, at.skips, none, number);
               left = less_by_one shown.limit (length (kept_in objects shown infos)) (length (kept_in objects shown (infos ++ info ∷ []))) c.left at.left some (ap length kept ∙ length-append (kept_in objects shown infos) (info.id ∷ []));
             },
             kept,
           )
+
+  -- what such a chooser asks of each commit
+  pub text_at : (infos : List Info) (c : Choosing) → IsAt infos c → HasTextIn c ≡ HasTextIn from
+  text_at infos c at = (λ k. HasText (HasObject (at.stored_are k) (at.rows_are k)) (at.shown_is k))
 
   -- the lines of such a chooser
   pub lines_at : (infos : List Info) (c : Choosing) → IsAt infos c → line_in c.objects c.shown ≡ line_in objects shown

@@ -47,7 +47,7 @@ module _ (tip : ObjectId) (ids : List ObjectId) where
       pub whole : (a : ObjectId) → Contains ids a → (Reaches (parents_of objects) (tip ∷ []) a → ⊥) → AreWhole objects (tip ∷ [])
       pub written : Appends old new (lines_of_ids those)
 
-    pub selected_so : (old new : Option (List ℕ)) → ids ≢ [] → Serves objects rows old (Contained tip ids) (Ok tt) new → IsSelected old new
+    pub selected_so : {Stored : ObjectId → Type 0} → (old new : Option (List ℕ)) → ids ≢ [] → Serves Stored objects rows old (Contained tip ids) (Ok tt) new → IsSelected old new
     selected_so old new some (selected those s written) = record {
       those = those;
       exact = s.exact objects own;
@@ -57,7 +57,7 @@ module _ (tip : ObjectId) (ids : List ObjectId) where
     }
 
     -- where all that is reached is whole no commit is a fault
-    selects_well : {old : Option (List ℕ)} → AreWhole objects (tip ∷ ids) → (answer : Result (Unit {0}) Fault) (new : Option (List ℕ)) → Serves objects rows old (Contained tip ids) answer new → EndsWell answer
+    selects_well : {Stored : ObjectId → Type 0} → {old : Option (List ℕ)} → AreWhole objects (tip ∷ ids) → (answer : Result (Unit {0}) Fault) (new : Option (List ℕ)) → Serves Stored objects rows old (Contained tip ids) answer new → EndsWell answer
     selects_well whole answer new (not_selected e f) =
         absurd
         (contained_sound objects rows (tip ∷ []) ids e f
@@ -66,4 +66,4 @@ module _ (tip : ObjectId) (ids : List ObjectId) where
 
 pub contains_succeeds : ContainsSucceeds
 contains_succeeds words input records tip ids answer old new asked are whole =
-    ends_whole words input records (Contained tip ids) (tip ∷ ids) answer old new asked are whole (λ objects rows agreeing all given left. selects_well tip ids objects rows agreeing all given left)
+    ends_whole words input records (Contained tip ids) (tip ∷ ids) answer old new asked are whole (λ Stored objects rows each agreeing all given left. selects_well tip ids objects rows agreeing all given left)

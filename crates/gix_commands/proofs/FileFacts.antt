@@ -26,23 +26,23 @@ mode_text shown n text is h = subst (λ (o : Option (List ℕ)). IfSome (o ++? S
 pub line_added : (ending : ℕ) (r : Record) (old first second third new : List ℕ) → first ≡ old ++ (six_octal_digits r.mode ++ 32 ∷ []) → second ≡ first ++ (hex_of r.id ++ 32 ∷ []) → third ≡ second ++ r.path → new ≡ third ++ ending ∷ [] → new ≡ old ++ file_line ending r
 line_added ending r old first second third new a b c d = rw (d, c, b, a) (simp append_assoc)
 
-module _ (objects : Objects) (rows : List GraphRow) (old : Option (List ℕ)) (shown : EntryLines) (tree : ObjectId) where
-  walk_failed : (e : Fault) → IsWalkFaultOf objects tree e → Serves objects rows old (Files shown tree) (Err e) old
-  walk_failed e h = subst (λ (f : Fault). Serves objects rows old (Files shown tree) (Err f) old) (sym h.3) (not_listed h.0 h.1 h.2)
+module _ (Stored : ObjectId → Type 0) (objects : Objects) (rows : List GraphRow) (old : Option (List ℕ)) (shown : EntryLines) (tree : ObjectId) where
+  walk_failed : (e : Fault) → IsWalkFaultOf objects tree e → Serves Stored objects rows old (Files shown tree) (Err e) old
+  walk_failed e h = subst (λ (f : Fault). Serves Stored objects rows old (Files shown tree) (Err f) old) (sym h.3) (not_listed h.0 h.1 h.2)
 
-  name_failed : (e : Fault) → IsNameFaultOf objects tree e → Serves objects rows old (Files shown tree) (Err e) old
-  name_failed e h = subst (λ (f : Fault). Serves objects rows old (Files shown tree) (Err f) old) (sym h.4) (misnamed h.0 h.1 h.3)
+  name_failed : (e : Fault) → IsNameFaultOf objects tree e → Serves Stored objects rows old (Files shown tree) (Err e) old
+  name_failed e h = subst (λ (f : Fault). Serves Stored objects rows old (Files shown tree) (Err f) old) (sym h.4) (misnamed h.0 h.1 h.3)
 
-  tree_failed : (e : Fault) → IsWalkFaultOf objects tree e ⊎ IsNameFaultOf objects tree e → Serves objects rows old (Files shown tree) (Err e) old
+  tree_failed : (e : Fault) → IsWalkFaultOf objects tree e ⊎ IsNameFaultOf objects tree e → Serves Stored objects rows old (Files shown tree) (Err e) old
   tree_failed e (inl h) = walk_failed e h
   tree_failed e (inr h) = name_failed e h
 
   -- nothing was written
-  pub files_failed : (store : Objects) → store ≡ objects → (result : Result (Unit {0}) Fault) (e : Fault) → result ≡ Err e → IsTreeFault store tree e → Serves objects rows old (Files shown tree) result old
-  files_failed store is result e same h = nothing_written objects rows old (Files shown tree) result e same (λ other. tree_failed e (subst (λ o. IsTreeFault o tree e) is h other))
+  pub files_failed : (store : Objects) → store ≡ objects → (result : Result (Unit {0}) Fault) (e : Fault) → result ≡ Err e → IsTreeFault store tree e → Serves Stored objects rows old (Files shown tree) result old
+  files_failed store is result e same h = nothing_written Stored objects rows old (Files shown tree) result e same (λ other. tree_failed e (subst (λ o. IsTreeFault o tree e) is h other))
 
   -- the lines were written, or the writer failed
-  pub files_written : (store : Objects) → store ≡ objects → (new : Option (List ℕ)) (lines : List ℕ) (result : Result (Unit {0}) Fault) → AreLinesOf shown store tree lines → OnOk result (Appends old new lines) → IfErr result (BreaksOff old new lines) → Serves objects rows old (Files shown tree) result new
+  pub files_written : (store : Objects) → store ≡ objects → (new : Option (List ℕ)) (lines : List ℕ) (result : Result (Unit {0}) Fault) → AreLinesOf shown store tree lines → OnOk result (Appends old new lines) → IfErr result (BreaksOff old new lines) → Serves Stored objects rows old (Files shown tree) result new
   files_written store is new lines result are =
       let so : AreLinesOf shown objects tree lines = subst (λ o. AreLinesOf shown o tree lines) is are in
-      written_or_begun objects rows old (Files shown tree) lines (λ full h. listed so.0 so.1 so.2 (subst (Appends old full) so.3 h)) new result
+      written_or_begun Stored objects rows old (Files shown tree) lines (λ full h. listed so.0 so.1 so.2 (subst (Appends old full) so.3 h)) new result

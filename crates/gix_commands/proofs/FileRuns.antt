@@ -12,6 +12,7 @@ use Rattle.gix_tree.specs.Laws.{AreSound}
 use Rattle.gix_words.specs.declared.fault.Fault.TheVariants as fault
 use Rattle.gix_commands.specs.Listings.{AreNamed, Unfolds, Misnames, FilesReportNames, FilesSucceeds}
 use Rattle.gix_commands.specs.Readable.{readable, reads_all_lines}
+use Rattle.gix_commands.specs.Chosen.{HasObject}
 use Rattle.gix_commands.specs.Run.{Serves, listed, misnamed, cut_off}
 use Rattle.gix_commands.proofs.CommitRuns.{ok_same, ends_well}
 use Rattle.gix_commands.proofs.NamedTrees.{no_misnamed, misnames, have_names}
@@ -45,7 +46,7 @@ module _ (objects : Objects) (shown : EntryLines) (tree : ObjectId) where
   pub unfolds : (recorder : Tracked) (walk : RecordsTree objects tree recorder (Ok tt)) → Unfolds objects tree walk.visits
   unfolds recorder walk = record { in_order = in_preorder objects tree recorder walk.script walk.run walk.answered; all = goes_on objects tree recorder walk.script walk.run }
 
-  reports : (i : ObjectId) (answer : Result (Unit {0}) Fault) (old new : Option (List ℕ)) → Serves objects [] old (Files shown tree) answer new → answer ≡ Err (fault.Name i) → Misnames objects tree i
+  reports : {Stored : ObjectId → Type 0} → (i : ObjectId) (answer : Result (Unit {0}) Fault) (old new : Option (List ℕ)) → Serves Stored objects [] old (Files shown tree) answer new → answer ≡ Err (fault.Name i) → Misnames objects tree i
   reports i answer old new (listed recorder walk names written) is = cc
   reports i answer old new (not_listed recorder why walk) is = absurd (not_named i why (err_same is))
   reports i answer old new (misnamed {i = j} recorder walk first) is = subst (Misnames objects tree) (name_same (err_same is)) (misnames objects tree walk.visits j (unfolds recorder walk) first)
@@ -67,7 +68,7 @@ module _ (objects : Objects) (shown : EntryLines) (tree : ObjectId) where
     outside (error.ObjectDecode e) recorder walk = absurd (no_other (error.ObjectDecode e) recorder walk (λ e. cc))
     outside (error.Cycle i) recorder walk = absurd (no_other (error.Cycle i) recorder walk (λ e. cc))
 
-    well : (old : Option (List ℕ)) (answer : Result (Unit {0}) Fault) (new : Option (List ℕ)) → Serves objects [] old (Files shown tree) answer new → EndsWell answer
+    well : {Stored : ObjectId → Type 0} → (old : Option (List ℕ)) (answer : Result (Unit {0}) Fault) (new : Option (List ℕ)) → Serves Stored objects [] old (Files shown tree) answer new → EndsWell answer
     well old answer new (listed recorder walk names written) = tt
     well old answer new (not_listed recorder why walk) = outside why recorder walk
     well old answer new (misnamed {i = i} recorder walk first) = no_misnamed walk.visits i (have_names objects tree named walk.visits (unfolds recorder walk)) first
@@ -86,7 +87,7 @@ name_reported words input records shown tree i answer old new asked are (bad_rec
 name_reported words input records shown tree i answer old new asked are (served other there read t same is_read s) is =
     misnames_back false (stored records) tree i
     (reports (readable false (stored records)) shown tree i answer old new
-    (subst (λ r. Serves (readable (reads_all_lines r) (stored records)) [] old r answer new) (ok_same (sym t ∙ asked)) (subst (λ rs. Serves (readable (reads_all_lines other) (stored rs)) [] old other answer new) (only_reading read records input (subst (AreRecords read) same is_read) are) s)) is)
+    (subst (λ r. Serves (HasObject (stored records) []) (readable (reads_all_lines r) (stored records)) [] old r answer new) (ok_same (sym t ∙ asked)) (subst (λ rs. Serves (HasObject (stored rs) []) (readable (reads_all_lines other) (stored rs)) [] old other answer new) (only_reading read records input (subst (AreRecords read) same is_read) are) s)) is)
 
 pub files_report_names : FilesReportNames
 files_report_names words input records shown tree i old new asked are runs = name_reported words input records shown tree i (Err (fault.Name i)) old new asked are runs refl

@@ -1,6 +1,6 @@
 -- A run over records that are in memory.
 use Rattle.std.proofs.Common.{◌≡◌, ◌≢◌, ℕ, List, Option, Some, Result, Err, sym, subst, ap, ◌∙◌}
-use Rattle.gix_commands.proofs.Common.{Objects, GraphRow, IsRecordFault, bad, Fault, fault_of_records, Runs, without_memory, no_command, not_read, bad_record, served, Request, request_of}
+use Rattle.gix_commands.proofs.Common.{ObjectId, Objects, GraphRow, IsRecordFault, bad, Fault, fault_of_records, Runs, without_memory, no_command, not_read, bad_record, served, Request, request_of}
 use Rattle.gix_records.specs.declared.Error.{Error as RecordsError}
 use Rattle.gix_records.specs.Input.{Tells}
 use Rattle.gix_records.specs.Records.{no_memory}
@@ -28,5 +28,5 @@ pub records_unread : {text : List ℕ} {e : RecordsError} → IsRecordFault text
 records_unread (bad b) = λ e. cc
 records_unread (no_memory before r rest behind begins is) = λ e. cc
 
-pub serves_unread : {objects : Objects} {rows : List GraphRow} {old new : Option (List ℕ)} {request : Request} {answer : Result (Unit {0}) Fault} → Serves objects rows old request answer new → answer ≢ Err fault.Read
+pub serves_unread : {Stored : ObjectId → Type 0} {objects : Objects} {rows : List GraphRow} {old new : Option (List ℕ)} {request : Request} {answer : Result (Unit {0}) Fault} → Serves Stored objects rows old request answer new → answer ≢ Err fault.Read
 serves_unread s = λ same. subst OfWalk same (serves_of_walk s)

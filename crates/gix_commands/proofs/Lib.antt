@@ -59,7 +59,7 @@ mod SameContained
 mod SameContaining
 mod SameBases
 mod SameLists
-mod TextWords
+pub mod GivenObjects
 mod RightTrees
 mod Right
 pub mod PageCommits
@@ -73,7 +73,6 @@ pub mod RightRuns
 mod ReadableObjects
 pub mod ReadableTexts
 mod ReachedIsRead
-pub mod SameCommitsThere
 mod RowsAsTexts
 pub mod NamedOnes
 mod Promised

@@ -1,5 +1,5 @@
 -- Lines that are buffered, and lines that were written.
-use Rattle.std.proofs.Common.{◌≡◌, ◌≢◌, ◌<◌, ◌+◌, ℕ, zero, suc, flat_map, List, [], ◌∷◌, ◌++◌, length, Option, Some, None, Result, Ok, Err, refl, sym, ap, subst, ◌∙◌, append_assoc, arith, inl, inr, append-nil, length-append}
+use Rattle.std.proofs.Common.{◌≡◌, ◌≢◌, ◌<◌, ◌+◌, ℕ, zero, suc, flat_map, List, [], ◌∷◌, ◌++◌, length, Option, Some, None, Result, Ok, Err, refl, sym, ap, subst, ◌∙◌, append_assoc, arith, ◌⊎◌, ⊎_elim, inl, inr, append-nil, length-append}
 use Rattle.gix_commands.proofs.Common.{Appends, ObjectId, Yields, Info, Fault, Grows, Adds, Ends, EndsBy, WritesAll, finished, cut_short, enough, before}
 use Rattle.std.proofs.lemmas.List.{map-append}
 use Rattle.std.proofs.lemmas.Grind.{flat_map-append}
@@ -11,7 +11,8 @@ use Rattle.gix_words.specs.declared.words.Form.TheVariants as form
 use Rattle.gix_commands.specs.Chosen.{Writes}
 use Rattle.gix_commands.specs.Output.{AddsBegun, BreaksOff, Held, StopsWithin, Takes, TakesNone, WritesBegun, WritesWhole, added, broken_off, written, cut, unwritten}
 use Rattle.gix_revwalk.specs.Infos.{given}
-use Rattle.gix_commands.specs.Walked.{AsksForMore, failed}
+use Rattle.std.specs.Iterator.{YieldsThen}
+use Rattle.gix_commands.specs.Walked.{AsksForMore, Have, failed, unstored}
 
 -- nothing was written
 pub grows_waiting : (old : Option (List ℕ)) (waiting waits bytes : List ℕ) → waits ≡ waiting ++ bytes → Grows old waiting old waits bytes
@@ -79,57 +80,65 @@ module _ {W E : Type 0} where
         subst (λ (list : List (Result Info E)). Yields Steps walk list new) (sym (given_last infos info))
         (yields_last walk at new (given infos) (Ok info) h (subst (λ (a : Result Info E). Steps at (Some a) new) is step))
 
-    module _ (Tells : E → Fault → Type 0) (those : List Info → List ObjectId) (limit : Option ℕ) (line : ObjectId → List ℕ) (by : Form) (walk : W) (old : Option (List ℕ)) (held : Held) where
+    module _ (Tells : E → Fault → Type 0) (Has : ObjectId → Type 0) (those : List Info → List ObjectId) (limit : Option ℕ) (line : ObjectId → List ℕ) (by : Form) (walk : W) (old : Option (List ℕ)) (held : Held) where
       abbrev pub Begun : Result (Unit {0}) Fault → Option (List ℕ) → Held → Type 0
-      Begun = AddsBegun Steps Tells those limit line by walk old held
+      Begun = AddsBegun Steps Tells Has those limit line by walk old held
 
       -- how the walk ended, by what is left to be written
-      pub ends_before : (infos : List Info) (left : Option ℕ) {answer : Result (Unit {0}) Fault} → IsLimitLeft limit (length (those infos)) left → left ≢ Some 0 → Ends Steps Tells walk infos answer → EndsBy Steps Tells those limit walk infos answer
+      pub ends_before : (infos : List Info) (left : Option ℕ) {answer : Result (Unit {0}) Fault} → IsLimitLeft limit (length (those infos)) left → left ≢ Some 0 → Ends Steps Tells Has walk infos answer → EndsBy Steps Tells Has those limit walk infos answer
       ends_before infos left {answer} is some ends = go limit is
         where
-          go : (limit : Option ℕ) → IsLimitLeft limit (length (those infos)) left → EndsBy Steps Tells those limit walk infos answer
+          go : (limit : Option ℕ) → IsLimitLeft limit (length (those infos)) left → EndsBy Steps Tells Has those limit walk infos answer
           go None is = ends
           go (Some n) (k, e, sum) = before ends (fewer _ k n sum (λ z. some (e ∙ ap Some z)))
 
-      pub ends_enough : (infos : List Info) (left : Option ℕ) (at : W) → IsLimitLeft limit (length (those infos)) left → left ≡ Some 0 → Yields Steps walk (given infos) at → EndsBy Steps Tells those limit walk infos (Ok tt)
+      pub ends_enough : (infos : List Info) (left : Option ℕ) (at : W) → IsLimitLeft limit (length (those infos)) left → left ≡ Some 0 → Yields Steps walk (given infos) at → EndsBy Steps Tells Has those limit walk infos (Ok tt)
       ends_enough infos left at is none h = go limit is
         where
-          go : (limit : Option ℕ) → IsLimitLeft limit (length (those infos)) left → EndsBy Steps Tells those limit walk infos (Ok tt)
+          go : (limit : Option ℕ) → IsLimitLeft limit (length (those infos)) left → EndsBy Steps Tells Has those limit walk infos (Ok tt)
           go None is = let no : ◌≡◌ {A = Option ℕ} None (Some 0) = sym is ∙ none in cc
           go (Some n) (k, e, sum) = enough at h (all_drawn _ k n sum (let z : k ≡ 0 = cc in z))
 
       -- the walk's answer was a fault
-      pub adds_failed : (at drawn : W) (infos : List Info) (left : Option ℕ) (answer : Result Info E) (e : E) (f : Fault) (new : Option (List ℕ)) (holds : Held) → IsLimitLeft limit (length (those infos)) left → left ≢ Some 0
+      pub adds_failed : (at drawn : W) (infos : List Info) (have : Have Has infos) (left : Option ℕ) (answer : Result Info E) (e : E) (f : Fault) (new : Option (List ℕ)) (holds : Held) → IsLimitLeft limit (length (those infos)) left → left ≢ Some 0
           → Yields Steps walk (given infos) at → Steps at (Some answer) drawn → answer ≡ Err e → Tells e f → Takes line by old held (those infos) new holds → Begun (Err f) new holds
-      adds_failed at drawn infos left answer e f new holds is some h step fails tells takes = added (record {
+      adds_failed at drawn infos have left answer e f new holds is some h step fails tells takes = added (record {
         infos = infos;
         ends = ends_before infos left is some (failed e f drawn (at, h, subst (λ (a : Result Info E). Steps at (Some a) drawn) fails step) tells);
+        have = have;
         takes = takes;
       })
 
-      -- memory ran out for a commit
-      pub adds_none : (at drawn : W) (infos : List Info) (left : Option ℕ) (next : Result Info E) (info : Info) (e : Fault) (result : Result (Unit {0}) Fault) (new : Option (List ℕ)) (holds : Held) → IsLimitLeft limit (length (those infos)) left → left ≢ Some 0
-          → Yields Steps walk (given infos) at → Steps at (Some next) drawn → next ≡ Ok info → Takes line by old held (those infos) new holds → result ≡ Err e → e ≡ fault.Memory → Begun result new holds
-      adds_none at drawn infos left next info e result new holds is some h step gives takes same memory = added (record {
+      -- memory ran out for a commit, or it lacks what each has to have
+      pub adds_none : (at drawn : W) (infos : List Info) (have : Have Has infos) (left : Option ℕ) (next : Result Info E) (info : Info) (e : Fault) (result : Result (Unit {0}) Fault) (new : Option (List ℕ)) (holds : Held) → IsLimitLeft limit (length (those infos)) left → left ≢ Some 0
+          → Yields Steps walk (given infos) at → Steps at (Some next) drawn → next ≡ Ok info → Takes line by old held (those infos) new holds → result ≡ Err e → (e ≡ fault.Memory) ⊎ ((e ≡ fault.Missing info.id) × (Has info.id → ⊥)) → Begun result new holds
+      adds_none at drawn infos have left next info e result new holds is some h step gives takes same why = added (record {
         infos = infos;
-        ends = ends_before infos left is some (subst (Ends Steps Tells walk infos) (sym (same ∙ ap (λ f. Err f) memory)) (cut_short info drawn (at, h, subst (λ (a : Result Info E). Steps at (Some a) drawn) gives step)));
+        ends = ends_before infos left is some (subst (Ends Steps Tells Has walk infos) (sym same) (⊎_elim
+            (λ memory. subst (λ (f : Fault). Ends Steps Tells Has walk infos (Err f)) (sym memory) (cut_short info drawn drew))
+            (λ (missing, none). subst (λ (f : Fault). Ends Steps Tells Has walk infos (Err f)) (sym missing) (unstored info drawn drew none)) why));
+        have = have;
         takes = takes;
       })
+        where
+          drew : YieldsThen Steps walk (given infos) (Some (Ok info)) drawn
+          drew = (at, h, subst (λ (a : Result Info E). Steps at (Some a) drawn) gives step)
 
       -- a commit couldn't be added
-      pub adds_cut : (at drawn : W) (infos : List Info) (left : Option ℕ) (next : Result Info E) (info : Info) (e : Fault) (result : Result (Unit {0}) Fault) (mid new : Option (List ℕ)) (has holds : Held) → IsLimitLeft limit (length (those infos)) left → left ≢ Some 0
+      pub adds_cut : (at drawn : W) (infos : List Info) (have : Have Has infos) (left : Option ℕ) (next : Result Info E) (info : Info) (e : Fault) (result : Result (Unit {0}) Fault) (mid new : Option (List ℕ)) (has holds : Held) → IsLimitLeft limit (length (those infos)) left → left ≢ Some 0
           → Yields Steps walk (given infos) at → Steps at (Some next) drawn → next ≡ Ok info → Takes line by old held (those infos) mid has → result ≡ Err e → TakesNone by mid has new holds e → Begun result new holds
-      adds_cut at drawn infos left next info e result mid new has holds is some h step gives takes same none = go by takes none
+      adds_cut at drawn infos have left next info e result mid new has holds is some h step gives takes same none = go by takes none
         where
-          short : Ends Steps Tells walk infos (Err fault.Memory)
+          short : Ends Steps Tells Has walk infos (Err fault.Memory)
           short = cut_short info drawn (at, h, subst (λ (a : Result Info E). Steps at (Some a) drawn) gives step)
 
-          go : (by : Form) → Takes line by old held (those infos) mid has → TakesNone by mid has new holds e → AddsBegun Steps Tells those limit line by walk old held result new holds
+          go : (by : Form) → Takes line by old held (those infos) mid has → TakesNone by mid has new holds e → AddsBegun Steps Tells Has those limit line by walk old held result new holds
           go form.Lines grows (inl (breaks, empty)) =
-              subst (λ (r : Result (Unit {0}) Fault). AddsBegun Steps Tells those limit line form.Lines walk old held r new holds) (sym (same ∙ ap (λ f. Err f) breaks.0))
+              subst (λ (r : Result (Unit {0}) Fault). AddsBegun Steps Tells Has those limit line form.Lines walk old held r new holds) (sym (same ∙ ap (λ f. Err f) breaks.0))
               (broken_off breaks.1.1 refl empty (record {
                 infos = infos;
                 ends = ends_before infos left is some short;
+                have = have;
                 takes = (
                   grows.0 ++ breaks.1.0,
                   Appends-trans old mid new grows.0 breaks.1.0 grows.1 breaks.1.3,
@@ -138,34 +147,39 @@ module _ {W E : Type 0} where
               }))
           go form.Lines grows (inr (memory, more)) = added (record {
             infos = infos;
-            ends = ends_before infos left is some (subst (Ends Steps Tells walk infos) (sym (same ∙ ap (λ f. Err f) memory)) short);
+            ends = ends_before infos left is some (subst (Ends Steps Tells Has walk infos) (sym (same ∙ ap (λ f. Err f) memory)) short);
+            have = have;
             takes = subst (Grows old held.lines new holds.lines) (append-nil (flat_map line (those infos))) (grows_more old mid new held.lines has.lines holds.lines (flat_map line (those infos)) [] grows more);
           })
           go form.Count (kept, number) (memory, still, as_many) = added (record {
             infos = infos;
-            ends = ends_before infos left is some (subst (Ends Steps Tells walk infos) (sym (same ∙ ap (λ f. Err f) memory)) short);
+            ends = ends_before infos left is some (subst (Ends Steps Tells Has walk infos) (sym (same ∙ ap (λ f. Err f) memory)) short);
+            have = have;
             takes = (still ∙ kept, as_many ∙ number);
           })
           go form.Reverse (kept, ids) (memory, still, as_many) = added (record {
             infos = infos;
-            ends = ends_before infos left is some (subst (Ends Steps Tells walk infos) (sym (same ∙ ap (λ f. Err f) memory)) short);
+            ends = ends_before infos left is some (subst (Ends Steps Tells Has walk infos) (sym (same ∙ ap (λ f. Err f) memory)) short);
+            have = have;
             takes = (still ∙ kept, as_many ∙ ids);
           })
 
       -- the walk ended
-      pub adds_all : (at drawn : W) (infos : List Info) (left : Option ℕ) (new : Option (List ℕ)) (holds : Held) → IsLimitLeft limit (length (those infos)) left → left ≢ Some 0 → Yields Steps walk (given infos) at → Steps at None drawn
+      pub adds_all : (at drawn : W) (infos : List Info) (have : Have Has infos) (left : Option ℕ) (new : Option (List ℕ)) (holds : Held) → IsLimitLeft limit (length (those infos)) left → left ≢ Some 0 → Yields Steps walk (given infos) at → Steps at None drawn
           → Takes line by old held (those infos) new holds → Begun (Ok tt) new holds
-      adds_all at drawn infos left new holds is some h step takes = added (record {
+      adds_all at drawn infos have left new holds is some h step takes = added (record {
         infos = infos;
         ends = ends_before infos left is some (finished drawn (at, h, step));
+        have = have;
         takes = takes;
       })
 
       -- as many were written as were asked for
-      pub adds_enough : (at : W) (infos : List Info) (left : Option ℕ) (new : Option (List ℕ)) (holds : Held) → IsLimitLeft limit (length (those infos)) left → left ≡ Some 0 → Yields Steps walk (given infos) at → Takes line by old held (those infos) new holds → Begun (Ok tt) new holds
-      adds_enough at infos left new holds is none h takes = added (record {
+      pub adds_enough : (at : W) (infos : List Info) (have : Have Has infos) (left : Option ℕ) (new : Option (List ℕ)) (holds : Held) → IsLimitLeft limit (length (those infos)) left → left ≡ Some 0 → Yields Steps walk (given infos) at → Takes line by old held (those infos) new holds → Begun (Ok tt) new holds
+      adds_enough at infos have left new holds is none h takes = added (record {
         infos = infos;
         ends = ends_enough infos left at is none h;
+        have = have;
         takes = takes;
       })
 
@@ -184,20 +198,21 @@ module _ {W E : Type 0} where
           go None is = let no : ◌≡◌ {A = Option ℕ} None (Some 0) = sym is ∙ none in cc
           go (Some n) (k, e, sum) = ap Some (all_drawn _ k n sum (let z : k ≡ 0 = cc in z))
 
-    module _ (Tells : E → Fault → Type 0) (those : List Info → List ObjectId) (limit : Option ℕ) (line : ObjectId → List ℕ) (walk : W) (old : Option (List ℕ)) (held : Held) (none : held.lines ≡ []) where
+    module _ (Tells : E → Fault → Type 0) (Has : ObjectId → Type 0) (those : List Info → List ObjectId) (limit : Option ℕ) (line : ObjectId → List ℕ) (walk : W) (old : Option (List ℕ)) (held : Held) (none : held.lines ≡ []) where
       abbrev AddsLines : Result (Unit {0}) Fault → Option (List ℕ) → Held → Type 0
-      AddsLines = AddsBegun Steps Tells those limit line form.Lines walk old held
+      AddsLines = AddsBegun Steps Tells Has those limit line form.Lines walk old held
 
       abbrev WritesLines : Result (Unit {0}) Fault → Option (List ℕ) → Type 0
-      WritesLines = WritesBegun Steps Tells those limit line form.Lines walk old
+      WritesLines = WritesBegun Steps Tells Has those limit line form.Lines walk old
 
       -- what was added goes on behind what is written
-      added_behind : {mid new : Option (List ℕ)} {holds : Held} (answer : Result (Unit {0}) Fault) (some more : List ℕ) → Adds Steps Tells those limit line form.Lines walk old held answer mid holds → holds.lines ≡ some ++ more → Appends mid new some → WritesLines (Err fault.Write) new
+      added_behind : {mid new : Option (List ℕ)} {holds : Held} (answer : Result (Unit {0}) Fault) (some more : List ℕ) → Adds Steps Tells Has those limit line form.Lines walk old held answer mid holds → holds.lines ≡ some ++ more → Appends mid new some → WritesLines (Err fault.Write) new
       added_behind {mid} {new} {holds} answer some more h whole a =
           let start = Appends-trans old mid new h.takes.0 some h.takes.1 a in
           cut {answer = answer} {full = append_known new more} (h.takes.0 ++ some) more (record {
             infos = h.infos;
             ends = h.ends;
+            have = h.have;
             writes = subst (Appends old (append_known new more)) (sym (ap (λ w. w ++ flat_map line (those h.infos)) (sym none) ∙ h.takes.2 ∙ ap (λ w. h.takes.0 ++ w) whole ∙ sym (append_assoc h.takes.0 some more)))
                 (Appends-trans old new (append_known new more) (h.takes.0 ++ some) more start (appends_behind new more));
           }) start (appends_behind new more)
@@ -207,6 +222,7 @@ module _ {W E : Type 0} where
       lines_written {mid} {new} {holds} {answer} (added h) k = written (record {
         infos = h.infos;
         ends = h.ends;
+        have = h.have;
         writes = grows_end old mid new holds.lines (flat_map line (those h.infos)) (subst (λ (w : List ℕ). Grows old w mid holds.lines (flat_map line (those h.infos))) none h.takes) k;
       })
       lines_written {mid} {new} (broken_off more same empty h) k = added_behind (Err fault.Memory) [] more h refl (subst (Appends mid new) empty k)
@@ -220,7 +236,7 @@ module _ {W E : Type 0} where
           go (broken_off more same empty h) whole = added_behind (Err fault.Memory) [] more h refl (subst (Appends mid new) (none_before breaks.1.0 breaks.1.1 (sym whole ∙ empty)) breaks.1.3)
 
     -- a list that is written at once, or whose number is
-    module _ (Tells : E → Fault → Type 0) (those : List Info → List ObjectId) (limit : Option ℕ) (line : ObjectId → List ℕ) (by : Form) (other : by ≢ form.Lines) (walk : W) (old : Option (List ℕ)) (held : Held) where
+    module _ (Tells : E → Fault → Type 0) (Has : ObjectId → Type 0) (those : List Info → List ObjectId) (limit : Option ℕ) (line : ObjectId → List ℕ) (by : Form) (other : by ≢ form.Lines) (walk : W) (old : Option (List ℕ)) (held : Held) where
       -- nothing was written before
       still : (by : Form) → by ≢ form.Lines → (ids : List ObjectId) (mid : Option (List ℕ)) (holds : Held) → Takes line by old held ids mid holds → mid ≡ old
       still form.Lines other ids mid holds takes = absurd (other refl)
@@ -233,26 +249,27 @@ module _ {W E : Type 0} where
       writes_none form.Reverse other e ids is = is
 
       -- the walk failed
-      pub whole_failed : {mid : Option (List ℕ)} {holds : Held} {answer result : Result (Unit {0}) Fault} (e : Fault) → AddsBegun Steps Tells those limit line by walk old held answer mid holds → answer ≡ Err e → result ≡ Err e → WritesBegun Steps Tells those limit line by walk old result mid
-      whole_failed {mid} {holds} {answer} {result} e (added h) fails same = subst (λ (r : Result (Unit {0}) Fault). WritesBegun Steps Tells those limit line by walk old r mid) (sym same) (written (record {
+      pub whole_failed : {mid : Option (List ℕ)} {holds : Held} {answer result : Result (Unit {0}) Fault} (e : Fault) → AddsBegun Steps Tells Has those limit line by walk old held answer mid holds → answer ≡ Err e → result ≡ Err e → WritesBegun Steps Tells Has those limit line by walk old result mid
+      whole_failed {mid} {holds} {answer} {result} e (added h) fails same = subst (λ (r : Result (Unit {0}) Fault). WritesBegun Steps Tells Has those limit line by walk old r mid) (sym same) (written (record {
         infos = h.infos;
-        ends = subst (EndsBy Steps Tells those limit walk h.infos) fails h.ends;
+        ends = subst (EndsBy Steps Tells Has those limit walk h.infos) fails h.ends;
+        have = h.have;
         writes = writes_none by other e (those h.infos) (still by other (those h.infos) mid holds h.takes);
       }))
       whole_failed e (broken_off more lines empty h) fails same = absurd (other lines)
 
       -- the walk ended, and what was asked for was written, or not
-      pub whole_written : {mid new : Option (List ℕ)} {holds : Held} (bytes : List ℕ) → AddsBegun Steps Tells those limit line by walk old held (Ok tt) mid holds
-          → ((ids : List ObjectId) → Takes line by old held ids mid holds → (full : Option (List ℕ)) → Appends old full bytes → Writes line by (Ok tt) ids old full) → (result : Result (Unit {0}) Fault) → WritesWhole mid bytes result new → WritesBegun Steps Tells those limit line by walk old result new
+      pub whole_written : {mid new : Option (List ℕ)} {holds : Held} (bytes : List ℕ) → AddsBegun Steps Tells Has those limit line by walk old held (Ok tt) mid holds
+          → ((ids : List ObjectId) → Takes line by old held ids mid holds → (full : Option (List ℕ)) → Appends old full bytes → Writes line by (Ok tt) ids old full) → (result : Result (Unit {0}) Fault) → WritesWhole mid bytes result new → WritesBegun Steps Tells Has those limit line by walk old result new
       whole_written {mid} {new} {holds} bytes (added h) writes result whole = go result (subst (λ o. WritesWhole o bytes result new) (still by other (those h.infos) mid holds h.takes) whole)
         where
-          all : (full : Option (List ℕ)) → Appends old full bytes → WritesAll Steps Tells those limit line by walk old (Ok tt) full
-          all full a = record { infos = h.infos; ends = h.ends; writes = writes (those h.infos) h.takes full a }
+          all : (full : Option (List ℕ)) → Appends old full bytes → WritesAll Steps Tells Has those limit line by walk old (Ok tt) full
+          all full a = record { infos = h.infos; ends = h.ends; have = h.have; writes = writes (those h.infos) h.takes full a }
 
-          go : (result : Result (Unit {0}) Fault) → WritesWhole old bytes result new → WritesBegun Steps Tells those limit line by walk old result new
+          go : (result : Result (Unit {0}) Fault) → WritesWhole old bytes result new → WritesBegun Steps Tells Has those limit line by walk old result new
           go (Ok done) a = written (all new a)
-          go (Err e) (inl (memory, same)) = subst (λ (o : Option (List ℕ)). WritesBegun Steps Tells those limit line by walk old (Err e) o) (sym same) (subst (λ (f : Fault). WritesBegun Steps Tells those limit line by walk old (Err f) old) (sym memory) unwritten)
+          go (Err e) (inl (memory, same)) = subst (λ (o : Option (List ℕ)). WritesBegun Steps Tells Has those limit line by walk old (Err e) o) (sym same) (subst (λ (f : Fault). WritesBegun Steps Tells Has those limit line by walk old (Err f) old) (sym memory) unwritten)
           go (Err e) (inr breaks) =
               let full = append_known new breaks.1.1 in
-              subst (λ (f : Fault). WritesBegun Steps Tells those limit line by walk old (Err f) new) (sym breaks.0)
+              subst (λ (f : Fault). WritesBegun Steps Tells Has those limit line by walk old (Err f) new) (sym breaks.0)
               (cut breaks.1.0 breaks.1.1 (all full (subst (Appends old full) (sym breaks.1.2) (Appends-trans old new full breaks.1.0 breaks.1.1 breaks.1.3 (appends_behind new breaks.1.1)))) breaks.1.3 (appends_behind new breaks.1.1))

@@ -1,8 +1,9 @@
--- What a run may have written by the page, in each history that has some objects; and so has a run of which a beginning was written.
+-- What a run may have written by the page of given objects and rows, in each history of the objects that were read; and so has a run of
+-- which a beginning was written.
 use Rattle.std.proofs.Common.{◌≡◌, ℕ, List, [], ◌∷◌, ◌++◌, length, Option, Some, None, Result, Ok, Err, refl, ap, subst, ⊎_elim, inl, inr, ◌⊎◌, ◌∙◌, arith, append_assoc, append-nil, length-append}
 use Rattle.gix_commands.proofs.Common.{Appends, Fault}
 use Rattle.gix_words.specs.declared.fault.Fault.TheVariants as fault
-use Rattle.gix_statement.specs.WholeStatement.{Objects, InEach, HasBegun, IsCutOff, Serves}
+use Rattle.gix_statement.specs.WholeStatement.{Objects, Row, InEach, HasBegun, IsCutOff, Serves}
 
 none_left : (xs : List ℕ) → length xs ≡ 0 → xs ≡ []
 none_left [] e = refl
@@ -24,16 +25,16 @@ then (Some old) (Some new) None some more a b = absurd b
 then (Some old) (Some new) (Some full) some more a b = b ∙ ap (λ xs. xs ++ more) a ∙ append_assoc old some more
 
 -- by the page: what words ask for was written; or after a failure nothing, or a beginning of it, in whole lines unless the writer failed
-abbrev pub IsRight : Objects → List (List ℕ) → (old : Option (List ℕ)) → Result (Unit {0}) Fault → (new : Option (List ℕ)) → Type 0
-IsRight objects words old (Ok done) new = InEach objects [] (λ ps ts. Serves objects [] ps ts old new words)
-IsRight objects words old (Err e) new =
-    (new ≡ old) ⊎ InEach objects [] (λ ps ts. HasBegun objects [] ps ts old new words ⊎ ((e ≡ fault.Write) × IsCutOff objects [] ps ts old new words))
+abbrev pub IsRight : (read given : Objects) → List Row → List (List ℕ) → (old : Option (List ℕ)) → Result (Unit {0}) Fault → (new : Option (List ℕ)) → Type 0
+IsRight read given rows words old (Ok done) new = InEach read [] (λ ps ts. Serves given rows ps ts old new words)
+IsRight read given rows words old (Err e) new =
+    (new ≡ old) ⊎ InEach read [] (λ ps ts. HasBegun given rows ps ts old new words ⊎ ((e ≡ fault.Write) × IsCutOff given rows ps ts old new words))
 
-module _ (objects : Objects) (words : List (List ℕ)) (old : Option (List ℕ)) where
+module _ (read given : Objects) (rows : List Row) (words : List (List ℕ)) (old : Option (List ℕ)) where
   abbrev RightSo : Result (Unit {0}) Fault → Option (List ℕ) → Type 0
-  RightSo = IsRight objects words old
+  RightSo = IsRight read given rows words old
 
-  pub begun_right : (e : Fault) (new : Option (List ℕ)) → InEach objects [] (λ ps ts. HasBegun objects [] ps ts old new words) → RightSo (Err e) new
+  pub begun_right : (e : Fault) (new : Option (List ℕ)) → InEach read [] (λ ps ts. HasBegun given rows ps ts old new words) → RightSo (Err e) new
   begun_right e new each = inr (λ ps ts h. inl (each ps ts h))
 
   -- a beginning of what is right

@@ -8,7 +8,8 @@ use Rattle.gix_revwalk.specs.declared.Parents.TheVariants as mode
 use Rattle.gix_simple.specs.declared.Sorting.{Sorting}
 use Rattle.gix_topo.specs.declared.Sorting.{Sorting as TopoSorting}
 use Rattle.gix_statement.proofs.InEach.{Each, ahead_each, bases_each, containing_each, files_each}
-use Rattle.gix_statement.specs.WholeStatement.{IsThere, contains}
+use Rattle.gix_statement.specs.WholeStatement as page
+use Rattle.gix_statement.specs.WholeStatement.{IsThere, Row, contains}
 use Rattle.gix_commands.specs.Pages.{HaveTexts, page_objects}
 use Rattle.gix_commands.specs.Run.{Serves, cut_off, misnamed}
 use Rattle.gix_commands.specs.TopoWalked.{Walk as TopoWalk}
@@ -29,6 +30,7 @@ use Rattle.gix_commands.proofs.SameLists.{id_lines, number_shown}
 use Rattle.gix_commands.proofs.SameWords.{AreWordsOf, are_words}
 use Rattle.gix_commands.proofs.TextNumbers.{number_by_texts}
 use Rattle.gix_commands.proofs.TopoRuns.{was_read}
+use Rattle.gix_commands.proofs.GivenObjects.{HasAll, here_on, unfolds_on}
 use Rattle.gix_commands.proofs.RightTrees.{tree_written}
 
 -- a topological walk that was built has read all that its tips and ends reach
@@ -40,23 +42,23 @@ AreRead objects rows =
 pub unrowed_read : (objects : Objects) → AreRead objects []
 unrowed_read objects m by tips ends walk built i r = was_read objects m by tips ends walk built i r
 
-module _ (objects : Objects) (rows : List GraphRow) (agrees : IsAgreeing objects rows) (read : AreRead objects rows) (old : Option (List ℕ)) where
+module _ (objects : Objects) (rows : List GraphRow) (agrees : IsAgreeing objects rows) (read : AreRead objects rows) (Stored : ObjectId → Type 0) (given : page.Objects) (their : List Row) (on : HasAll (page_objects objects) Stored given their) (old : Option (List ℕ)) where
   abbrev RightSo : List (List ℕ) → Result (Unit {0}) Fault → Option (List ℕ) → Type 0
-  RightSo words = IsRight (page_objects objects) words old
+  RightSo words = IsRight (page_objects objects) given their words old
 
   abbrev EachSo : Option (List ℕ) → List (List ℕ) → Type 0
-  EachSo = Each (page_objects objects) [] (text_next objects) (time_of objects) (fed_history objects) old
+  EachSo = Each (page_objects objects) [] (text_next objects) (time_of objects) (fed_history objects) given their (here_on on) old
 
-  files_right : (words : List (List ℕ)) (shown : EntryLines) (tree : ObjectId) → AreWordsOf words (Ok (Files shown tree)) → (answer : Result (Unit {0}) Fault) (new : Option (List ℕ)) → Serves objects rows old (Files shown tree) answer new → RightSo words answer new
+  files_right : (words : List (List ℕ)) (shown : EntryLines) (tree : ObjectId) → AreWordsOf words (Ok (Files shown tree)) → (answer : Result (Unit {0}) Fault) (new : Option (List ℕ)) → Serves Stored objects rows old (Files shown tree) answer new → RightSo words answer new
   files_right words shown tree (bound, option, text, within, ends, is, spells) (Ok tt) new s =
       let t = tree_written objects rows old new shown tree s in
-      subst (EachSo new) (sym is) (files_each (page_objects objects) [] (text_next objects) (time_of objects) (fed_history objects) old new shown.limit bound option text within ends spells t.2 t.3 t.4)
+      subst (EachSo new) (sym is) (files_each (page_objects objects) [] (text_next objects) (time_of objects) (fed_history objects) given their (here_on on) old new shown.limit bound option text within ends spells (on.tree tree t.0 t.2) (unfolds_on on t.3) t.4)
   files_right words shown tree w (Err e) new (not_listed recorder why walk) = inl refl
   files_right words shown tree w (Err e) new (misnamed recorder walk first) = inl refl
   files_right words shown tree w (Err e) new unserved = inl refl
-  files_right words shown tree w (Err e) new (cut_off {answer = answer} {full = full} some more s a b) = cut_right (page_objects objects) words old answer full new some more (files_right words shown tree w answer full s) a b
+  files_right words shown tree w (Err e) new (cut_off {answer = answer} {full = full} some more s a b) = cut_right (page_objects objects) given their words old answer full new some more (files_right words shown tree w answer full s) a b
 
-  ahead_right : (words : List (List ℕ)) (one other : ObjectId) → AreWordsOf words (Ok (Ahead one other)) → (new : Option (List ℕ)) → Serves objects rows old (Ahead one other) (Ok tt) new → RightSo words (Ok tt) new
+  ahead_right : (words : List (List ℕ)) (one other : ObjectId) → AreWordsOf words (Ok (Ahead one other)) → (new : Option (List ℕ)) → Serves Stored objects rows old (Ahead one other) (Ok tt) new → RightSo words (Ok tt) new
   ahead_right words one other (a, b, is, spells, spells_other) new s =
       let both : List ObjectId = one ∷ other ∷ [] in
       let n = counted_so objects rows agrees one other old new s in
@@ -64,32 +66,32 @@ module _ (objects : Objects) (rows : List GraphRow) (agrees : IsAgreeing objects
       let first : Contains both one = Contains-here one (other ∷ []) in
       let second : Contains both other = Contains-there other one (other ∷ []) (Contains-here other []) in
       subst (EachSo new) (sym is)
-      (ahead_each (page_objects objects) [] (text_next objects) (time_of objects) (fed_history objects) old new n.0 n.1 spells spells_other
+      (ahead_each (page_objects objects) [] (text_next objects) (time_of objects) (fed_history objects) given their (here_on on) old new n.0 n.1 spells spells_other
       (reached_there objects both whole one first) (reached_there objects both whole other second)
       (number_shown objects (text_next objects) one other n.0 (number_by_texts objects both whole one other first second n.0 n.2))
       (number_shown objects (text_next objects) other one n.1 (number_by_texts objects both whole other one second first n.1 n.3))
       n.4)
 
-  contained_right : (words : List (List ℕ)) (tip : ObjectId) (ids : List ObjectId) → AreWordsOf words (Ok (Contained tip ids)) → (new : Option (List ℕ)) → Serves objects rows old (Contained tip ids) (Ok tt) new → RightSo words (Ok tt) new
+  contained_right : (words : List (List ℕ)) (tip : ObjectId) (ids : List ObjectId) → AreWordsOf words (Ok (Contained tip ids)) → (new : Option (List ℕ)) → Serves Stored objects rows old (Contained tip ids) (Ok tt) new → RightSo words (Ok tt) new
   contained_right words tip ids (rest, is, tips, some) new s =
       let k = selected_so tip ids objects rows agrees old new some s in
       subst (EachSo new) (sym is) (λ other times another.
-      contains tips some (λ n d below. whole_there objects _ (whole_from objects _ (k.there _ (Contains-get_or (tip ∷ ids) n d below))))
+      contains tips some (λ n d below. here_on on _ (whole_there objects _ (whole_from objects _ (k.there _ (Contains-get_or (tip ∷ ids) n d below)))))
       (contained_kept objects other times another tip [] k.exact k.whole) (subst (Appends old new) (id_lines k.those) k.written))
 
-  containing_right : (words : List (List ℕ)) (target : ObjectId) (tips : List ObjectId) → AreWordsOf words (Ok (Containing target tips)) → (new : Option (List ℕ)) → Serves objects rows old (Containing target tips) (Ok tt) new → RightSo words (Ok tt) new
+  containing_right : (words : List (List ℕ)) (target : ObjectId) (tips : List ObjectId) → AreWordsOf words (Ok (Containing target tips)) → (new : Option (List ℕ)) → Serves Stored objects rows old (Containing target tips) (Ok tt) new → RightSo words (Ok tt) new
   containing_right words target tips (rest, is, are, some) new s =
       let c = reaching_so objects rows agrees target tips old new some s in
       subst (EachSo new) (sym is)
-      (containing_each (page_objects objects) [] (text_next objects) (time_of objects) (fed_history objects) old new are some
+      (containing_each (page_objects objects) [] (text_next objects) (time_of objects) (fed_history objects) given their (here_on on) old new are some
       (tips_there objects target tips c.2) (all_there objects (target ∷ tips) c.2)
       (containing_so objects target tips c.2 c.0 c.1) (subst (Appends old new) (id_lines c.0) c.3))
 
-  bases_right : (words : List (List ℕ)) (one : ObjectId) (others : List ObjectId) → AreWordsOf words (Ok (Bases one others)) → (new : Option (List ℕ)) → Serves objects rows old (Bases one others) (Ok tt) new → RightSo words (Ok tt) new
+  bases_right : (words : List (List ℕ)) (one : ObjectId) (others : List ObjectId) → AreWordsOf words (Ok (Bases one others)) → (new : Option (List ℕ)) → Serves Stored objects rows old (Bases one others) (Ok tt) new → RightSo words (Ok tt) new
   bases_right words one others (rest, is, tips, some) new s =
       let c = joined_so objects rows agrees one others old new some s in
       subst (EachSo new) (sym is)
-      (bases_each (page_objects objects) [] (text_next objects) (time_of objects) (fed_history objects) old new c.0 tips some
+      (bases_each (page_objects objects) [] (text_next objects) (time_of objects) (fed_history objects) given their (here_on on) old new c.0 tips some
       (one_there objects one others c.2) (others_there objects one others c.2) (all_there objects (one ∷ others) c.2)
       (bases_so objects one others c.2 c.0 c.1) (rising_so c.0 c.1.rising) (subst (Appends old new) (id_lines c.0) c.3))
 
@@ -106,20 +108,20 @@ module _ (objects : Objects) (rows : List GraphRow) (agrees : IsAgreeing objects
     down_there i c = text_there objects i c.bytes (some_text i c.bytes c.stored) c.stored (scan_faultless (commit_items (kind_of i) c.bytes) c.faultless)
 
   -- THE LAW
-  right_of_words : (words : List (List ℕ)) (request : Request) → AreWordsOf words (Ok request) → HaveTexts request (page_objects objects) → (answer : Result (Unit {0}) Fault) (new : Option (List ℕ)) → Serves objects rows old request answer new → RightSo words answer new
+  right_of_words : (words : List (List ℕ)) (request : Request) → AreWordsOf words (Ok request) → HaveTexts request (page_objects objects) → (answer : Result (Unit {0}) Fault) (new : Option (List ℕ)) → Serves Stored objects rows old request answer new → RightSo words answer new
   right_of_words words (Commits (Simple m by) shown tips hidden) (name, option, rest, is, named, chosen, place, chooses, some) have answer new s =
       subst (λ asked. RightSo asked answer new) (sym is)
-      (simple_right objects rows agrees m by tips hidden some (simple_there (Commits (Simple m by) shown tips hidden) have m by shown tips hidden refl) old name option rest named chosen shown place chooses answer new s)
+      (simple_right objects rows agrees m by tips hidden some (simple_there (Commits (Simple m by) shown tips hidden) have m by shown tips hidden refl) Stored given their on old name option rest named chosen shown place chooses answer new s)
   right_of_words words (Commits (Topo m by) shown tips ends) (name, option, rest, is, named, chosen, place, chooses, some) have answer new s =
       subst (λ asked. RightSo asked answer new) (sym is)
-      (topo_right objects rows agrees m by tips ends some (down_there (Commits (Topo m by) shown tips ends) have) (read m by tips ends) old name option rest named chosen shown place chooses answer new s)
+      (topo_right objects rows agrees m by tips ends some (down_there (Commits (Topo m by) shown tips ends) have) (read m by tips ends) Stored given their on old name option rest named chosen shown place chooses answer new s)
   right_of_words words (Files shown tree) w have answer new s = files_right words shown tree w answer new s
   right_of_words words (Ahead one other) w have (Ok tt) new s = ahead_right words one other w new s
   right_of_words words (Contained tip ids) w have (Ok tt) new s = contained_right words tip ids w new s
   right_of_words words (Containing target tips) w have (Ok tt) new s = containing_right words target tips w new s
   right_of_words words (Bases one others) w have (Ok tt) new s = bases_right words one others w new s
-  right_of_words words request w have (Err e) new (cut_off {answer = answer} {full = full} some more s a b) = cut_right (page_objects objects) words old answer full new some more (right_of_words words request w have answer full s) a b
+  right_of_words words request w have (Err e) new (cut_off {answer = answer} {full = full} some more s a b) = cut_right (page_objects objects) given their words old answer full new some more (right_of_words words request w have answer full s) a b
   right_of_words words request w have (Err e) new s = inl refl
 
-  pub right : (words : List (List ℕ)) (request : Request) → request_of words ≡ Ok request → HaveTexts request (page_objects objects) → (answer : Result (Unit {0}) Fault) (new : Option (List ℕ)) → Serves objects rows old request answer new → RightSo words answer new
+  pub right : (words : List (List ℕ)) (request : Request) → request_of words ≡ Ok request → HaveTexts request (page_objects objects) → (answer : Result (Unit {0}) Fault) (new : Option (List ℕ)) → Serves Stored objects rows old request answer new → RightSo words answer new
   right words request asked have answer new s = right_of_words words request (subst (AreWordsOf words) asked (are_words words)) have answer new s

@@ -11,16 +11,17 @@ use Rattle.gix_simple.specs.declared.Sorting.{Sorting}
 use Rattle.gix_simple.specs.declared.Sorting.TheVariants as sorting
 use Rattle.gix_statement.proofs.InEach.{none_each, simple_each}
 use Rattle.gix_statement.specs.WholeStatement as page
-use Rattle.gix_statement.specs.WholeStatement.{Allows, InEach, IsThere, Reaches, Chooses, chosen}
+use Rattle.gix_statement.specs.WholeStatement.{Allows, InEach, IsThere, Reaches, Row, Chooses, chosen}
 use Rattle.gix_commands.specs.Checked.{GoesOnWhole, HaveParents}
-use Rattle.gix_commands.specs.Chosen.{line_in, page_form}
+use Rattle.gix_commands.specs.Chosen.{HasText, line_in, page_form}
 use Rattle.gix_commands.specs.Run.{Serves, cut_off, lost}
 use Rattle.gix_revwalk.specs.Infos.{given}
-use Rattle.gix_commands.specs.Walked.{Walk, Answers, AsksForMore, IsWalkFault, failed}
+use Rattle.gix_commands.specs.Walked.{Walk, Answers, AsksForMore, Have, IsWalkFault, failed, unstored}
 use Rattle.gix_commands.specs.Pages.{page_objects}
 use Rattle.gix_commands.proofs.CommitRuns.{ids_in, listed}
 use Rattle.gix_commands.proofs.CheckedWalks.{enough_on, less_on}
 use Rattle.gix_commands.proofs.PageCommits.{fed_history, whole_there}
+use Rattle.gix_commands.proofs.GivenObjects.{AreStored, HasAll, here_on, ids_stored, same_bytes, texts_on}
 use Rattle.gix_commands.proofs.PageLists.{Lists, begins_so, whole_so}
 use Rattle.gix_commands.proofs.KeptLists.{followed_reaches}
 use Rattle.gix_commands.proofs.LostParents.{whole_all}
@@ -45,7 +46,7 @@ in_front ids taken rest j c is m =
     take_less (length taken) (length ids - 1) ids c few (subst (λ xs. Contains xs c) (sym (ap (take (length taken)) is ∙ take-append_seam taken (j ∷ rest))) m)
 
 module _ (objects : Objects) (rows : List GraphRow) (agrees : IsAgreeing objects rows) (m : Parents) (by : Sorting) (tips hidden : List ObjectId) (some : tips ≢ [])
-    (read_is : (i : ObjectId) → ReadsParents objects m i → IsThere (page_objects objects) [] i) where
+    (read_is : (i : ObjectId) → ReadsParents objects m i → IsThere (page_objects objects) [] i) (Stored : ObjectId → Type 0) (given_objects : page.Objects) (given_rows : List Row) (on : HasAll (page_objects objects) Stored given_objects given_rows) where
   abbrev left : List ObjectId
   left = kept_tips objects by tips
 
@@ -109,7 +110,7 @@ module _ (objects : Objects) (rows : List GraphRow) (agrees : IsAgreeing objects
       }
 
       -- a walk that ended
-      read_ended : left ≢ [] → Ends Answers IsWalkFault walk infos (Ok tt) → (by ≢ sorting.BreadthFirst → HaveParents objects rows infos) → IsList (ids_in infos) → AreRead (ids_in infos) × AreJudged (ids_in infos)
+      read_ended : {Has : ObjectId → Type 0} → left ≢ [] → Ends Answers IsWalkFault Has walk infos (Ok tt) → (by ≢ sorting.BreadthFirst → HaveParents objects rows infos) → IsList (ids_in infos) → AreRead (ids_in infos) × AreJudged (ids_in infos)
       read_ended keeps (finished new h) parents l = go hidden refl
         where
           go : (hs : List ObjectId) → hidden ≡ hs → AreRead (ids_in infos) × AreJudged (ids_in infos)
@@ -168,17 +169,24 @@ module _ (objects : Objects) (rows : List GraphRow) (agrees : IsAgreeing objects
     abbrev pub bytes_of : List ObjectId → List ℕ
     bytes_of ids = page.written (line_in objects shown) (page_form shown.form) (kept ids)
 
+    -- what lines of these need is stored
+    abbrev pub HaveText : List Info → Type 0
+    HaveText infos = Have (HasText Stored shown) infos
+
     -- these are there, and in each history what is written of them is the list, or so far a beginning of it
     abbrev pub AreListed : Bool → List ObjectId → Type 0
-    AreListed ended ids = All IsHere ids × InEach (page_objects objects) [] (λ ps ts. page.Lists (page_objects objects) [] ps ts (bytes_of ids) ended asked)
+    AreListed ended ids = All IsHere ids × InEach (page_objects objects) [] (λ ps ts. page.Lists given_objects given_rows ps ts (bytes_of ids) ended asked)
+
+    abbrev HaveTexts : List ObjectId → Type 0
+    HaveTexts = AreStored Stored (page_choice shown)
 
     -- the first of a list, which were read
-    first_each : (ended : Bool) → MayBe ended → (walk : Walk) → StartsFrom objects rows m by tips hidden walk → (ids more : List ObjectId) → IsList (ids ++ more) → AreRead ids → Allows shown.limit (length (kept ids))
+    first_each : (ended : Bool) → MayBe ended → (walk : Walk) → StartsFrom objects rows m by tips hidden walk → (ids more : List ObjectId) → IsList (ids ++ more) → AreRead ids → HaveTexts ids → Allows shown.limit (length (kept ids))
         → ((ended ≡ true) × Allows shown.limit (suc (length (kept ids))) → (more ≡ []) × AreJudged ids) → AreListed ended ids
-    first_each ended may walk starts ids more l r allows all =
+    first_each ended may walk starts ids more l r stored allows all =
         let those = lists_so (ids ++ more) l in (
           r.there,
-          simple_each (page_objects objects) [] texts (time_of objects) (fed_history objects) None None name option words (page_choice shown) place tips hidden ids (is_order name (Simple m by) named) chooses some r.there (λ e. r.there) allows ended may (bytes_of ids) refl tt
+          simple_each (page_objects objects) [] texts (time_of objects) (fed_history objects) given_objects given_rows (here_on on) None None name option words (page_choice shown) place tips hidden ids (is_order name (Simple m by) named) chooses some r.there (texts_on on (page_choice shown) ids stored r.there) allows ended may (bytes_of ids) (same_bytes on texts (time_of objects) (page_choice shown) ids stored r.there)
               (simple_name name m by named) (is_followed objects texts name option tips m by named chosen_by)
               (begins_so texts through (time_of objects) left hidden name (ids ++ more) those ids more refl)
               (λ one_more. let same : ids ++ more ≡ ids = ap (λ xs. ids ++ xs) (all one_more).0 ∙ append-nil ids in whole_so texts through (time_of objects) left hidden name ids (subst ListsSo same those))
@@ -186,19 +194,19 @@ module _ (objects : Objects) (rows : List GraphRow) (agrees : IsAgreeing objects
         )
 
     -- nothing was listed
-    none_each_so : (ended : Bool) → MayBe ended → (walk : Walk) → StartsFrom objects rows m by tips hidden walk → (ids : List ObjectId) → ids ≡ [] → Allows shown.limit (length (kept ids)) → ((ended ≡ true) × Allows shown.limit (suc (length (kept ids))) → left ≡ [])
+    none_each_so : (ended : Bool) → MayBe ended → (walk : Walk) → StartsFrom objects rows m by tips hidden walk → (ids : List ObjectId) → ids ≡ [] → HaveTexts ids → Allows shown.limit (length (kept ids)) → ((ended ≡ true) × Allows shown.limit (suc (length (kept ids))) → left ≡ [])
         → AreListed ended ids
-    none_each_so ended may walk starts ids none allows unstarted =
+    none_each_so ended may walk starts ids none stored allows unstarted =
         let there : All IsHere ids = (λ k d few. absurd (omega (arith, few, ap length none))) in (
           there,
-          none_each (page_objects objects) [] texts (time_of objects) (fed_history objects) None None name option words (page_choice shown) place tips hidden ids (is_order name (Simple m by) named) chooses some there (λ e. there) allows ended may (bytes_of ids) refl tt
+          none_each (page_objects objects) [] texts (time_of objects) (fed_history objects) given_objects given_rows (here_on on) None None name option words (page_choice shown) place tips hidden ids (is_order name (Simple m by) named) chooses some there (texts_on on (page_choice shown) ids stored there) allows ended may (bytes_of ids) (same_bytes on texts (time_of objects) (page_choice shown) ids stored there)
               (simple_name name m by named) (is_followed objects texts name option tips m by named chosen_by) none unstarted (λ late. tips_there walk starts (by_time late)),
         )
 
     -- a walk that ended
-    ended_each : (walk : Walk) (starts : StartsFrom objects rows m by tips hidden walk) (infos : List Info) → Ends Answers IsWalkFault walk infos (Ok tt) → (by ≢ sorting.BreadthFirst → HaveParents objects rows infos) → Allows shown.limit (length (kept (ids_in infos)))
+    ended_each : (walk : Walk) (starts : StartsFrom objects rows m by tips hidden walk) {Has : ObjectId → Type 0} (infos : List Info) → HaveText infos → Ends Answers IsWalkFault Has walk infos (Ok tt) → (by ≢ sorting.BreadthFirst → HaveParents objects rows infos) → Allows shown.limit (length (kept (ids_in infos)))
         → AreListed true (ids_in infos)
-    ended_each walk starts infos ends parents allows = go left refl
+    ended_each walk starts infos stored ends parents allows = go left refl
       where
         l : IsList (ids_in infos)
         l = listed objects rows agrees m by tips hidden walk infos starts ends
@@ -206,38 +214,38 @@ module _ (objects : Objects) (rows : List GraphRow) (agrees : IsAgreeing objects
         go : (ls : List ObjectId) → left ≡ ls → AreListed true (ids_in infos)
         go [] f =
             let empty : ids_in infos ≡ [] = no_ids (ids_in infos) (λ i c. no_start through left i ((l.exact i).0 c).reached f) in
-            none_each_so true (inl refl) walk starts (ids_in infos) empty allows (λ one_more. f)
+            none_each_so true (inl refl) walk starts (ids_in infos) empty (ids_stored Stored (page_choice shown) infos stored) allows (λ one_more. f)
         go (k ∷ ls) f =
             let r = read_ended walk starts infos every (λ n. let c : [] ≡ k ∷ ls = sym n ∙ f in cc) ends parents l in
-            first_each true (inl refl) walk starts (ids_in infos) [] (subst IsList (sym (append-nil (ids_in infos))) l) r.0 allows (λ one_more. (refl, r.1))
+            first_each true (inl refl) walk starts (ids_in infos) [] (subst IsList (sym (append-nil (ids_in infos))) l) r.0 (ids_stored Stored (page_choice shown) infos stored) allows (λ one_more. (refl, r.1))
 
     -- a walk that was drawn so far, and that gave as much as was asked for, or wasn't ended
-    drawn_each : (ended : Bool) → MayBe ended → (walk : Walk) → StartsFrom objects rows m by tips hidden walk → (infos : List Info) (last : Walk) → Yields Answers walk (given infos) last
+    drawn_each : (ended : Bool) → MayBe ended → (walk : Walk) → StartsFrom objects rows m by tips hidden walk → (infos : List Info) → HaveText infos → (last : Walk) → Yields Answers walk (given infos) last
         → (by ≢ sorting.BreadthFirst → HaveParents objects rows (take (length infos - 1) infos)) → Allows shown.limit (length (kept (ids_in infos))) → ((ended ≡ true) × Allows shown.limit (suc (length (kept (ids_in infos)))) → ⊥)
         → AreListed ended (ids_in infos)
-    drawn_each ended may walk starts [] last drawn parents allows none = none_each_so ended may walk starts [] refl allows (λ one_more. absurd (none one_more))
-    drawn_each ended may walk starts (info ∷ infos) last drawn parents allows none =
+    drawn_each ended may walk starts [] stored last drawn parents allows none = none_each_so ended may walk starts [] refl (ids_stored Stored (page_choice shown) [] stored) allows (λ one_more. absurd (none one_more))
+    drawn_each ended may walk starts (info ∷ infos) stored last drawn parents allows none =
         let ids : List ObjectId = ids_in (info ∷ infos) in
         let f = first_given objects rows m by tips hidden walk starts agrees (info ∷ infos) last drawn in
         let more : List ObjectId = drop (length ids) f.0 in
         let cut : f.0 ≡ ids ++ more = sym (take-append-drop (length ids) f.0) ∙ ap (λ xs. xs ++ more) f.2 in
         let l : IsList (ids ++ more) = subst IsList cut f.1 in
-        first_each ended may walk starts ids more l (read_begun walk starts every info infos last drawn parents more l) allows (λ one_more. absurd (none one_more))
+        first_each ended may walk starts ids more l (read_begun walk starts every info infos last drawn parents more l) (ids_stored Stored (page_choice shown) (info ∷ infos) stored) allows (λ one_more. absurd (none one_more))
 
     -- what a run of it lists that ends well
-    pub ended_so : (limit : Option ℕ) → shown.limit ≡ limit → (walk : Walk) → StartsFrom objects rows m by tips hidden walk → (infos : List Info) → EndsBy Answers IsWalkFault (kept_in objects shown) limit walk infos (Ok tt)
+    pub ended_so : {Has : ObjectId → Type 0} (limit : Option ℕ) → shown.limit ≡ limit → (walk : Walk) → StartsFrom objects rows m by tips hidden walk → (infos : List Info) → HaveText infos → EndsBy Answers IsWalkFault Has (kept_in objects shown) limit walk infos (Ok tt)
         → GoesOnWhole objects rows by limit (length (kept_in objects shown infos)) infos → AreListed true (ids_in infos)
-    ended_so None is walk starts infos ends parents = ended_each walk starts infos ends parents (allows_all shown.limit _ is)
-    ended_so (Some n) is walk starts infos (before ends less) parents =
-        ended_each walk starts infos ends (λ other. subst (HaveParents objects rows) (less_on objects rows n (length (kept_in objects shown infos)) infos less) (parents other)) (allows_least shown.limit _ n is (omega (arith, less)))
-    ended_so (Some n) is walk starts infos (enough at drawn e) parents =
-        drawn_each true (inl refl) walk starts infos at drawn (λ other. subst (HaveParents objects rows) (enough_on objects rows n (length (kept_in objects shown infos)) infos e) (parents other)) (allows_least shown.limit _ n is (omega (arith, e)))
+    ended_so None is walk starts infos stored ends parents = ended_each walk starts infos stored ends parents (allows_all shown.limit _ is)
+    ended_so (Some n) is walk starts infos stored (before ends less) parents =
+        ended_each walk starts infos stored ends (λ other. subst (HaveParents objects rows) (less_on objects rows n (length (kept_in objects shown infos)) infos less) (parents other)) (allows_least shown.limit _ n is (omega (arith, less)))
+    ended_so (Some n) is walk starts infos stored (enough at drawn e) parents =
+        drawn_each true (inl refl) walk starts infos stored at drawn (λ other. subst (HaveParents objects rows) (enough_on objects rows n (length (kept_in objects shown infos)) infos e) (parents other)) (allows_least shown.limit _ n is (omega (arith, e)))
         (λ one_more. no_more shown.limit (length (kept_in objects shown infos)) n is e one_more.1)
 
     -- and one that was drawn so far
-    pub begun_so : page_form shown.form ≡ page.Lines → (walk : Walk) → StartsFrom objects rows m by tips hidden walk → (infos : List Info) (last : Walk) → Yields Answers walk (given infos) last → Allows shown.limit (length (kept_in objects shown infos))
+    pub begun_so : page_form shown.form ≡ page.Lines → (walk : Walk) → StartsFrom objects rows m by tips hidden walk → (infos : List Info) → HaveText infos → (last : Walk) → Yields Answers walk (given infos) last → Allows shown.limit (length (kept_in objects shown infos))
         → (by ≢ sorting.BreadthFirst → HaveParents objects rows (take (length infos - 1) infos)) → AreListed false (ids_in infos)
-    begun_so lines walk starts infos last drawn allows parents = drawn_each false (inr lines) walk starts infos last drawn parents allows (λ e. false≢true e.0)
+    begun_so lines walk starts infos stored last drawn allows parents = drawn_each false (inr lines) walk starts infos stored last drawn parents allows (λ e. false≢true e.0)
 
     -- what is said of all is said of the first of them
     pub fewer_parents : (k : ℕ) (infos : List Info) → HaveParents objects rows infos → HaveParents objects rows (take k infos)
@@ -246,50 +254,51 @@ module _ (objects : Objects) (rows : List GraphRow) (agrees : IsAgreeing objects
     module _ (old new : Option (List ℕ)) where
       -- in each history the list was written, or so far a beginning of it
       abbrev pub IsWritten : Bool → Type 0
-      IsWritten true = InEach (page_objects objects) [] (λ ps ts. page.Serves (page_objects objects) [] ps ts old new asked)
-      IsWritten false = InEach (page_objects objects) [] (λ ps ts. page.HasBegun (page_objects objects) [] ps ts old new asked)
+      IsWritten true = InEach (page_objects objects) [] (λ ps ts. page.Serves given_objects given_rows ps ts old new asked)
+      IsWritten false = InEach (page_objects objects) [] (λ ps ts. page.HasBegun given_objects given_rows ps ts old new asked)
 
       pub written_so : (ended : Bool) (infos : List Info) → AreListed ended (ids_in infos) → Appends old new (bytes_of (ids_in infos)) → IsWritten ended
       written_so true infos each appends = λ ps ts h. page.commits (bytes_of (ids_in infos)) (each.1 ps ts h) appends
       written_so false infos each appends = λ ps ts h. (bytes_of (ids_in infos), each.1 ps ts h, appends)
 
       -- one that fails
-      pub begun_each : page_form shown.form ≡ page.Lines → (walk : Walk) → StartsFrom objects rows m by tips hidden walk → (infos : List Info) (last : Walk) → Yields Answers walk (given infos) last → AsksForMore shown.limit (length (kept_in objects shown infos))
+      pub begun_each : page_form shown.form ≡ page.Lines → (walk : Walk) → StartsFrom objects rows m by tips hidden walk → (infos : List Info) → HaveText infos → (last : Walk) → Yields Answers walk (given infos) last → AsksForMore shown.limit (length (kept_in objects shown infos))
           → (by ≢ sorting.BreadthFirst → HaveParents objects rows (take (length infos - 1) infos)) → Appends old new (bytes_of (ids_in infos)) → IsWritten false
-      begun_each lines walk starts infos last drawn more parents written =
-          written_so false infos (begun_so lines walk starts infos last drawn (allows_fewer shown.limit _ more) parents) written
+      begun_each lines walk starts infos stored last drawn more parents written =
+          written_so false infos (begun_so lines walk starts infos stored last drawn (allows_fewer shown.limit _ more) parents) written
 
-      failed_each : page_form shown.form ≡ page.Lines → (walk : Walk) → StartsFrom objects rows m by tips hidden walk → (infos : List Info) {answer : Result (Unit {0}) Fault} → Ends Answers IsWalkFault walk infos answer → answer ≢ Ok tt
+      failed_each : page_form shown.form ≡ page.Lines → (walk : Walk) → StartsFrom objects rows m by tips hidden walk → {Has : ObjectId → Type 0} (infos : List Info) → HaveText infos → {answer : Result (Unit {0}) Fault} → Ends Answers IsWalkFault Has walk infos answer → answer ≢ Ok tt
           → AsksForMore shown.limit (length (kept_in objects shown infos)) → (by ≢ sorting.BreadthFirst → HaveParents objects rows infos) → Appends old new (bytes_of (ids_in infos)) → IsWritten false
-      failed_each lines walk starts infos (finished last h) fails more parents written = absurd (fails refl)
-      failed_each lines walk starts infos (failed why f last h is) fails more parents written = begun_each lines walk starts infos h.0 h.1 more (λ other. fewer_parents (length infos - 1) infos (parents other)) written
-      failed_each lines walk starts infos (cut_short info last h) fails more parents written = begun_each lines walk starts infos h.0 h.1 more (λ other. fewer_parents (length infos - 1) infos (parents other)) written
+      failed_each lines walk starts infos stored (finished last h) fails more parents written = absurd (fails refl)
+      failed_each lines walk starts infos stored (failed why f last h is) fails more parents written = begun_each lines walk starts infos stored h.0 h.1 more (λ other. fewer_parents (length infos - 1) infos (parents other)) written
+      failed_each lines walk starts infos stored (cut_short info last h) fails more parents written = begun_each lines walk starts infos stored h.0 h.1 more (λ other. fewer_parents (length infos - 1) infos (parents other)) written
+      failed_each lines walk starts infos stored (unstored info last h none) fails more parents written = begun_each lines walk starts infos stored h.0 h.1 more (λ other. fewer_parents (length infos - 1) infos (parents other)) written
 
-      pub failed_run : page_form shown.form ≡ page.Lines → (walk : Walk) → StartsFrom objects rows m by tips hidden walk → (infos : List Info) (e : Fault) (limit : Option ℕ) → shown.limit ≡ limit → EndsBy Answers IsWalkFault (kept_in objects shown) limit walk infos (Err e)
+      pub failed_run : page_form shown.form ≡ page.Lines → (walk : Walk) → StartsFrom objects rows m by tips hidden walk → {Has : ObjectId → Type 0} (infos : List Info) → HaveText infos → (e : Fault) (limit : Option ℕ) → shown.limit ≡ limit → EndsBy Answers IsWalkFault Has (kept_in objects shown) limit walk infos (Err e)
           → GoesOnWhole objects rows by limit (length (kept_in objects shown infos)) infos → Appends old new (bytes_of (ids_in infos)) → IsWritten false
-      failed_run lines walk starts infos e None is ends parents written = failed_each lines walk starts infos ends (λ s. cc) (subst (λ l. AsksForMore l (length (kept_in objects shown infos))) (sym is) tt) parents written
-      failed_run lines walk starts infos e (Some n) is (before ends less) parents written =
-          failed_each lines walk starts infos ends (λ s. cc) (subst (λ l. AsksForMore l (length (kept_in objects shown infos))) (sym is) less)
+      failed_run lines walk starts infos stored e None is ends parents written = failed_each lines walk starts infos stored ends (λ s. cc) (subst (λ l. AsksForMore l (length (kept_in objects shown infos))) (sym is) tt) parents written
+      failed_run lines walk starts infos stored e (Some n) is (before ends less) parents written =
+          failed_each lines walk starts infos stored ends (λ s. cc) (subst (λ l. AsksForMore l (length (kept_in objects shown infos))) (sym is) less)
           (λ late. subst (HaveParents objects rows) (less_on objects rows n (length (kept_in objects shown infos)) infos less) (parents late)) written
 
   -- whatever a run of it answers, what it wrote is right
   module _ (old : Option (List ℕ)) (name : List ℕ) (option words : List (List ℕ)) (named : IsNameOf name (Simple m by)) (chosen_by : IsOptionOf option (Simple m by))
       (shown : Shown) (place : ℕ) (chooses : Chooses tips hidden place words (page_choice shown)) where
-    pub simple_right : (answer : Result (Unit {0}) Fault) (new : Option (List ℕ)) → Serves objects rows old (Commits (Simple m by) shown tips hidden) answer new → IsRight (page_objects objects) (name ∷ (option ++ words)) old answer new
-    simple_right (Ok tt) new (walked walk infos starts ends parents written) =
-        written_so name option words named chosen_by shown place chooses old new true infos (ended_so name option words named chosen_by shown place chooses shown.limit refl walk starts infos ends parents)
+    pub simple_right : (answer : Result (Unit {0}) Fault) (new : Option (List ℕ)) → Serves Stored objects rows old (Commits (Simple m by) shown tips hidden) answer new → IsRight (page_objects objects) given_objects given_rows (name ∷ (option ++ words)) old answer new
+    simple_right (Ok tt) new (walked walk infos starts ends stored parents written) =
+        written_so name option words named chosen_by shown place chooses old new true infos (ended_so name option words named chosen_by shown place chooses shown.limit refl walk starts infos stored ends parents)
         (ended_bytes (line_in objects shown) shown.form (kept_in objects shown infos) old new written)
-    simple_right (Err e) new (walked walk infos starts ends parents written) = ⊎_elim
+    simple_right (Err e) new (walked walk infos starts ends stored parents written) = ⊎_elim
         (λ same. inl same)
-        (λ lines. begun_right (page_objects objects) (name ∷ (option ++ words)) old e new (failed_run name option words named chosen_by shown place chooses old new lines.0 walk starts infos e shown.limit refl ends parents lines.1))
+        (λ lines. begun_right (page_objects objects) given_objects given_rows (name ∷ (option ++ words)) old e new (failed_run name option words named chosen_by shown place chooses old new lines.0 walk starts infos stored e shown.limit refl ends parents lines.1))
         (begun_bytes (line_in objects shown) shown.form e (kept_in objects shown infos) old new written)
-    simple_right (Err e) new (lost walk at infos late starts drawn more lacks written) =
+    simple_right (Err e) new (lost walk at infos late starts drawn more lacks stored written) =
         let place_is : take (length infos - 1) infos ≡ lacks.before =
         ap (take (length infos - 1)) lacks.place ∙ take_at lacks.before (lacks.last ∷ []) (length infos - 1) (omega (arith, ap length lacks.place, length-append lacks.before (lacks.last ∷ []))) in
         ⊎_elim
         (λ same. inl same)
-        (λ lines. begun_right (page_objects objects) (name ∷ (option ++ words)) old e new (begun_each name option words named chosen_by shown place chooses old new lines.0 walk starts infos at drawn more (λ l. subst (HaveParents objects rows) (sym place_is) lacks.whole) lines.1))
+        (λ lines. begun_right (page_objects objects) given_objects given_rows (name ∷ (option ++ words)) old e new (begun_each name option words named chosen_by shown place chooses old new lines.0 walk starts infos stored at drawn more (λ l. subst (HaveParents objects rows) (sym place_is) lacks.whole) lines.1))
         (begun_bytes (line_in objects shown) shown.form e (kept_in objects shown infos) old new written)
     simple_right (Err e) new (not_walked why f) = inl refl
     simple_right (Err e) new unserved = inl refl
-    simple_right (Err e) new (cut_off {answer = answer} {full = full} some more s a b) = cut_right (page_objects objects) (name ∷ (option ++ words)) old answer full new some more (simple_right answer full s) a b
+    simple_right (Err e) new (cut_off {answer = answer} {full = full} some more s a b) = cut_right (page_objects objects) given_objects given_rows (name ∷ (option ++ words)) old answer full new some more (simple_right answer full s) a b

@@ -18,7 +18,7 @@ whole_end (Failed why) w b = absurd w
 
 -- what `files` wrote
 module _ (objects : Objects) (rows : List GraphRow) (old new : Option (List ℕ)) where
-  pub tree_written : (shown : EntryLines) (tree : ObjectId) → Serves objects rows old (Files shown tree) (Ok tt) new
+  pub tree_written : {Stored : ObjectId → Type 0} → (shown : EntryLines) (tree : ObjectId) → Serves Stored objects rows old (Files shown tree) (Ok tt) new
       → (entries : List Entry) × (placed : List (List ℕ × Entry)) × IsTree (page_objects objects) tree entries × Unfolds (page_objects objects) [] entries placed × Appends old new (flat_map (entry_line shown.ending) (allowed shown.limit placed))
   tree_written shown tree (listed recorder walk names written) =
       let u = unfolds objects shown tree recorder walk in

@@ -33,7 +33,8 @@ use Rattle.gix_graph_store.proofs.SoundRows.{rows-tell, stored-stays, told-rows-
 use Rattle.gix_graph_store.proofs.ToldObjects.{get-with_rows}
 use Rattle.gix_statement.proofs.OneCommit.{drop_word, line_same, one_commit}
 use Rattle.gix_statement.specs.WholeStatement as page
-use Rattle.gix_statement.specs.WholeStatement.{Agree, Entry, IsCommit, IsText, IsTree, Row, Spells, digits_in}
+use Rattle.gix_statement.specs.WholeStatement.{Agree, Entry, IsCommit, IsText, IsThere, IsTree, Row, Spells, digits_in}
+use Rattle.gix_commands.specs.Chosen.{HasObject}
 use Rattle.gix_commands.specs.Pages.{as_page, page_objects, page_row, page_rows}
 
 -- ---- what a text says is one row
@@ -162,6 +163,19 @@ module _ (whole_text : (objects : Objects) (i : ObjectId) (c : Commit) → commi
       go (Some row) e =
           let s = row_stands rows r.id row e in
           subst (Contains (page_rows rows)) (sym (same_row (page_objects every) r (page_row rows row) s.1 text (row_text row s.0))) (into_map (page_row rows) rows row s.0)
+
+  -- if a commit that has a row is stored, what is stored is what is there
+  pub stored_there : (i : ObjectId) → HasObject objects rows i → IsThere (page_objects every) [] i → IsThere (page_objects objects) [] i × (page_objects every i ≡ page_objects objects i)
+  stored_there i stored (r, is, inr (none, row)) = absurd (no_member r row)
+  stored_there i stored (r, is, inl text) = ((r, is, inl (text_moves (page_objects every) (page_objects objects) r own text)), subst (λ j. page_objects every j ≡ page_objects objects j) is (text.6 ∙ sym (own _ text.6)))
+    where
+      own : (o : page.Object) → page_objects every r.id ≡ Some o → page_objects objects r.id ≡ Some o
+      own o at = go (row_of rows r.id) refl (get objects r.id) refl
+        where
+          go : (row : Option GraphRow) → row_of rows r.id ≡ row → (found : Option Object) → get objects r.id ≡ found → page_objects objects r.id ≡ Some o
+          go row e (Some object) f = stays_back r.id object f o at
+          go None e None f = sym (ap (option_map as_page) ((rows-tell rows objects r.id graph).other e)) ∙ at
+          go (Some row) e None f = absurd (stored (λ none. none-some row (sym (subst (λ j. row_of rows j ≡ None) (sym is) none) ∙ e)) (subst (λ j. get objects j ≡ None) is f))
 
   -- COMMITS
   pub text_is_commit : (r : Row) → IsText (page_objects every) r → IsCommit (page_objects objects) (page_rows rows) r

@@ -9,9 +9,9 @@ use Rattle.gix_commands.specs.Run.{Serves, cut_off}
 use Rattle.gix_commands.proofs.MemoryFaults.{failed_so}
 use Rattle.gix_commands.proofs.OutputFacts.{appends_behind}
 
-module _ (objects : Objects) (rows : List GraphRow) (old : Option (List ℕ)) (request : Request) where
+module _ (Stored : ObjectId → Type 0) (objects : Objects) (rows : List GraphRow) (old : Option (List ℕ)) (request : Request) where
   abbrev ServesSo : Result (Unit {0}) Fault → Option (List ℕ) → Type 0
-  ServesSo = Serves objects rows old request
+  ServesSo = Serves Stored objects rows old request
 
   -- nothing was written
   pub nothing_written : (result : Result (Unit {0}) Fault) (e : Fault) → result ≡ Err e → (e ≢ fault.Memory → ServesSo (Err e) old) → ServesSo result old

@@ -1,8 +1,8 @@
 -- What a run over rows answers is what the page promises: over a store, or over the files of a commit-graph and records.
-use Rattle.std.proofs.Common.{◌≡◌, ℕ, Bool, true, false, List, [], ◌∷◌, Option, Result, Ok, Contains, refl, sym, subst, ◌∙◌, inl, inr, ⊎_elim}
+use Rattle.std.proofs.Common.{◌≡◌, ℕ, List, [], ◌∷◌, Option, Result, Ok, Contains, refl, ap, ◌∙◌, inl, inr, ⊎_elim}
 use Rattle.std.specs.List.{AllByRecursion}
 use Rattle.std.proofs.lemmas.List.Elements.{All-contains}
-use Rattle.gix_commands.proofs.Common.{Fault, false≢true, GraphRow, IsAgreeing, Contains-cons_cases, no_member, Objects, ObjectId, Request, request_of, stored, with_rows}
+use Rattle.gix_commands.proofs.Common.{Fault, GraphRow, IsAgreeing, Contains-cons_cases, no_member, Objects, ObjectId, Request, request_of, stored, with_rows}
 use Rattle.gix_commitgraph.specs.Packed.{AreGraphRows}
 use Rattle.gix_commitgraph.specs.Renumbering.{HasSameRows, HaveDistinctIds, HavePlacesWithin}
 use Rattle.gix_commitgraph.specs.declared.ParentPlace.{ParentPlace}
@@ -11,27 +11,25 @@ use Rattle.gix_graph_check.specs.Sound.{AreSound, IsSound, IsSoundPlace}
 use Rattle.gix_graph_store.specs.Laws.{StoredAgree}
 use Rattle.gix_statement.specs.CommitGraph.{AreLayers}
 use Rattle.gix_statement.specs.WholeStatement as page
-use Rattle.gix_statement.specs.WholeStatement.{Agree, AreFed, Entry, IsCommit, IsTree, Promises, Row}
+use Rattle.gix_statement.specs.WholeStatement.{Agree, AreFed, IsCommit, Promises, Row, text_in}
 use Rattle.gix_words.specs.declared.fault.Fault.TheVariants as fault
+use Rattle.gix_commands.specs.Chosen.{HasObject}
 use Rattle.gix_commands.specs.Opening.{AreReadFrom}
 use Rattle.gix_commands.specs.Pages.{AreRows, page_objects, page_rows}
 use Rattle.gix_commands.specs.Readable.{readable, reads_all_lines}
 use Rattle.gix_commands.specs.Run as run
-use Rattle.gix_commands.specs.Run.{RunsOver, Serves, ServesOver, shows_texts, used_if}
+use Rattle.gix_commands.specs.Run.{RunsOver, ServesOver}
 use Rattle.gix_commands.specs.StoredRuns as store
 use Rattle.gix_commands.specs.StoredRuns.{RunsStored}
 use Rattle.gix_commands.proofs.PageCommits.{whole_text}
 use Rattle.gix_commands.proofs.RightRuns.{right}
 use Rattle.gix_commands.proofs.FileOrder.{chain_layers}
+use Rattle.gix_commands.proofs.GivenObjects.{HasAll}
 use Rattle.gix_commands.proofs.Promised.{promised}
-use Rattle.gix_commands.proofs.PromisedRuns.{unrowed_promises}
-use Rattle.gix_commands.proofs.RunFacts.{without_rows}
-use Rattle.gix_commands.proofs.SameWords.{AreWordsOf, are_words}
-use Rattle.gix_commands.proofs.TextWords.{shows_asked}
 use Rattle.gix_commands.proofs.ReadableObjects.{readable_agrees}
 use Rattle.gix_commands.proofs.ReachedIsRead.{reached_is_read}
-use Rattle.gix_commands.proofs.ReadableTexts.{have_texts, text_kept, tree_kept}
-use Rattle.gix_commands.proofs.RowsAsTexts.{every_agree, rows_agree, text_is_commit, tree_is_tree}
+use Rattle.gix_commands.proofs.ReadableTexts.{bytes_kept, have_texts, text_kept, tree_kept}
+use Rattle.gix_commands.proofs.RowsAsTexts.{every_agree, rows_agree, stored_there, text_is_commit, tree_is_tree}
 use Rattle.gix_commands.proofs.SameCommits.{are_fed}
 use Rattle.gix_commands.proofs.SortedRows.{sorted_has, unsorted_apart, unsorted_has}
 
@@ -50,24 +48,22 @@ module _ (words : List (List ℕ)) (request : Request) (asked : request_of words
     of_rows r (inl text) = inl text
     of_rows r (inr (none, c)) = inr (none, all r c)
 
-    commit_on : (r : Row) → IsCommit (page_objects (seen request rows objects)) [] r → IsCommit (page_objects objects) those r
-    commit_on r (inl text) = of_rows r (text_is_commit whole_text rows objects graph sound agree r (text_kept (reads_all_lines request) (with_rows rows objects) r text))
-    commit_on r (inr (none, c)) = absurd (no_member r c)
-
-    tree_on : (i : ObjectId) (entries : List Entry) → IsTree (page_objects (seen request rows objects)) i entries → IsTree (page_objects objects) i entries
-    tree_on i entries tree = tree_is_tree whole_text rows objects graph sound agree i entries (tree_kept (reads_all_lines request) (with_rows rows objects) i entries tree)
+    on : HasAll (page_objects (seen request rows objects)) (HasObject objects rows) (page_objects objects) those
+    on = record {
+      commit = λ r c. ⊎_elim
+          (λ text. of_rows r (text_is_commit whole_text rows objects graph sound agree r (text_kept (reads_all_lines request) (with_rows rows objects) r text)))
+          (λ none. absurd (no_member r none.1)) c;
+      tree = λ i entries tree. tree_is_tree whole_text rows objects graph sound agree i entries (tree_kept (reads_all_lines request) (with_rows rows objects) i entries tree);
+      text = λ i stored there.
+          let kept = bytes_kept (reads_all_lines request) (with_rows rows objects) i there in
+          let own = stored_there whole_text rows objects graph sound agree i stored kept.0 in
+          (own.0, kept.1 ∙ ap text_in own.1);
+    }
 
     served_over : Promises fault.Write words AreGiven old answer new
-    served_over = go (shows_texts request) refl served
-      where
-        go : (t : Bool) → shows_texts request ≡ t → Serves (seen request (used_if t rows) objects) (used_if t rows) old request answer new → Promises fault.Write words AreGiven old answer new
-        go true shows s =
-            unrowed_promises words request asked objects those consistent AreGiven given old answer new
-            (subst (λ (o : Objects). Serves (readable (reads_all_lines request) o) [] old request answer new) (without_rows objects) s)
-        go false shows s =
-            promised (page_objects (seen request rows objects)) (page_objects objects) those commit_on tree_on AreGiven given consistent words
-            (λ asks. absurd (false≢true (sym shows ∙ shows_asked words request (subst (AreWordsOf words) asked (are_words words)) asks))) old answer new
-            (right (seen request rows objects) rows seen_agrees (reached_is_read (seen request rows objects) rows seen_agrees) old words request asked (have_texts request (with_rows rows objects)) answer new s)
+    served_over =
+        promised (page_objects (seen request rows objects)) (page_objects objects) those (HasObject objects rows) on AreGiven given consistent words old answer new
+        (right (seen request rows objects) rows seen_agrees (reached_is_read (seen request rows objects) rows seen_agrees) (HasObject objects rows) (page_objects objects) those on old words request asked (have_texts request (with_rows rows objects)) answer new served)
 
   pub served_sorted : AreGiven (page_objects objects) (page_rows rows) → Promises fault.Write words AreGiven old answer new
   served_sorted given = served_over (page_rows rows) (λ r c. c) (rows_agree whole_text rows objects graph sound agree) given

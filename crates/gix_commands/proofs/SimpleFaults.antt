@@ -30,7 +30,8 @@ use Rattle.gix_commands.specs.Checked.{first_lost}
 use Rattle.gix_commands.specs.Run as run
 use Rattle.gix_commands.specs.Run.{Serves}
 use Rattle.gix_revwalk.specs.Infos.{given as all_given}
-use Rattle.gix_commands.specs.Walked.{Walk, Answers, IsWalkFault, failed}
+use Rattle.gix_commands.specs.Walked.{Walk, Answers, IsWalkFault, failed, unstored}
+use Rattle.gix_commands.specs.Chosen.{HasText}
 use Rattle.gix_commands.proofs.CommitRuns.{ends_whole}
 use Rattle.gix_commands.proofs.InternalFacts.{next_sound}
 use Rattle.gix_commands.proofs.LostParents.{all_there}
@@ -178,10 +179,11 @@ module _ (objects : Objects) (tips hiders : List ObjectId) (whole : AreWhole obj
   none_lost rows agreeing ms by walk starts infos at h info c = all_there objects rows info.parent_ids.items (λ i n. met_whole i (named_met infos walk at h (begins rows agreeing ms by walk starts) info c i n))
 
   -- a walk that was started so
-  pub drawn_well : (rows : List GraphRow) → IsAgreeing objects rows → (ms : Parents) (by : Sorting) (walk : Walk) → StartsFrom objects rows ms by tips hiders walk → (infos : List Info) (answer : Result (Unit {0}) Fault) → Ends Answers IsWalkFault walk infos answer → EndsWell answer
-  drawn_well rows agreeing ms by walk starts infos answer (finished new h) = tt
-  drawn_well rows agreeing ms by walk starts infos answer (failed e f new h is) = subst IsOutside (sym is) (called h.2 (drawn infos walk h.0 h.1 (begins rows agreeing ms by walk starts)) (next_sound h.2))
-  drawn_well rows agreeing ms by walk starts infos answer (cut_short info new h) = tt
+  pub drawn_well : {Has : ObjectId → Type 0} → ((i : ObjectId) → Has i) → (rows : List GraphRow) → IsAgreeing objects rows → (ms : Parents) (by : Sorting) (walk : Walk) → StartsFrom objects rows ms by tips hiders walk → (infos : List Info) (answer : Result (Unit {0}) Fault) → Ends Answers IsWalkFault Has walk infos answer → EndsWell answer
+  drawn_well each rows agreeing ms by walk starts infos answer (finished new h) = tt
+  drawn_well each rows agreeing ms by walk starts infos answer (failed e f new h is) = subst IsOutside (sym is) (called h.2 (drawn infos walk h.0 h.1 (begins rows agreeing ms by walk starts)) (next_sound h.2))
+  drawn_well each rows agreeing ms by walk starts infos answer (cut_short info new h) = tt
+  drawn_well each rows agreeing ms by walk starts infos answer (unstored info new h none) = absurd (none (each info.id))
 
   pub started_well : (by : Sorting) (e : Error) → FailsAtStart objects by tips e → IsOutside (fault_of_walk e)
   started_well by e f = go e f.fails.fault
@@ -201,23 +203,23 @@ module _ (objects : Objects) (tips hiders : List ObjectId) (whole : AreWhole obj
       go (error.HiddenGraph x) h = absurd h
       go error.Memory h = tt
 
-module _ (objects : Objects) (rows : List GraphRow) (agreeing : IsAgreeing objects rows) (old : Option (List ℕ)) where
-  pub well : (ms : Parents) (by : Sorting) (shown : Shown) (tips hiders : List ObjectId) → AreWhole objects (tips ++ hiders) → (answer : Result (Unit {0}) Fault) (new : Option (List ℕ)) → Serves objects rows old (Commits (Simple ms by) shown tips hiders) answer new → EndsWell answer
-  well ms by shown tips hiders whole answer new (walked walk infos starts ends parents written) = go shown.limit answer ends
+module _ (Stored : ObjectId → Type 0) (objects : Objects) (rows : List GraphRow) (each : (i : ObjectId) → Stored i) (agreeing : IsAgreeing objects rows) (old : Option (List ℕ)) where
+  pub well : (ms : Parents) (by : Sorting) (shown : Shown) (tips hiders : List ObjectId) → AreWhole objects (tips ++ hiders) → (answer : Result (Unit {0}) Fault) (new : Option (List ℕ)) → Serves Stored objects rows old (Commits (Simple ms by) shown tips hiders) answer new → EndsWell answer
+  well ms by shown tips hiders whole answer new (walked walk infos starts ends have parents written) = go shown.limit answer ends
     where
-      go : (limit : Option ℕ) (answer : Result (Unit {0}) Fault) → EndsBy Answers IsWalkFault (kept_in objects shown) limit walk infos answer → EndsWell answer
-      go None answer ends = drawn_well objects tips hiders whole rows agreeing ms by walk starts infos answer ends
+      go : (limit : Option ℕ) (answer : Result (Unit {0}) Fault) → EndsBy Answers IsWalkFault (HasText Stored shown) (kept_in objects shown) limit walk infos answer → EndsWell answer
+      go None answer ends = drawn_well objects tips hiders whole (λ i e. each i) rows agreeing ms by walk starts infos answer ends
       go (Some n) answer (enough at h e) = tt
-      go (Some n) answer (before ends less) = drawn_well objects tips hiders whole rows agreeing ms by walk starts infos answer ends
-  well ms by shown tips hiders whole answer new (run.lost walk at infos {why = why} other starts h less l written) =
+      go (Some n) answer (before ends less) = drawn_well objects tips hiders whole (λ i e. each i) rows agreeing ms by walk starts infos answer ends
+  well ms by shown tips hiders whole answer new (run.lost walk at infos {why = why} other starts h less l have written) =
       let last : Contains infos l.last = subst (λ xs. Contains xs l.last) (sym l.place) (Contains-append_right l.before (l.last ∷ []) l.last (Contains-here l.last [])) in
       failed_so EndsWell tt (Err why) why refl (λ not_memory. let no : None ≡ Some why = sym (none_lost objects tips hiders whole rows agreeing ms by walk starts infos at h l.last last) ∙ l.lacks not_memory in cc)
   well ms by shown tips hiders whole answer new (not_walked e f) = started_well objects tips hiders whole by e f
   well ms by shown tips hiders whole answer new s = tt
 
-  pub ahead_well : (one other : ObjectId) → AreWhole objects (one ∷ other ∷ []) → (answer : Result (Unit {0}) Fault) (new : Option (List ℕ)) → Serves objects rows old (Ahead one other) answer new → EndsWell answer
-  ahead_well one other whole answer new (not_ahead f) = drawn_well objects (one ∷ []) (other ∷ []) whole rows agreeing mode.All sorting.BreadthFirst f.1.walk f.1.starts f.0 answer f.1.ends
-  ahead_well one other whole answer new (not_behind n a f) = drawn_well objects (other ∷ []) (one ∷ []) turned rows agreeing mode.All sorting.BreadthFirst f.1.walk f.1.starts f.0 answer f.1.ends
+  pub ahead_well : (one other : ObjectId) → AreWhole objects (one ∷ other ∷ []) → (answer : Result (Unit {0}) Fault) (new : Option (List ℕ)) → Serves Stored objects rows old (Ahead one other) answer new → EndsWell answer
+  ahead_well one other whole answer new (not_ahead f) = drawn_well objects (one ∷ []) (other ∷ []) whole (λ i. tt) rows agreeing mode.All sorting.BreadthFirst f.1.walk f.1.starts f.0 answer f.1.ends
+  ahead_well one other whole answer new (not_behind n a f) = drawn_well objects (other ∷ []) (one ∷ []) turned (λ i. tt) rows agreeing mode.All sorting.BreadthFirst f.1.walk f.1.starts f.0 answer f.1.ends
     where
       turned : AreWhole objects (other ∷ one ∷ [])
       turned i r = whole i (reach_more (parents_of objects) (other ∷ one ∷ []) (one ∷ other ∷ []) (λ j c. ⊎_elim (λ e. Contains-there j one (other ∷ []) (subst (λ k. Contains (other ∷ []) k) e (Contains-here other []))) (λ m. ⊎_elim (λ e. subst (λ k. Contains (one ∷ other ∷ []) k) e (Contains-here one (other ∷ []))) (λ n. absurd (no_member j n)) (Contains-cons_cases j one [] m)) (Contains-cons_cases j other (one ∷ []) c)) i r)
@@ -225,8 +227,8 @@ module _ (objects : Objects) (rows : List GraphRow) (agreeing : IsAgreeing objec
 
 pub simple_succeeds : SimpleSucceeds
 simple_succeeds words input records ms by shown tips hiders answer old new asked are whole =
-    ends_whole words input records (Commits (Simple ms by) shown tips hiders) (tips ++ hiders) answer old new asked are whole (λ objects rows agreeing all. well objects rows agreeing old ms by shown tips hiders all)
+    ends_whole words input records (Commits (Simple ms by) shown tips hiders) (tips ++ hiders) answer old new asked are whole (λ Stored objects rows each agreeing all. well Stored objects rows each agreeing old ms by shown tips hiders all)
 
 pub ahead_succeeds : AheadSucceeds
 ahead_succeeds words input records one other answer old new asked are whole =
-    ends_whole words input records (Ahead one other) (one ∷ other ∷ []) answer old new asked are whole (λ objects rows agreeing. ahead_well objects rows agreeing old one other)
+    ends_whole words input records (Ahead one other) (one ∷ other ∷ []) answer old new asked are whole (λ Stored objects rows each agreeing. ahead_well Stored objects rows each agreeing old one other)

@@ -21,7 +21,8 @@ use Rattle.gix_topo.proofs.Run.Theorem.{gives_text}
 use Rattle.gix_commands.specs.Run.{Serves}
 use Rattle.gix_commands.specs.TopoWalked.{Walk, Answers, IsWalkFault}
 use Rattle.gix_revwalk.specs.Infos.{given as all_given}
-use Rattle.gix_commands.specs.Walked.{failed as fell}
+use Rattle.gix_commands.specs.Chosen.{HasText}
+use Rattle.gix_commands.specs.Walked.{failed as fell, unstored}
 use Rattle.gix_commands.proofs.CommitRuns.{ends_whole}
 use Rattle.gix_commands.proofs.ListedCommits.{ListsDown, followed_down}
 
@@ -60,7 +61,7 @@ same_read plan (info ∷ infos) (i ∷ ids) h = (λ k. h.0.info_is.same_id k ∷
 
 -- a walk that ended well, by the parents that texts name
 module _ (objects : Objects) (rows : List GraphRow) (agree : IsAgreeing objects rows) (m : Parents) (by : Sorting) (tips ends : List ObjectId) (walk : Walk) (built : IsBuiltFrom objects rows m by tips ends (Ok walk)) where
-  pub listed_read : (infos : List Info) → Ends Answers IsWalkFault walk infos (Ok tt) → ListsDown objects (text_next objects) (followed_down objects m) by tips ends (map (λ info. info.id) infos)
+  pub listed_read : {Has : ObjectId → Type 0} (infos : List Info) → Ends Answers IsWalkFault Has walk infos (Ok tt) → ListsDown objects (text_next objects) (followed_down objects m) by tips ends (map (λ info. info.id) infos)
   listed_read infos (finished new h) =
       let g : GivesTextOrder objects_of walk.plan (λ i. true) (all_given infos) =
       gives_text objects_of never_faulty accepts_all (λ i. true) walk (all_given infos) (λ mid last i answer b a. a.0) built.1 (subst (λ (plan : TopoPlan Objects). IsAgreeing plan.store plan.rows) (sym built.0.plan) agree) (no_faults infos) (new, h) in
@@ -99,22 +100,23 @@ module _ (objects : Objects) (rows : List GraphRow) (agree : IsAgreeing objects 
   outside Q error.Memory h = tt
 
   module _ (walk : Walk) (built : IsBuiltFrom objects rows m by tips ends (Ok walk)) where
-    drawn_outside : (infos : List Info) (answer : Result (Unit {0}) Fault) → Ends Answers IsWalkFault walk infos answer → EndsWell answer
-    drawn_outside infos answer (finished new h) = tt
-    drawn_outside infos answer (fell e f new h is) =
+    drawn_outside : {Has : ObjectId → Type 0} → ((i : ObjectId) → Has i) → (infos : List Info) (answer : Result (Unit {0}) Fault) → Ends Answers IsWalkFault Has walk infos answer → EndsWell answer
+    drawn_outside each infos answer (finished new h) = tt
+    drawn_outside each infos answer (fell e f new h is) =
         let says : (taken : set.FinSet id_cmp) × (c : ObjectId) × IsFault objects_of never_faulty (plan_from objects rows m by tips ends) (IsNextReady objects_of (plan_from objects rows m by tips ends) taken c) e =
         subst (λ plan. (taken : set.FinSet id_cmp) × (c : ObjectId) × IsFault objects_of never_faulty plan (IsNextReady objects_of plan taken c) e) (yields_plan walk h.0 (all_given infos) h.1 ∙ built.0.plan) (next_says h.2) in
         subst IsOutside (sym is) (outside (IsNextReady objects_of (plan_from objects rows m by tips ends) says.0 says.1) e says.2)
-    drawn_outside infos answer (cut_short info new h) = tt
+    drawn_outside each infos answer (cut_short info new h) = tt
+    drawn_outside each infos answer (unstored info new h none) = absurd (none (each info.id))
 
-  module _ (old : Option (List ℕ)) where
-    pub well : (shown : Shown) (answer : Result (Unit {0}) Fault) (new : Option (List ℕ)) → Serves objects rows old (Commits (Topo m by) shown tips ends) answer new → EndsWell answer
-    well shown answer new (walked_down walk infos built drawn written) = go shown.limit answer drawn
+  module _ (Stored : ObjectId → Type 0) (each : (i : ObjectId) → Stored i) (old : Option (List ℕ)) where
+    pub well : (shown : Shown) (answer : Result (Unit {0}) Fault) (new : Option (List ℕ)) → Serves Stored objects rows old (Commits (Topo m by) shown tips ends) answer new → EndsWell answer
+    well shown answer new (walked_down walk infos built drawn have written) = go shown.limit answer drawn
       where
-        go : (limit : Option ℕ) (answer : Result (Unit {0}) Fault) → EndsBy Answers IsWalkFault (kept_in objects shown) limit walk infos answer → EndsWell answer
-        go None answer drawn = drawn_outside walk built infos answer drawn
+        go : (limit : Option ℕ) (answer : Result (Unit {0}) Fault) → EndsBy Answers IsWalkFault (HasText Stored shown) (kept_in objects shown) limit walk infos answer → EndsWell answer
+        go None answer drawn = drawn_outside walk built (λ i e. each i) infos answer drawn
         go (Some n) answer (enough at h e) = tt
-        go (Some n) answer (before drawn less) = drawn_outside walk built infos answer drawn
+        go (Some n) answer (before drawn less) = drawn_outside walk built (λ i e. each i) infos answer drawn
     well shown answer new (not_built e h) = outside (IsFirstReady objects_of (plan_from objects rows m by tips ends)) e h.1
     well shown answer new s = tt
 
@@ -132,4 +134,4 @@ module _ (objects : Objects) (m : Parents) (by : Sorting) (tips ends : List Obje
 
 pub topo_succeeds : TopoSucceeds
 topo_succeeds words input records m by shown tips ends answer old new asked are whole =
-    ends_whole words input records (Commits (Topo m by) shown tips ends) (tips ++ ends) answer old new asked are whole (λ objects rows agreeing all. well objects rows agreeing m by tips ends all old shown)
+    ends_whole words input records (Commits (Topo m by) shown tips ends) (tips ++ ends) answer old new asked are whole (λ Stored objects rows each agreeing all. well objects rows agreeing m by tips ends all Stored each old shown)

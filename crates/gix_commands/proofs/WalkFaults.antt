@@ -20,7 +20,7 @@ use Rattle.gix_commands.specs.Opening.{IsOpeningFault}
 use Rattle.gix_commands.specs.Run as run
 use Rattle.gix_commands.specs.Run.{Serves}
 use Rattle.gix_commands.specs.TopoWalked as topo
-use Rattle.gix_commands.specs.Walked.{Answers, IsWalkFault, failed}
+use Rattle.gix_commands.specs.Walked.{Answers, IsWalkFault, failed, unstored}
 use Rattle.gix_commands.proofs.LostParents.{lost_so}
 use Rattle.gix_commands.proofs.MemoryFaults.{failed_so}
 
@@ -64,17 +64,18 @@ tree_of_walk : (e : TreeError) → IsOfWalk (fault_of_tree_walk e)
 tree_of_walk (tree_error.Find e) = find_of_walk e
 tree_of_walk e = tt
 
-ends_of_walk : {W E : Type 0} {Steps : W → Option (Result Info E) → W → Type 0} {Tells : E → Fault → Type 0} {walk : W} {infos : List Info} {answer : Result (Unit {0}) Fault}
-    → ((e : E) (f : Fault) → Tells e f → IsOfWalk f) → Ends Steps Tells walk infos answer → OfWalk answer
+ends_of_walk : {W E : Type 0} {Steps : W → Option (Result Info E) → W → Type 0} {Tells : E → Fault → Type 0} {Has : ObjectId → Type 0} {walk : W} {infos : List Info} {answer : Result (Unit {0}) Fault}
+    → ((e : E) (f : Fault) → Tells e f → IsOfWalk f) → Ends Steps Tells Has walk infos answer → OfWalk answer
 ends_of_walk tells (finished new h) = tt
 ends_of_walk tells (failed e f new h is) = tells e f is
 ends_of_walk tells (cut_short info new h) = tt
+ends_of_walk tells (unstored info new h none) = tt
 
-by_of_walk : {W E : Type 0} (Steps : W → Option (Result Info E) → W → Type 0) (Tells : E → Fault → Type 0) (those : List Info → List ObjectId) (limit : Option ℕ) (walk : W) (infos : List Info) (answer : Result (Unit {0}) Fault)
-    → ((e : E) (f : Fault) → Tells e f → IsOfWalk f) → EndsBy Steps Tells those limit walk infos answer → OfWalk answer
-by_of_walk Steps Tells those None walk infos answer tells ends = ends_of_walk tells ends
-by_of_walk Steps Tells those (Some n) walk infos _ tells (enough at h e) = tt
-by_of_walk Steps Tells those (Some n) walk infos answer tells (before ends less) = ends_of_walk tells ends
+by_of_walk : {W E : Type 0} (Steps : W → Option (Result Info E) → W → Type 0) (Tells : E → Fault → Type 0) (Has : ObjectId → Type 0) (those : List Info → List ObjectId) (limit : Option ℕ) (walk : W) (infos : List Info) (answer : Result (Unit {0}) Fault)
+    → ((e : E) (f : Fault) → Tells e f → IsOfWalk f) → EndsBy Steps Tells Has those limit walk infos answer → OfWalk answer
+by_of_walk Steps Tells Has those None walk infos answer tells ends = ends_of_walk tells ends
+by_of_walk Steps Tells Has those (Some n) walk infos _ tells (enough at h e) = tt
+by_of_walk Steps Tells Has those (Some n) walk infos answer tells (before ends less) = ends_of_walk tells ends
 
 simple_tells : (e : Error) (f : Fault) → IsWalkFault e f → IsOfWalk f
 simple_tells e f is = subst IsOfWalk (sym is) (simple_of_walk e)
@@ -85,11 +86,11 @@ topo_tells e f is = subst IsOfWalk (sym is) (topo_of_walk e)
 lost_of_walk : (objects : Objects) (rows : List GraphRow) (ids : List ObjectId) (why : Fault) → (why ≢ fault.Memory → first_lost objects rows ids ≡ Some why) → OfWalk (Err why)
 lost_of_walk objects rows ids why h = failed_so OfWalk tt (Err why) why refl (λ other. lost_so IsOfWalk (λ i. tt) (λ i. tt) tt objects rows ids why (h other))
 
-pub serves_of_walk : {objects : Objects} {rows : List GraphRow} {old new : Option (List ℕ)} {request : Request} {answer : Result (Unit {0}) Fault} → Serves objects rows old request answer new → OfWalk answer
-serves_of_walk {objects} (walked {shown = shown} walk infos s ends whole a) = by_of_walk Answers IsWalkFault (kept_in objects shown) shown.limit walk infos _ simple_tells ends
-serves_of_walk {objects} {rows} (run.lost walk at infos {why = why} by s h more l a) = lost_of_walk objects rows l.last.parent_ids.items why l.lacks
+pub serves_of_walk : {Stored : ObjectId → Type 0} {objects : Objects} {rows : List GraphRow} {old new : Option (List ℕ)} {request : Request} {answer : Result (Unit {0}) Fault} → Serves Stored objects rows old request answer new → OfWalk answer
+serves_of_walk {objects = objects} (walked {shown = shown} walk infos s ends have whole a) = by_of_walk Answers IsWalkFault _ (kept_in objects shown) shown.limit walk infos _ simple_tells ends
+serves_of_walk {objects = objects} {rows = rows} (run.lost walk at infos {why = why} by s h more l have a) = lost_of_walk objects rows l.last.parent_ids.items why l.lacks
 serves_of_walk (not_walked why f) = simple_of_walk why
-serves_of_walk {objects} (walked_down {shown = shown} walk infos built ends a) = by_of_walk topo.Answers topo.IsWalkFault (kept_in objects shown) shown.limit walk infos _ topo_tells ends
+serves_of_walk {objects = objects} (walked_down {shown = shown} walk infos built ends have a) = by_of_walk topo.Answers topo.IsWalkFault _ (kept_in objects shown) shown.limit walk infos _ topo_tells ends
 serves_of_walk (not_built why h) = topo_of_walk why
 serves_of_walk (not_listed recorder why r) = tree_of_walk why
 serves_of_walk (not_ahead f) = ends_of_walk simple_tells f.1.ends

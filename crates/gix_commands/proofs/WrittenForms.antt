@@ -11,33 +11,33 @@ use Rattle.gix_commands.proofs.OutputFacts.{lines_begun, lines_written, whole_fa
 abbrev number_line : ℕ → List ℕ
 number_line n = digits 10 false n ++ 10 ∷ []
 
-module _ {W E : Type 0} (Steps : W → Option (Result Info E) → W → Type 0) (Tells : E → Fault → Type 0) (those : List Info → List ObjectId) (limit : Option ℕ) (line : ObjectId → List ℕ) (by : Form) (walk : W) (old : Option (List ℕ)) where
+module _ {W E : Type 0} (Steps : W → Option (Result Info E) → W → Type 0) (Tells : E → Fault → Type 0) (Has : ObjectId → Type 0) (those : List Info → List ObjectId) (limit : Option ℕ) (line : ObjectId → List ℕ) (by : Form) (walk : W) (old : Option (List ℕ)) where
   abbrev DrawnBy : Form → Result (Unit {0}) Fault → Option (List ℕ) → Held → Type 0
-  DrawnBy form = AddsBegun Steps Tells those limit line form walk old nothing_held
+  DrawnBy form = AddsBegun Steps Tells Has those limit line form walk old nothing_held
 
   abbrev WrittenBy : Form → Result (Unit {0}) Fault → Option (List ℕ) → Type 0
-  WrittenBy form = WritesBegun Steps Tells those limit line form walk old
+  WrittenBy form = WritesBegun Steps Tells Has those limit line form walk old
 
   -- lines
   pub lines_out : by ≡ form.Lines → {mid new : Option (List ℕ)} {holds : Held} (answer : Result (Unit {0}) Fault) → DrawnBy by answer mid holds → Appends mid new holds.lines → WrittenBy by answer new
   lines_out is {mid} {new} {holds} answer h k =
-      subst (λ (f : Form). WrittenBy f answer new) (sym is) (lines_written Steps Tells those limit line walk old nothing_held refl (subst (λ (f : Form). DrawnBy f answer mid holds) is h) k)
+      subst (λ (f : Form). WrittenBy f answer new) (sym is) (lines_written Steps Tells Has those limit line walk old nothing_held refl (subst (λ (f : Form). DrawnBy f answer mid holds) is h) k)
 
   pub lines_cut : by ≡ form.Lines → {mid new : Option (List ℕ)} {holds : Held} {answer result : Result (Unit {0}) Fault} (e : Fault) → DrawnBy by answer mid holds → BreaksOff mid new holds.lines e → result ≡ Err e → WrittenBy by result new
   lines_cut is {mid} {new} {holds} {answer} {result} e h breaks same =
-      subst (λ (f : Form). WrittenBy f result new) (sym is) (lines_begun Steps Tells those limit line walk old nothing_held refl e (subst (λ (f : Form). DrawnBy f answer mid holds) is h) breaks same)
+      subst (λ (f : Form). WrittenBy f result new) (sym is) (lines_begun Steps Tells Has those limit line walk old nothing_held refl e (subst (λ (f : Form). DrawnBy f answer mid holds) is h) breaks same)
 
   -- their number
   no_lines : (by ≡ form.Count) → by ≢ form.Lines
   no_lines is = λ e. cc
 
   pub number_failed : by ≡ form.Count → {mid : Option (List ℕ)} {holds : Held} {answer result : Result (Unit {0}) Fault} (e : Fault) → DrawnBy by answer mid holds → answer ≡ Err e → result ≡ Err e → WrittenBy by result mid
-  number_failed is e h fails same = whole_failed Steps Tells those limit line by (no_lines is) walk old nothing_held e h fails same
+  number_failed is e h fails same = whole_failed Steps Tells Has those limit line by (no_lines is) walk old nothing_held e h fails same
 
   pub number_out : by ≡ form.Count → {mid new : Option (List ℕ)} {holds : Held} (answer : Result (Unit {0}) Fault) → answer ≡ Ok tt → DrawnBy by answer mid holds → (number : ℕ) → number ≡ holds.number → (result : Result (Unit {0}) Fault)
       → WritesWhole mid (number_line number) result new → WrittenBy by result new
   number_out is {mid} {new} {holds} answer ok h number same result whole =
-      whole_written Steps Tells those limit line by (no_lines is) walk old nothing_held (number_line number) (subst (λ (a : Result (Unit {0}) Fault). DrawnBy by a mid holds) ok h) writes result whole
+      whole_written Steps Tells Has those limit line by (no_lines is) walk old nothing_held (number_line number) (subst (λ (a : Result (Unit {0}) Fault). DrawnBy by a mid holds) ok h) writes result whole
     where
       writes : (ids : List ObjectId) → Takes line by old nothing_held ids mid holds → (full : Option (List ℕ)) → Appends old full (number_line number) → Writes line by (Ok tt) ids old full
       writes ids takes full a =
@@ -50,12 +50,12 @@ module _ {W E : Type 0} (Steps : W → Option (Result Info E) → W → Type 0) 
   no_order is = λ e. cc
 
   pub reverse_failed : by ≡ form.Reverse → {mid : Option (List ℕ)} {holds : Held} {answer result : Result (Unit {0}) Fault} (e : Fault) → DrawnBy by answer mid holds → answer ≡ Err e → result ≡ Err e → WrittenBy by result mid
-  reverse_failed is e h fails same = whole_failed Steps Tells those limit line by (no_order is) walk old nothing_held e h fails same
+  reverse_failed is e h fails same = whole_failed Steps Tells Has those limit line by (no_order is) walk old nothing_held e h fails same
 
   pub reverse_out : by ≡ form.Reverse → {mid new : Option (List ℕ)} {holds : Held} (answer : Result (Unit {0}) Fault) → answer ≡ Ok tt → DrawnBy by answer mid holds → (held : List ObjectId) → held ≡ holds.ids → (result : Result (Unit {0}) Fault)
       → WritesWhole mid (flat_map line (reverse held)) result new → WrittenBy by result new
   reverse_out is {mid} {new} {holds} answer ok h held same result whole =
-      whole_written Steps Tells those limit line by (no_order is) walk old nothing_held (flat_map line (reverse held)) (subst (λ (a : Result (Unit {0}) Fault). DrawnBy by a mid holds) ok h) writes result whole
+      whole_written Steps Tells Has those limit line by (no_order is) walk old nothing_held (flat_map line (reverse held)) (subst (λ (a : Result (Unit {0}) Fault). DrawnBy by a mid holds) ok h) writes result whole
     where
       writes : (ids : List ObjectId) → Takes line by old nothing_held ids mid holds → (full : Option (List ℕ)) → Appends old full (flat_map line (reverse held)) → Writes line by (Ok tt) ids old full
       writes ids takes full a =
@@ -70,7 +70,7 @@ pub none_held : (lines : List ℕ) (ids : List ObjectId) → lines ≡ [] → id
 none_held lines ids a b = λ k. record { lines = a k; ids = b k; number = 0 }
 
 -- what was drawn, by a form that is this one, and beginning with nothing
-pub from_drawn : {W E : Type 0} (Steps : W → Option (Result Info E) → W → Type 0) (Tells : E → Fault → Type 0) (those : List Info → List ObjectId) (limit : Option ℕ) (line : ObjectId → List ℕ) (f by : Form) (walk : W) (old : Option (List ℕ)) (held : Held) (answer : Result (Unit {0}) Fault) (mid : Option (List ℕ)) (holds : Held)
-    → AddsBegun Steps Tells those limit line f walk old held answer mid holds → f ≡ by → held ≡ nothing_held → AddsBegun Steps Tells those limit line by walk old nothing_held answer mid holds
-from_drawn Steps Tells those limit line f by walk old held answer mid holds h named none =
-    subst (λ (x : Form). AddsBegun Steps Tells those limit line x walk old nothing_held answer mid holds) named (subst (λ (x : Held). AddsBegun Steps Tells those limit line f walk old x answer mid holds) none h)
+pub from_drawn : {W E : Type 0} (Steps : W → Option (Result Info E) → W → Type 0) (Tells : E → Fault → Type 0) (Has : ObjectId → Type 0) (those : List Info → List ObjectId) (limit : Option ℕ) (line : ObjectId → List ℕ) (f by : Form) (walk : W) (old : Option (List ℕ)) (held : Held) (answer : Result (Unit {0}) Fault) (mid : Option (List ℕ)) (holds : Held)
+    → AddsBegun Steps Tells Has those limit line f walk old held answer mid holds → f ≡ by → held ≡ nothing_held → AddsBegun Steps Tells Has those limit line by walk old nothing_held answer mid holds
+from_drawn Steps Tells Has those limit line f by walk old held answer mid holds h named none =
+    subst (λ (x : Form). AddsBegun Steps Tells Has those limit line x walk old nothing_held answer mid holds) named (subst (λ (x : Held). AddsBegun Steps Tells Has those limit line f walk old x answer mid holds) none h)

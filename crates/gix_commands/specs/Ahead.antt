@@ -8,13 +8,13 @@ use Rattle.gix_revwalk.specs.declared.Info.{Info}
 use Rattle.gix_revwalk.specs.declared.Parents.TheVariants as mode
 use Rattle.gix_simple.specs.declared.Sorting.TheVariants as sorting
 use Rattle.gix_words.specs.declared.fault.Fault.{Fault}
-use Rattle.gix_commands.specs.Walked.{Walk, Answers, IsWalkFault, StartsFrom, Ends}
+use Rattle.gix_commands.specs.Walked.{Walk, Answers, IsWalkFault, StartsFrom, Any, Ends}
 
 -- a walk breadth first from a tip, which hides what another commit reaches, gave commits and ended so
 pub record Draws (objects : Objects) (rows : List GraphRow) (tip hidden : ObjectId) (infos : List Info) (answer : Result (Unit {0}) Fault) : Type 0 where
   pub walk : Walk
   pub starts : StartsFrom objects rows mode.All sorting.BreadthFirst (tip ∷ []) (hidden ∷ []) walk
-  pub ends : Ends Answers IsWalkFault walk infos answer
+  pub ends : Ends Answers IsWalkFault Any walk infos answer
 
 -- such a walk was drawn to its end, and gave so many commits
 abbrev pub Counts : Objects → List GraphRow → ObjectId → ObjectId → ℕ → Type 0
@@ -30,5 +30,5 @@ ahead_line ahead behind = digits 10 false ahead ++ 32 ∷ (digits 10 false behin
 
 -- how a walk ended that was drawn to be counted: with as many commits as the number says, or by a fault
 abbrev pub Numbers : {W E : Type 0} → (W → Option (Result Info E) → W → Type 0) → (E → Fault → Type 0) → W → Result ℕ Fault → Type 0
-Numbers Steps Tells walk (Ok n) = (infos : List Info) × Ends Steps Tells walk infos (Ok tt) × (n ≡ length infos)
-Numbers Steps Tells walk (Err e) = (infos : List Info) × Ends Steps Tells walk infos (Err e)
+Numbers Steps Tells walk (Ok n) = (infos : List Info) × Ends Steps Tells Any walk infos (Ok tt) × (n ≡ length infos)
+Numbers Steps Tells walk (Err e) = (infos : List Info) × Ends Steps Tells Any walk infos (Err e)

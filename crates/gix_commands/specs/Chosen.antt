@@ -1,8 +1,10 @@
 -- Which of the commits that a walk gives are written, and how.
-use Rattle.std.specs.Prelude.{◌≡◌, ◌-◌, ◌<◌, ◌&&◌, ℕ, ℤ, pos, int_le, nat_lt, nat_le, List, [], ◌∷◌, ◌++◌, length, map, reverse, Bool, true, false, Option, Some, None, Result, Ok, Err, codes}
+use Rattle.std.specs.Prelude.{◌≡◌, ◌≢◌, ◌-◌, ◌<◌, ◌&&◌, ℕ, ℤ, pos, int_le, nat_lt, nat_le, List, [], ◌∷◌, ◌++◌, length, map, reverse, Bool, true, false, Option, Some, None, Result, Ok, Err, codes}
+use Rattle.std.specs.FinMap.{get}
 use Rattle.std.specs.Fmt.{digits}
 use Rattle.std.specs.Io.KnownBytes.{Appends}
 use Rattle.std.specs.List.{flat_map}
+use Rattle.gix_commitgraph.specs.Rows.{GraphRow, row_of}
 use Rattle.gix_hash.specs.declared.ObjectId.{ObjectId}
 use Rattle.gix_object.specs.declared.decode.Error.{Error as DecodeError}
 use Rattle.gix_object.specs.Object.{Objects}
@@ -11,7 +13,7 @@ use Rattle.gix_revwalk.specs.declared.read.Header.{Header}
 use Rattle.gix_revwalk.specs.Commits.{time_of}
 use Rattle.gix_revwalk.specs.Texts.{text_next}
 use Rattle.gix_statement.specs.WholeStatement as page
-use Rattle.gix_statement.specs.WholeStatement.{chosen, commit_line}
+use Rattle.gix_statement.specs.WholeStatement.{chosen, commit_line, says_more}
 use Rattle.gix_commands.specs.Pages.{page_objects}
 use Rattle.gix_words.specs.declared.fault.Fault.{Fault}
 use Rattle.gix_words.specs.declared.words.Form.{Form}
@@ -77,15 +79,30 @@ pub record IsHeaderOf (objects : Objects) (i : ObjectId) (header : Header) : Typ
   pub parents : header.parent_ids.items ≡ text_next objects i
   pub time : seconds_or_zero header.time ≡ time_of objects i
 
+-- a commit that has a row has an object too
+abbrev pub HasObject : Objects → List GraphRow → ObjectId → Type 0
+HasObject stored rows i = row_of rows i ≢ None → get stored i ≢ None
+
+-- if there is a format each commit is stored, since a row has no text
+abbrev pub HasText : (IsStored : ObjectId → Type 0) → Shown → ObjectId → Type 0
+HasText IsStored shown i = says_more (format_bytes shown.line.format) ≡ true → IsStored i
+
 -- how many more commits are left out, and how many are written at most
 pub record Choosing : Type 0 where
   pub objects : Objects
+  pub stored : Objects
+  pub rows : List GraphRow
   pub shown : Shown
   pub skip : ℕ
   pub left : Option ℕ
 
-abbrev pub fresh_choosing : Objects → Shown → Choosing
-fresh_choosing objects shown = record { objects = objects; shown = shown; skip = shown.skip; left = shown.limit }
+-- what each commit has to have that is chosen or passed over
+abbrev pub HasTextIn : Choosing → ObjectId → Type 0
+HasTextIn c = HasText (HasObject c.stored c.rows) c.shown
+
+abbrev pub fresh_choosing : Objects → Objects → List GraphRow → Shown → Choosing
+fresh_choosing objects stored rows shown =
+    record { objects = objects; stored = stored; rows = rows; shown = shown; skip = shown.skip; left = shown.limit }
 
 abbrev pub keeps : Choosing → ObjectId → Bool
 keeps c i = is_kept c.shown (length (text_next c.objects i)) (time_of c.objects i)

@@ -12,7 +12,7 @@ use Rattle.gix_words.specs.declared.words.Form.TheVariants as form
 use Rattle.gix_commands.specs.declared.output.Sink.{Sink}
 use Rattle.gix_commands.specs.Chosen.{Writes}
 use Rattle.gix_revwalk.specs.Infos.{given}
-use Rattle.gix_commands.specs.Walked.{AsksForMore, EndsBy}
+use Rattle.gix_commands.specs.Walked.{AsksForMore, EndsBy, Have}
 
 -- the writer's bytes, followed by the buffered ones, grew by these bytes
 abbrev pub Grows : Option (List ℕ) → List ℕ → Option (List ℕ) → List ℕ → List ℕ → Type 0
@@ -43,18 +43,20 @@ Takes line form.Count old held ids new holds = (new ≡ old) × (holds.number �
 Takes line form.Reverse old held ids new holds = (new ≡ old) × (holds.ids ≡ held.ids ++ ids)
 
 -- the ids that are written of the commits that a walk gave were added
-pub record Adds {W E : Type 0} (Steps : W → Option (Result Info E) → W → Type 0) (Tells : E → Fault → Type 0) (those : List Info → List ObjectId)
+pub record Adds {W E : Type 0} (Steps : W → Option (Result Info E) → W → Type 0) (Tells : E → Fault → Type 0) (Has : ObjectId → Type 0) (those : List Info → List ObjectId)
     (limit : Option ℕ) (line : ObjectId → List ℕ) (by : Form) (walk : W) (old : Option (List ℕ)) (held : Held) (answer : Result (Unit {0}) Fault) (new : Option (List ℕ))
     (holds : Held) : Type 0 where
   pub infos : List Info
-  pub ends : EndsBy Steps Tells those limit walk infos answer
+  pub ends : EndsBy Steps Tells Has those limit walk infos answer
+  pub have : Have Has infos
   pub takes : Takes line by old held (those infos) new holds
 
 -- what is written of the commits that a walk gave was written
-pub record WritesAll {W E : Type 0} (Steps : W → Option (Result Info E) → W → Type 0) (Tells : E → Fault → Type 0) (those : List Info → List ObjectId)
+pub record WritesAll {W E : Type 0} (Steps : W → Option (Result Info E) → W → Type 0) (Tells : E → Fault → Type 0) (Has : ObjectId → Type 0) (those : List Info → List ObjectId)
     (limit : Option ℕ) (line : ObjectId → List ℕ) (by : Form) (walk : W) (old : Option (List ℕ)) (answer : Result (Unit {0}) Fault) (new : Option (List ℕ)) : Type 0 where
   pub infos : List Info
-  pub ends : EndsBy Steps Tells those limit walk infos answer
+  pub ends : EndsBy Steps Tells Has those limit walk infos answer
+  pub have : Have Has infos
   pub writes : Writes line by answer (those infos) old new
 
 -- the writer failed: a beginning of these bytes was written
@@ -74,13 +76,13 @@ TakesNone form.Reverse old held new holds e = (e ≡ fault.Memory) × (new ≡ o
 
 -- The ids that are written of the commits that a walk gave were added. Or the writer failed: no line is buffered, and the lines of a walk that
 -- was cut short go on behind what is written.
-pub data AddsBegun {W E : Type 0} (Steps : W → Option (Result Info E) → W → Type 0) (Tells : E → Fault → Type 0) (those : List Info → List ObjectId)
+pub data AddsBegun {W E : Type 0} (Steps : W → Option (Result Info E) → W → Type 0) (Tells : E → Fault → Type 0) (Has : ObjectId → Type 0) (those : List Info → List ObjectId)
     (limit : Option ℕ) (line : ObjectId → List ℕ) (by : Form) (walk : W) (old : Option (List ℕ)) (held : Held) : Result (Unit {0}) Fault → Option (List ℕ) → Held → Type 0 where
-  added : {answer : Result (Unit {0}) Fault} {new : Option (List ℕ)} {holds : Held} → Adds Steps Tells those limit line by walk old held answer new holds
-      → AddsBegun Steps Tells those limit line by walk old held answer new holds
+  added : {answer : Result (Unit {0}) Fault} {new : Option (List ℕ)} {holds : Held} → Adds Steps Tells Has those limit line by walk old held answer new holds
+      → AddsBegun Steps Tells Has those limit line by walk old held answer new holds
   broken_off : {new : Option (List ℕ)} {holds : Held} (more : List ℕ) → by ≡ form.Lines → holds.lines ≡ []
-      → Adds Steps Tells those limit line by walk old held (Err fault.Memory) new (record holds { lines = more })
-      → AddsBegun Steps Tells those limit line by walk old held (Err fault.Write) new holds
+      → Adds Steps Tells Has those limit line by walk old held (Err fault.Memory) new (record holds { lines = more })
+      → AddsBegun Steps Tells Has those limit line by walk old held (Err fault.Write) new holds
 
 -- all bytes were written, or memory ran out and none was, or the writer failed
 abbrev pub WritesWhole : Option (List ℕ) → List ℕ → Result (Unit {0}) Fault → Option (List ℕ) → Type 0
@@ -88,10 +90,10 @@ WritesWhole old bytes (Ok done) new = Appends old new bytes
 WritesWhole old bytes (Err e) new = ((e ≡ fault.Memory) × (new ≡ old)) ⊎ BreaksOff old new bytes e
 
 -- what is written of the commits that a walk gave was written, or the writer failed, and a beginning of it was, or memory ran out before
-pub data WritesBegun {W E : Type 0} (Steps : W → Option (Result Info E) → W → Type 0) (Tells : E → Fault → Type 0) (those : List Info → List ObjectId)
+pub data WritesBegun {W E : Type 0} (Steps : W → Option (Result Info E) → W → Type 0) (Tells : E → Fault → Type 0) (Has : ObjectId → Type 0) (those : List Info → List ObjectId)
     (limit : Option ℕ) (line : ObjectId → List ℕ) (by : Form) (walk : W) (old : Option (List ℕ)) : Result (Unit {0}) Fault → Option (List ℕ) → Type 0 where
-  written : {answer : Result (Unit {0}) Fault} {new : Option (List ℕ)} → WritesAll Steps Tells those limit line by walk old answer new
-      → WritesBegun Steps Tells those limit line by walk old answer new
-  cut : {answer : Result (Unit {0}) Fault} {full new : Option (List ℕ)} (some more : List ℕ) → WritesAll Steps Tells those limit line by walk old answer full
-      → Appends old new some → Appends new full more → WritesBegun Steps Tells those limit line by walk old (Err fault.Write) new
-  unwritten : WritesBegun Steps Tells those limit line by walk old (Err fault.Memory) old
+  written : {answer : Result (Unit {0}) Fault} {new : Option (List ℕ)} → WritesAll Steps Tells Has those limit line by walk old answer new
+      → WritesBegun Steps Tells Has those limit line by walk old answer new
+  cut : {answer : Result (Unit {0}) Fault} {full new : Option (List ℕ)} (some more : List ℕ) → WritesAll Steps Tells Has those limit line by walk old answer full
+      → Appends old new some → Appends new full more → WritesBegun Steps Tells Has those limit line by walk old (Err fault.Write) new
+  unwritten : WritesBegun Steps Tells Has those limit line by walk old (Err fault.Memory) old

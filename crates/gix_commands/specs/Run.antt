@@ -1,5 +1,5 @@
 -- What a run of the program may answer and write.
-use Rattle.std.specs.Prelude.{◌≡◌, ◌≢◌, ℕ, Bool, true, false, List, [], ◌∷◌, length, Option, Result, Ok, Err}
+use Rattle.std.specs.Prelude.{◌≡◌, ◌≢◌, ℕ, List, [], ◌∷◌, length, Option, Result, Ok, Err}
 use Rattle.std.specs.Io.KnownBytes.{Appends}
 use Rattle.std.specs.Iterator.{Yields}
 use Rattle.std.specs.List.{flat_map}
@@ -30,7 +30,7 @@ use Rattle.gix_words.specs.declared.words.Shown.{Shown}
 use Rattle.gix_commands.specs.Ahead.{Counts, FailsToCount, ahead_line}
 use Rattle.gix_words.specs.Faults.{fault_of_walk, fault_of_topo_walk, fault_of_bases, fault_of_contained, fault_of_tree_walk}
 use Rattle.gix_commands.specs.Checked.{GoesOnWhole, LacksParent}
-use Rattle.gix_commands.specs.Chosen.{Writes, kept_in, line_in}
+use Rattle.gix_commands.specs.Chosen.{HasObject, HasText, Writes, kept_in, line_in}
 use Rattle.gix_commands.specs.Files.{IsMisnamed, RecordsTree, file_lines}
 use Rattle.gix_graph_check.specs.declared.Disagreement.TheVariants.{Row}
 use Rattle.gix_graph_store.specs.Laws.{StoredAgree}
@@ -42,91 +42,73 @@ use Rattle.gix_commands.specs.Opening.{Opens, FailsToOpen}
 use Rattle.gix_commands.specs.Readable.{readable, reads_all_lines}
 use Rattle.gix_commands.specs.TopoWalked as topo
 use Rattle.gix_revwalk.specs.Infos.{given}
-use Rattle.gix_commands.specs.Walked.{Walk, Answers, IsWalkFault, StartsFrom, FailsAtStart, EndsBy, line_of, never_faulty, AsksForMore}
-use Rattle.gix_statement.specs.WholeStatement.{says_more}
-use Rattle.gix_words.specs.Formats.{format_bytes}
+use Rattle.gix_commands.specs.Walked.{Walk, Answers, IsWalkFault, StartsFrom, FailsAtStart, EndsBy, Have, line_of, never_faulty, AsksForMore}
 use Rattle.gix_words.specs.Words.{Request, Commits, Files, Ahead, Contained, Containing, Bases, request_of}
 
--- Over objects, rows for the walks of commits and a writer that has the bytes `old`: which answers a request may get, and which bytes the writer then has.
-pub data Serves (objects : Objects) (rows : List GraphRow) (old : Option (List ℕ)) : Request → Result (Unit {0}) Fault → Option (List ℕ) → Type 0 where
+-- Over objects, rows for the walks of commits and a writer that has the bytes `old`: which answers a request may get, and which bytes the
+-- writer then has. If lines have a format, each commit that is listed has to be stored.
+pub data Serves (IsStored : ObjectId → Type 0) (objects : Objects) (rows : List GraphRow) (old : Option (List ℕ)) : Request → Result (Unit {0}) Fault → Option (List ℕ) → Type 0 where
   -- lines of the commits before a fault are written
   walked : {parents : Parents} {by : Sorting} {shown : Shown} {tips hidden : List ObjectId} (walk : Walk) (infos : List Info)
       {answer : Result (Unit {0}) Fault} {new : Option (List ℕ)}
-      → StartsFrom objects rows parents by tips hidden walk → EndsBy Answers IsWalkFault (kept_in objects shown) shown.limit walk infos answer
-      → GoesOnWhole objects rows by shown.limit (length (kept_in objects shown infos)) infos
+      → StartsFrom objects rows parents by tips hidden walk → EndsBy Answers IsWalkFault (HasText IsStored shown) (kept_in objects shown) shown.limit walk infos answer
+      → Have (HasText IsStored shown) infos → GoesOnWhole objects rows by shown.limit (length (kept_in objects shown infos)) infos
       → Writes (line_in objects shown) shown.form answer (kept_in objects shown infos) old new
-      → Serves objects rows old (Commits (Simple parents by) shown tips hidden) answer new
+      → Serves IsStored objects rows old (Commits (Simple parents by) shown tips hidden) answer new
   -- by time it ends behind a commit one of whose parents isn't there
   lost : {parents : Parents} {by : Sorting} {shown : Shown} {tips hidden : List ObjectId} (walk at : Walk) (infos : List Info) {why : Fault}
       {new : Option (List ℕ)} → by ≢ sorting.BreadthFirst
       → StartsFrom objects rows parents by tips hidden walk → Yields Answers walk (given infos) at
       → AsksForMore shown.limit (length (kept_in objects shown infos)) → LacksParent objects rows infos why
-      → Writes (line_in objects shown) shown.form (Err why) (kept_in objects shown infos) old new
-      → Serves objects rows old (Commits (Simple parents by) shown tips hidden) (Err why) new
+      → Have (HasText IsStored shown) infos → Writes (line_in objects shown) shown.form (Err why) (kept_in objects shown infos) old new
+      → Serves IsStored objects rows old (Commits (Simple parents by) shown tips hidden) (Err why) new
   not_walked : {parents : Parents} {by : Sorting} {shown : Shown} {tips hidden : List ObjectId} (e : Error) → FailsAtStart objects by tips e
-      → Serves objects rows old (Commits (Simple parents by) shown tips hidden) (Err (fault_of_walk e)) old
+      → Serves IsStored objects rows old (Commits (Simple parents by) shown tips hidden) (Err (fault_of_walk e)) old
   walked_down : {parents : Parents} {by : TopoSorting} {shown : Shown} {tips ends : List ObjectId} (walk : topo.Walk) (infos : List Info)
       {answer : Result (Unit {0}) Fault} {new : Option (List ℕ)}
-      → topo.IsBuiltFrom objects rows parents by tips ends (Ok walk) → EndsBy topo.Answers topo.IsWalkFault (kept_in objects shown) shown.limit walk infos answer
-      → Writes (line_in objects shown) shown.form answer (kept_in objects shown infos) old new
-      → Serves objects rows old (Commits (Topo parents by) shown tips ends) answer new
+      → topo.IsBuiltFrom objects rows parents by tips ends (Ok walk) → EndsBy topo.Answers topo.IsWalkFault (HasText IsStored shown) (kept_in objects shown) shown.limit walk infos answer
+      → Have (HasText IsStored shown) infos → Writes (line_in objects shown) shown.form answer (kept_in objects shown infos) old new
+      → Serves IsStored objects rows old (Commits (Topo parents by) shown tips ends) answer new
   not_built : {parents : Parents} {by : TopoSorting} {shown : Shown} {tips ends : List ObjectId} (e : TopoError) → topo.IsBuiltFrom objects rows parents by tips ends (Err e)
-      → Serves objects rows old (Commits (Topo parents by) shown tips ends) (Err (fault_of_topo_walk e)) old
+      → Serves IsStored objects rows old (Commits (Topo parents by) shown tips ends) (Err (fault_of_topo_walk e)) old
   listed : {shown : EntryLines} {tree : ObjectId} (recorder : Tracked) (walk : RecordsTree objects tree recorder (Ok tt)) {new : Option (List ℕ)}
-      → HaveNames walk.visits → Appends old new (file_lines shown recorder.held.records) → Serves objects rows old (Files shown tree) (Ok tt) new
+      → HaveNames walk.visits → Appends old new (file_lines shown recorder.held.records) → Serves IsStored objects rows old (Files shown tree) (Ok tt) new
   -- of a tree whose walk failed no line is written
   not_listed : {shown : EntryLines} {tree : ObjectId} (recorder : Tracked) (e : TreeError) → RecordsTree objects tree recorder (Err e)
-      → Serves objects rows old (Files shown tree) (Err (fault_of_tree_walk e)) old
+      → Serves IsStored objects rows old (Files shown tree) (Err (fault_of_tree_walk e)) old
   -- and of a tree whose walk ended well, where a name is none. The first tree that has such a name is reported
   misnamed : {shown : EntryLines} {tree i : ObjectId} (recorder : Tracked) (walk : RecordsTree objects tree recorder (Ok tt)) → IsMisnamed walk.visits i
-      → Serves objects rows old (Files shown tree) (Err (fault.Name i)) old
+      → Serves IsStored objects rows old (Files shown tree) (Err (fault.Name i)) old
   counted : {one other : ObjectId} (ahead behind : ℕ) {new : Option (List ℕ)}
       → Counts objects rows one other ahead → Counts objects rows other one behind → Appends old new (ahead_line ahead behind)
-      → Serves objects rows old (Ahead one other) (Ok tt) new
+      → Serves IsStored objects rows old (Ahead one other) (Ok tt) new
   -- of two commits one of whose walks failed nothing is written: the second walk is drawn once the first has ended well
-  not_ahead : {one other : ObjectId} {e : Fault} → FailsToCount objects rows one other e → Serves objects rows old (Ahead one other) (Err e) old
+  not_ahead : {one other : ObjectId} {e : Fault} → FailsToCount objects rows one other e → Serves IsStored objects rows old (Ahead one other) (Err e) old
   not_behind : {one other : ObjectId} {e : Fault} (ahead : ℕ) → Counts objects rows one other ahead → FailsToCount objects rows other one e
-      → Serves objects rows old (Ahead one other) (Err e) old
+      → Serves IsStored objects rows old (Ahead one other) (Err e) old
   selected : {tip : ObjectId} {ids : List ObjectId} (those : List ObjectId) {new : Option (List ℕ)}
-      → Selects objects rows (tip ∷ []) ids those → Appends old new (flat_map line_of those) → Serves objects rows old (Contained tip ids) (Ok tt) new
+      → Selects objects rows (tip ∷ []) ids those → Appends old new (flat_map line_of those) → Serves IsStored objects rows old (Contained tip ids) (Ok tt) new
   not_selected : {tip : ObjectId} {ids : List ObjectId} (e : ContainedError) → FailsBy objects (never_faulty objects) rows (tip ∷ []) ids e
-      → Serves objects rows old (Contained tip ids) (Err (fault_of_contained e)) old
+      → Serves IsStored objects rows old (Contained tip ids) (Err (fault_of_contained e)) old
   reaching : {target : ObjectId} {tips : List ObjectId} (those : List ObjectId) {new : Option (List ℕ)}
       → FindsContaining objects rows target tips those → Appends old new (flat_map line_of those)
-      → Serves objects rows old (Containing target tips) (Ok tt) new
+      → Serves IsStored objects rows old (Containing target tips) (Ok tt) new
   not_reaching : {target : ObjectId} {tips : List ObjectId} (e : BasesError) → base.FailsBy objects (never_faulty objects) rows target tips e
-      → Serves objects rows old (Containing target tips) (Err (fault_of_bases e)) old
+      → Serves IsStored objects rows old (Containing target tips) (Err (fault_of_bases e)) old
   joined : {one : ObjectId} {others : List ObjectId} (bases : List ObjectId) {new : Option (List ℕ)}
-      → FindsBases objects rows one others bases → Appends old new (flat_map line_of bases) → Serves objects rows old (Bases one others) (Ok tt) new
+      → FindsBases objects rows one others bases → Appends old new (flat_map line_of bases) → Serves IsStored objects rows old (Bases one others) (Ok tt) new
   not_joined : {one : ObjectId} {others : List ObjectId} (e : BasesError) → base.FailsBy objects (never_faulty objects) rows one others e
-      → Serves objects rows old (Bases one others) (Err (fault_of_bases e)) old
+      → Serves IsStored objects rows old (Bases one others) (Err (fault_of_bases e)) old
   -- memory ran out before anything was written
-  unserved : {request : Request} → Serves objects rows old request (Err fault.Memory) old
+  unserved : {request : Request} → Serves IsStored objects rows old request (Err fault.Memory) old
   -- the writer failed: a beginning of what another answer writes is written
   cut_off : {request : Request} {answer : Result (Unit {0}) Fault} {full new : Option (List ℕ)} (some more : List ℕ)
-      → Serves objects rows old request answer full → Appends old new some → Appends new full more
-      → Serves objects rows old request (Err fault.Write) new
+      → Serves IsStored objects rows old request answer full → Appends old new some → Appends new full more
+      → Serves IsStored objects rows old request (Err fault.Write) new
 
--- whether texts are asked for, by a format
-abbrev pub shows_texts : Request → Bool
-shows_texts (Commits order shown tips hidden) = says_more (format_bytes shown.line.format)
-shows_texts (Files shown tree) = false
-shows_texts (Ahead one other) = false
-shows_texts (Contained tip ids) = false
-shows_texts (Containing target tips) = false
-shows_texts (Bases one others) = false
-
--- the rows that are used: none where texts are asked for, which no row has
-abbrev pub used_if : (has_texts : Bool) → List GraphRow → List GraphRow
-used_if true rows = []
-used_if false rows = rows
-
-abbrev pub used_rows : Request → List GraphRow → List GraphRow
-used_rows request rows = used_if (shows_texts request) rows
-
--- The same where each row is of a commit: the commit is there too if nothing is stored at the row's id, and if the rows are used.
+-- The same over what is stored, where each row is of a commit: the commit is there too if nothing is stored at the row's id.
 abbrev pub ServesOver : Objects → List GraphRow → (old : Option (List ℕ)) → Request → Result (Unit {0}) Fault → Option (List ℕ) → Type 0
-ServesOver objects rows old request = Serves (readable (reads_all_lines request) (with_rows (used_rows request rows) objects)) (used_rows request rows) old request
+ServesOver stored rows old request = Serves (HasObject stored rows) (readable (reads_all_lines request) (with_rows rows stored)) rows old request
 
 -- Over these words, a reader that has the bytes `has` and a writer that has the bytes `old`: which answers a run may give, and which bytes
 -- the writer then has.
@@ -139,7 +121,7 @@ pub data Runs (words : List (List ℕ)) (has old : Option (List ℕ)) : Result (
       → Runs words has old (Err (fault.Record n)) old
   served : (request : Request) (input : List ℕ) (records : List Record) {answer : Result (Unit {0}) Fault} {new : Option (List ℕ)}
       → request_of words ≡ Ok request → Tells has input → AreRecords records input
-      → Serves (readable (reads_all_lines request) (stored records)) [] old request answer new → Runs words has old answer new
+      → Serves (HasObject (stored records) []) (readable (reads_all_lines request) (stored records)) [] old request answer new → Runs words has old answer new
 
 -- The same over the files of a commit-graph, lowest layer first: walks have its rows, and where nothing is stored at the id of a row there is
 -- the commit that the row says. Words are tested first, then the layers are opened, then the input is read, and then what is stored is

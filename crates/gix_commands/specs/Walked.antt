@@ -1,5 +1,5 @@
 -- A walk over records, and the lines that it writes.
-use Rattle.std.specs.Prelude.{◌≡◌, ◌≢◌, ℕ, List, [], ◌∷◌, ◌++◌, length, ◌<◌, Option, Some, None, Result, Ok, Err}
+use Rattle.std.specs.Prelude.{◌≡◌, ◌≢◌, ℕ, List, [], ◌∷◌, ◌++◌, length, ◌<◌, Contains, Option, Some, None, Result, Ok, Err}
 use Rattle.std.specs.List.{flat_map}
 use Rattle.std.specs.Iterator.{Yields, YieldsThen}
 use Rattle.gix_hash.specs.declared.ObjectId.{ObjectId}
@@ -68,28 +68,38 @@ IsWalkFault e f = f ≡ fault_of_walk e
 abbrev pub IsStartFault : Objects → Sorting → List ObjectId → Fault → Type 0
 IsStartFault objects by tips e = e ≢ fault.Memory → (why : Error) × FailsAtStart objects by tips why × (e ≡ fault_of_walk why)
 
+-- each of these commits has it
+abbrev pub Have : (Has : ObjectId → Type 0) → List Info → Type 0
+Have Has infos = (info : Info) → Contains infos info → Has info.id
+
+-- any commit has it
+abbrev pub Any : ObjectId → Type 0
+Any i = Unit {0}
+
 -- How a walk ended that gave these commits, by its steps and the meaning of its faults: it has no more commits, its next answer is a
--- fault, or its next answer is a commit for which there was no memory.
-pub data Ends {W E : Type 0} (Steps : W → Option (Result Info E) → W → Type 0) (Tells : E → Fault → Type 0) (walk : W) (infos : List Info)
+-- fault, or its next answer is a commit for which there was no memory, or that lacks what each has to have.
+pub data Ends {W E : Type 0} (Steps : W → Option (Result Info E) → W → Type 0) (Tells : E → Fault → Type 0) (Has : ObjectId → Type 0) (walk : W) (infos : List Info)
     : Result (Unit {0}) Fault → Type 0 where
-  finished : (new : W) → YieldsThen Steps walk (given infos) None new → Ends Steps Tells walk infos (Ok tt)
-  failed : (e : E) (f : Fault) (new : W) → YieldsThen Steps walk (given infos) (Some (Err e)) new → Tells e f → Ends Steps Tells walk infos (Err f)
-  cut_short : (info : Info) (new : W) → YieldsThen Steps walk (given infos) (Some (Ok info)) new → Ends Steps Tells walk infos (Err fault.Memory)
+  finished : (new : W) → YieldsThen Steps walk (given infos) None new → Ends Steps Tells Has walk infos (Ok tt)
+  failed : (e : E) (f : Fault) (new : W) → YieldsThen Steps walk (given infos) (Some (Err e)) new → Tells e f → Ends Steps Tells Has walk infos (Err f)
+  cut_short : (info : Info) (new : W) → YieldsThen Steps walk (given infos) (Some (Ok info)) new → Ends Steps Tells Has walk infos (Err fault.Memory)
+  unstored : (info : Info) (new : W) → YieldsThen Steps walk (given infos) (Some (Ok info)) new → (Has info.id → ⊥)
+      → Ends Steps Tells Has walk infos (Err (fault.Missing info.id))
 
 -- How a walk ended of which so many commits at most were to be written: it gave as many, and nothing was drawn behind them, or it ended
 -- before.
-pub data EndsWithin {W E : Type 0} (Steps : W → Option (Result Info E) → W → Type 0) (Tells : E → Fault → Type 0) (those : List Info → List ObjectId)
-    (limit : ℕ) (walk : W) (infos : List Info) : Result (Unit {0}) Fault → Type 0 where
-  enough : (at : W) → Yields Steps walk (given infos) at → length (those infos) ≡ limit → EndsWithin Steps Tells those limit walk infos (Ok tt)
-  before : {answer : Result (Unit {0}) Fault} → Ends Steps Tells walk infos answer → length (those infos) < limit
-      → EndsWithin Steps Tells those limit walk infos answer
+pub data EndsWithin {W E : Type 0} (Steps : W → Option (Result Info E) → W → Type 0) (Tells : E → Fault → Type 0) (Has : ObjectId → Type 0)
+    (those : List Info → List ObjectId) (limit : ℕ) (walk : W) (infos : List Info) : Result (Unit {0}) Fault → Type 0 where
+  enough : (at : W) → Yields Steps walk (given infos) at → length (those infos) ≡ limit → EndsWithin Steps Tells Has those limit walk infos (Ok tt)
+  before : {answer : Result (Unit {0}) Fault} → Ends Steps Tells Has walk infos answer → length (those infos) < limit
+      → EndsWithin Steps Tells Has those limit walk infos answer
 
 -- how a walk ended, with a limit of those that are written or without
 abbrev pub EndsBy :
-    {W E : Type 0} → (W → Option (Result Info E) → W → Type 0) → (E → Fault → Type 0) → (List Info → List ObjectId) → Option ℕ → W → List Info
-    → Result (Unit {0}) Fault → Type 0
-EndsBy Steps Tells those None walk infos answer = Ends Steps Tells walk infos answer
-EndsBy Steps Tells those (Some limit) walk infos answer = EndsWithin Steps Tells those limit walk infos answer
+    {W E : Type 0} → (W → Option (Result Info E) → W → Type 0) → (E → Fault → Type 0) → (ObjectId → Type 0) → (List Info → List ObjectId) → Option ℕ → W
+    → List Info → Result (Unit {0}) Fault → Type 0
+EndsBy Steps Tells Has those None walk infos answer = Ends Steps Tells Has walk infos answer
+EndsBy Steps Tells Has those (Some limit) walk infos answer = EndsWithin Steps Tells Has those limit walk infos answer
 
 -- a limit asks for more than so many commits
 abbrev pub AsksForMore : Option ℕ → ℕ → Type 0

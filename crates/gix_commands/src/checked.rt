@@ -1,11 +1,11 @@
 //! A walk by time that goes on only where parents are there.
-ghost use Rattle.std.specs.Prelude.{◌≡◌, ◌≢◌, None, Some, MatchBool};
-ghost use Rattle.gix_commitgraph.specs.Rows.{row_of};
+ghost use Rattle.std.specs.Prelude.{◌≡◌, ◌≢◌, None, Some};
 ghost use Rattle.gix_revwalk.specs.Agreeing.{rows_in};
 ghost use Rattle.gix_graph_store.specs.WithRows.{with_rows};
 ghost use Rattle.gix_commands.specs.Checked.{HasRows, Looks, lost_at};
 ghost use Rattle.gix_commands.specs.Readable.{is_first, readable};
 
+use crate::chosen::has_row;
 use crate::commits::Lent;
 use gix_commitgraph::Graph;
 use gix_hash::ObjectId;
@@ -78,22 +78,12 @@ impl<'a> Checked<'a> {
         }
     }
 
-    /// Whether this commit has a row.
-    fn has_row(&self, id: &ObjectId) -> bool
-        ensures { MatchBool result (row_of self.now.rows id.now ≢ None) (row_of self.now.rows id.now ≡ None) }
-    {
-        match self.graph {
-            Some(graph) => graph.commit_by_id(id).is_some(),
-            None => false,
-        }
-    }
-
     /// Why this commit isn't there, if it isn't.
     fn look_at(&mut self, id: &ObjectId) -> Option<Fault>
         ensures looks { result ≢ Some Fault.Memory → result ≡ lost_at self.old.objects self.old.rows id.now }
         ensures kept { self.new ≡ self.old }
     {
-        if self.has_row(id) {
+        if has_row(self.graph, id) {
             return None;
         }
         let items = match self.objects.find_commit_iter(id, &mut self.text) {

@@ -1,6 +1,6 @@
 //! Which of the commits that a walk gives are written.
-ghost use Rattle.std.specs.Prelude.{◌≡◌, ◌≢◌, ◌++◌, ◌∷◌, [], ℕ, ℤ, true, Some, IfOk, IfErr, MatchBool, OnOk, pos};
-ghost use Rattle.gix_commands.specs.Chosen.{Passes, IsHeaderOf, commit_with, fresh_choosing, is_kept, keeps, line_in, page_line, seconds_or_zero};
+ghost use Rattle.std.specs.Prelude.{◌≡◌, ◌≢◌, ◌⊎◌, ◌++◌, ◌∷◌, [], ℕ, ℤ, true, None, Some, IfOk, IfErr, MatchBool, OnOk, pos};
+ghost use Rattle.gix_commands.specs.Chosen.{HasTextIn, Passes, IsHeaderOf, commit_with, fresh_choosing, is_kept, keeps, line_in, page_line, seconds_or_zero};
 ghost use Rattle.gix_commands.specs.Pages.{page_objects};
 ghost use Rattle.gix_statement.specs.WholeStatement as page;
 ghost use Rattle.gix_statement.specs.WholeStatement.{commit_line, text_in};
@@ -13,6 +13,7 @@ ghost use Rattle.gix_hash.specs.Id.{hex_of};
 ghost use Rattle.gix_object.specs.declared.find.existing_iter.Error.TheVariants as existing;
 ghost use Rattle.gix_commands.specs.Readable.{is_first, readable};
 ghost use Rattle.gix_graph_store.specs.WithRows.{with_rows};
+ghost use Rattle.gix_commitgraph.specs.Rows.{row_of};
 ghost use Rattle.gix_revwalk.specs.Agreeing.{rows_in};
 
 use crate::commits::Lent;
@@ -34,6 +35,8 @@ use std::marker::Model;
 pub struct Chooser<'a> {
     alloc: Global,
     objects: Lent<'a>,
+    store: &'a LentStore<'a>,
+    graph: Option<&'a Graph>,
     shown: Shown,
     /// How many more commits are left out first.
     skip: u64,
@@ -48,13 +51,21 @@ impl<'a> Model for Chooser<'a> {
     ghost use Rattle.std.specs.Coded.{codes};
     ghost use Rattle.gix_hash.specs.Id.{id_cmp, id_code};
     ghost use Rattle.gix_object.specs.Object.{object_code};
+    ghost use Rattle.gix_revwalk.specs.Agreeing.{rows_in};
     ghost use Rattle.gix_commands.specs.Chosen.{Choosing};
 
     ghost Value = { Choosing };
 
     ghost coded = { Prim.hlevel (codes, map.code {R = id_cmp} id_code object_code) };
 
-    ghost view = { λ c. record { objects = c.objects; shown = c.shown; skip = c.skip; left = c.left } };
+    ghost view = { λ c. record {
+      objects = c.objects;
+      stored = c.store.now;
+      rows = rows_in c.graph;
+      shown = c.shown;
+      skip = c.skip;
+      left = c.left;
+    } };
 }
 
 impl<'a> Chooser<'a> {
@@ -66,11 +77,14 @@ impl<'a> Chooser<'a> {
         store: &'a LentStore<'a>,
         graph: Option<&'a Graph>,
     ) -> Chooser<'a>
-        ensures { result ≡ fresh_choosing (readable (is_first parents) (with_rows (rows_in graph.entry) store.now)) shown }
+        ensures { result ≡ fresh_choosing (readable (is_first parents) (with_rows (rows_in graph.entry) store.now)) store.now
+            (rows_in graph.entry) shown }
     {
         Chooser {
             alloc,
             objects: Lent::over(store, graph, parents),
+            store,
+            graph,
             shown,
             skip: shown.skip,
             left: shown.limit,
@@ -95,12 +109,16 @@ impl<'a> Chooser<'a> {
     /// Whether the next commit is chosen.
     ///
     /// # Errors
-    /// `Memory`.
+    /// `Missing` where lines have a format, and there is a row of the commit and no object. `Memory`.
     pub fn takes(&mut self, id: &ObjectId) -> Result<bool, Fault>
         requires { self.old.left ≢ Some 0 }
         ensures ok { IfOk result (λ t. Passes self.old id.now t self.new) }
-        ensures err { IfErr result (λ e. e ≡ Fault.Memory) }
+        ensures text { OnOk result (HasTextIn self.old id.now) }
+        ensures err { IfErr result (λ e. (e ≡ Fault.Memory) ⊎ ((e ≡ Fault.Missing id.now) × (HasTextIn self.old id.now → ⊥))) }
     {
+        if !self.has_text(id)? {
+            return Err(Fault::Missing(*id));
+        }
         if !self.keeps(id)? {
             return Ok(false);
         }
@@ -112,6 +130,21 @@ impl<'a> Chooser<'a> {
             self.left = Some(left - 1);
         }
         Ok(true)
+    }
+
+    /// Whether a commit has the text that a format needs. A row has none.
+    fn has_text(&mut self, id: &ObjectId) -> Result<bool, Fault>
+        ensures ok { IfOk result (λ h. MatchBool h (HasTextIn self.old id.now) (HasTextIn self.old id.now → ⊥)) }
+        ensures same { self.new ≡ self.old }
+        ensures err { IfErr result (λ e. e ≡ Fault.Memory) }
+    {
+        if self.shown.line.format.is_empty() || !has_row(self.graph, id) {
+            return Ok(true);
+        }
+        match self.store.find_into(id, &mut self.text) {
+            Ok(found) => Ok(found.is_some()),
+            Err(_) => Err(Fault::Memory),
+        }
     }
 
     /// Whether a commit is kept. If all are, none is read.
@@ -147,6 +180,16 @@ impl<'a> Chooser<'a> {
         }
         let line = line_of(self.alloc, has, id, &header, text.as_slice())?;
         Ok(lines.extend_from_slice(line.as_slice())?)
+    }
+}
+
+/// Whether a commit has a row.
+pub fn has_row(graph: Option<&Graph>, id: &ObjectId) -> bool
+    ensures { MatchBool result (row_of (rows_in graph.entry) id.now ≢ None) (row_of (rows_in graph.entry) id.now ≡ None) }
+{
+    match graph {
+        Some(graph) => graph.commit_by_id(id).is_some(),
+        None => false,
     }
 }
 

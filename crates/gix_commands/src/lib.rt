@@ -8,9 +8,8 @@
 
 ghost use Rattle.std.specs.Prelude.{◌≡◌, ◌≢◌, ℕ, List, [], map, Some, Err, string_bytes};
 ghost use Rattle.gix_records.specs.Records.{Record, AreRecords};
-ghost use Rattle.gix_commands.specs.Run.{Runs, ServesOver, used_if};
-ghost use Rattle.gix_statement.specs.WholeStatement.{AreFed, Objects, Promises, Row, says_more};
-ghost use Rattle.gix_words.specs.Formats.{format_bytes};
+ghost use Rattle.gix_commands.specs.Run.{Runs, ServesOver};
+ghost use Rattle.gix_statement.specs.WholeStatement.{AreFed, Objects, Promises, Row};
 ghost use Rattle.gix_words.specs.Words.{Commits, request_of, request_of_command};
 ghost use Rattle.gix_revwalk.specs.Agreeing.{rows_in};
 
@@ -26,6 +25,7 @@ mod files;
 mod given;
 mod graph;
 pub mod laws;
+mod listed;
 mod output;
 mod over;
 mod stored;
@@ -49,6 +49,7 @@ use gix_simple::Sorting;
 pub use gix_words::Fault;
 use gix_words::{Command, Order, Shown, read_command};
 pub use graph::read_graph;
+pub use listed::listed_ids;
 use output::write_commits;
 pub use over::run_over;
 use std::alloc::Global;
@@ -139,17 +140,6 @@ fn serve<W: Write>(
     }
 }
 
-/// The rows that are used: none if there is a format, since no row has a text.
-fn used_graph(shown: Shown, graph: Option<&Graph>) -> Option<&Graph>
-    ensures { rows_in result ≡ used_if (says_more (format_bytes shown.line.format)) (rows_in graph.entry) }
-{
-    if shown.line.format.is_empty() {
-        graph
-    } else {
-        None
-    }
-}
-
 /// A list of commits that is asked for.
 #[derive(Drop)]
 struct Listing {
@@ -159,7 +149,7 @@ struct Listing {
 }
 
 /// Writes what is chosen of the commits that the tips reach and the hidden tips don't. By time, each of them behind which more is asked for
-/// has to have its parents.
+/// has to have its parents. If lines have a format, each has to be stored, be there a row of it or not.
 fn serve_commits<W: Write>(
     alloc: Global,
     listing: Listing,
@@ -171,7 +161,6 @@ fn serve_commits<W: Write>(
         (Commits listing.order listing.shown listing.ends.tips.items listing.ends.hidden.items) result (W.contents writer.new) }
 {
     let Listing { order, shown, ends } = listing;
-    let graph = used_graph(shown, graph);
     match order {
         Order::Simple { parents, sorting } => {
             let walk = walk_from(alloc, parents, sorting, ends, store, graph)?;

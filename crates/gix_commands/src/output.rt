@@ -4,7 +4,7 @@ ghost use Rattle.std.specs.Fmt.{digits};
 ghost use Rattle.std.specs.Io.KnownBytes.{Appends, Keeps};
 ghost use Rattle.std.specs.Iterator.{IsFinite};
 ghost use Rattle.std.specs.List.{flat_map};
-ghost use Rattle.gix_commands.specs.Chosen.{fresh_choosing, kept_in, line_in};
+ghost use Rattle.gix_commands.specs.Chosen.{HasTextIn, fresh_choosing, kept_in, line_in};
 ghost use Rattle.gix_commands.specs.Output.{Grows, AddsBegun, AddsNone, StopsWithin, BreaksOff, Takes, TakesNone, WritesBegun, WritesWhole, held_in};
 
 use crate::chosen::Chooser;
@@ -48,8 +48,8 @@ where
     W: Write,
     requires can { I.can_next walk }
     requires finite { IsFinite (I.remaining walk) }
-    requires fresh { chooser ≡ fresh_choosing chooser.objects chooser.shown }
-    ensures { WritesBegun I.next_gives E.converts (kept_in chooser.entry.objects chooser.entry.shown) chooser.entry.shown.limit
+    requires fresh { chooser ≡ fresh_choosing chooser.objects chooser.stored chooser.rows chooser.shown }
+    ensures { WritesBegun I.next_gives E.converts (HasTextIn chooser.entry) (kept_in chooser.entry.objects chooser.entry.shown) chooser.entry.shown.limit
         (line_in chooser.entry.objects chooser.entry.shown) chooser.entry.shown.form walk (W.contents writer.old) result
         (W.contents writer.new) }
 {
@@ -154,8 +154,8 @@ where
     W: Write,
     requires can { I.can_next walk.old }
     requires finite { IsFinite (I.remaining walk.old) }
-    requires fresh { chooser.old ≡ fresh_choosing chooser.old.objects chooser.old.shown }
-    ensures adds { AddsBegun I.next_gives E.converts (kept_in chooser.old.objects chooser.old.shown) chooser.old.shown.limit
+    requires fresh { chooser.old ≡ fresh_choosing chooser.old.objects chooser.old.stored chooser.old.rows chooser.old.shown }
+    ensures adds { AddsBegun I.next_gives E.converts (HasTextIn chooser.old) (kept_in chooser.old.objects chooser.old.shown) chooser.old.shown.limit
         (line_in chooser.old.objects chooser.old.shown) sink.old.form walk.old (W.contents writer.old) (held_in sink.old) result
         (W.contents writer.new) (held_in sink.new) }
     ensures lines { OnOk result (line_in chooser.new.objects chooser.new.shown ≡ line_in chooser.old.objects chooser.old.shown) }

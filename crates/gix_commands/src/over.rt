@@ -19,7 +19,8 @@ use std::io::{Read, Write};
 /// Runs the command that the words are, as [`run`](crate::run) does, over the layers of a commit-graph and the records. A layer is the
 /// bytes of a file that Git writes, the lowest comes first, and a file that is no part of a chain is one layer. Only commits that have no
 /// row need to be among the records: of any other the row says its tree, its parents and the seconds of its committer. Walks read a commit
-/// with a row by the row. No row has what `--oneline` and `--format` write, so with these all commits need to be among the records.
+/// with a row by the row. No row has what `--oneline` and `--format` write, so with these each commit that is listed needs to be among the
+/// records.
 ///
 /// The words are tested first, then the rows, then the input is read whole and compared with the rows, then the walk runs.
 ///

@@ -22,7 +22,8 @@ use std::alloc::Global;
 use std::io::Write;
 
 /// Runs the command that the words are, as [`run`](crate::run) does, over a store, and over the rows of a commit-graph where there is one.
-/// Only commits that have no row need to be in the store, but all with `--oneline` or `--format`.
+/// Only commits that have no row need to be in the store, and with `--oneline` or `--format` also those that are listed, since no row has a
+/// text.
 ///
 /// The words are tested first, then the rows, then the store is compared with them, then the walk runs.
 ///

@@ -143,6 +143,44 @@ impl Gathering {
         Ok(false)
     }
 
+    /// Reads these commits or other objects, even if they have a row. Whether one was read that wasn't before. What they name isn't read.
+    ///
+    /// # Errors
+    ///
+    /// The first [`Fault`] that is met. What was read until then stays.
+    pub fn read_these<R>(&mut self, odb: &mut Odb<R>, ids: &[ObjectId]) -> Result<bool, Fault>
+    where
+        R: Files + AllocGlobal + Clone + Drop,
+        R::File: FileExt,
+        ensures { IsWithin self.old self.new }
+    {
+        let mut is_new = false;
+        for id in ids {
+            if self.read_this(odb, *id)? {
+                is_new = true;
+            }
+        }
+        Ok(is_new)
+    }
+
+    /// Reads an object, unless it is known. Whether it was read.
+    fn read_this<R>(&mut self, odb: &mut Odb<R>, id: ObjectId) -> Result<bool, Fault>
+    where
+        R: Files + AllocGlobal + Clone + Drop,
+        R::File: FileExt,
+        ensures { IsWithin self.old self.new }
+    {
+        if self.is_known(&id) {
+            return Ok(false);
+        }
+        let Some(kind) = read_named(odb, &id, &mut self.object)? else {
+            self.absent.insert(id)?;
+            return Ok(false);
+        };
+        self.objects.insert(id, kind, self.object.as_slice())?;
+        Ok(true)
+    }
+
     /// The id that is read next.
     fn next(&mut self) -> Result<Option<ObjectId>, AllocError>
         ensures { self.new ≡ self.old }

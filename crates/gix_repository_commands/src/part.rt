@@ -1,4 +1,5 @@
 //! A part of a repository that is read as far as an answer needs it.
+use gix_commands::listed_ids;
 use gix_commitgraph::Graph;
 use gix_gather::{Fault, Gathering, Order};
 use gix_hash::hashtable::IdSet;
@@ -160,6 +161,50 @@ impl Part {
         }
         watch.end();
         Ok(())
+    }
+
+    /// Reads the commits that a list goes through, where it lacks one that has a row. Whether one was read that wasn't before.
+    ///
+    /// # Errors
+    ///
+    /// The first fault of an object.
+    pub fn read_missing<R>(
+        &mut self,
+        lacks: &ObjectId,
+        words: &[String],
+        odb: &mut Odb<R>,
+        graph: Option<&Graph>,
+    ) -> Result<bool, Fault>
+    where
+        R: Files + AllocGlobal + Clone + Drop,
+        R::File: FileExt,
+    {
+        match graph {
+            Some(rows) if rows.commit_by_id(lacks).is_some() => self.read_listed(words, odb, graph),
+            _ => Ok(false),
+        }
+    }
+
+    /// Reads the commits that a list goes through by their rows. Whether one was read that wasn't before. A list that can't begin reads
+    /// none, and fails again when it is run.
+    ///
+    /// # Errors
+    ///
+    /// The first fault of an object.
+    pub fn read_listed<R>(
+        &mut self,
+        words: &[String],
+        odb: &mut Odb<R>,
+        graph: Option<&Graph>,
+    ) -> Result<bool, Fault>
+    where
+        R: Files + AllocGlobal + Clone + Drop,
+        R::File: FileExt,
+    {
+        match listed_ids(self.alloc, words, self.gathering.objects(), graph) {
+            Ok(ids) => self.gathering.read_these(odb, ids.as_slice()),
+            Err(_) => Ok(false),
+        }
     }
 
     /// Reads three times as many as were read, where a command lacks an object that may still be read. Whether it may.

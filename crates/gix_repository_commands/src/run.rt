@@ -26,8 +26,8 @@ pub struct Answered {
 }
 
 /// Runs the command that the words are over the objects of a part of a repository, which grows until none is missing that it may still
-/// read. Where there is a graph, commits that have a row of it aren't read. With `--oneline` or `--format` each commit has to be read, so
-/// no graph may be given.
+/// read. Where there is a graph, commits that have a row of it aren't read, but those that are listed with `--oneline` or `--format`: no row
+/// has their texts.
 ///
 /// # Errors
 ///
@@ -57,7 +57,7 @@ where
         let mut lines = Vec::new(alloc);
         let ended = run_named(alloc, words, part.gathering.objects(), graph, &mut lines);
         if let Err(Fault::Missing(id)) = &ended {
-            if part.read_for(id, odb, graph, watch)? {
+            if part.read_for(id, odb, graph, watch)? || part.read_missing(id, words, odb, graph)? {
                 continue;
             }
         }

@@ -1,4 +1,5 @@
--- What a proof of the statement has to bring for each command: the answer in one history, and that what was gone through is there.
+-- What a proof of the statement has to bring for each command: the answer in one history of what was read, and that what was gone through
+-- is there. It is then right of given objects and rows that have what was read, in each history of this.
 use Rattle.std.proofs.Common.{Bool, true, All, AllPairs, Contains, List, Option, [], arith, codes, false, flat_map, length, refl, subst, suc, sym, ℕ, ℤ, ◌++◌, ◌∷◌, ◌≡◌, ◌≢◌, ◌⊎◌, ◌↔◌, ap, drop, ◌∙◌}
 use Rattle.std.specs.declared.cmp.Ordering.TheVariants.{Less}
 use Rattle.std.specs.Fmt.{digits}
@@ -12,24 +13,28 @@ use Rattle.gix_statement.proofs.EachHistory.{base_back, base_there, containing_t
 use Rattle.gix_statement.proofs.Descents.{IsDown, begins_down, followed_down, whole_down}
 use Rattle.gix_statement.proofs.SameLines.{chosen_in, same_line, written_same}
 
-module _ (objects : Objects) (rows : List Row) (parents : ObjectId → List ObjectId) (time : ObjectId → ℤ) (one : IsHistory objects rows parents time) (old new : Option (List ℕ)) where
+module _ (objects : Objects) (rows : List Row) (parents : ObjectId → List ObjectId) (time : ObjectId → ℤ) (one : IsHistory objects rows parents time)
+    (given : Objects) (their : List Row) (there_on : (i : ObjectId) → IsThere objects rows i → IsThere given their i) (old new : Option (List ℕ)) where
   abbrev pub Each : List (List ℕ) → Type 0
-  Each words = InEach objects rows (λ ps ts. Serves objects rows ps ts old new words)
+  Each words = InEach objects rows (λ ps ts. Serves given their ps ts old new words)
+
+  all_on : (ids : List ObjectId) → All (IsThere objects rows) ids → All (IsThere given their) ids
+  all_on ids there k d below = there_on _ (there k d below)
 
   abbrev AreThere : List ObjectId → Type 0
   AreThere starts = (i : ObjectId) → Reaches parents starts i → IsThere objects rows i
 
   module _ (by : List ℕ) (option words : List (List ℕ)) (c : Choice) (place : ℕ) (tips hidden ids : List ObjectId)
       (named : Contains (codes "breadth" ∷ codes "newest" ∷ codes "oldest" ∷ codes "topo" ∷ codes "date" ∷ []) by)
-      (chooses : Chooses tips hidden place words c) (some : tips ≢ []) (there : All (IsThere objects rows) ids) (texts : says_more c.line.format ≡ true → All (IsThere objects []) ids)
+      (chooses : Chooses tips hidden place words c) (some : tips ≢ []) (there : All (IsThere objects rows) ids) (texts : says_more c.line.format ≡ true → All (IsThere given []) ids)
       (allows : Allows c.limit (length (chosen parents time c ids))) (ended : Bool) (may : (ended ≡ true) ⊎ (c.form ≡ Lines))
-      (bytes : List ℕ) (is_written : bytes ≡ written (commit_line objects parents time c.line) c.form (chosen parents time c ids)) (appends : Appends old new bytes) where
+      (bytes : List ℕ) (is_written : bytes ≡ written (commit_line given parents time c.line) c.form (chosen parents time c ids)) where
     abbrev those : List (List ℕ)
     those = by ∷ (option ++ words)
 
     -- a list that has ended, or not yet
     abbrev pub EachLists : Type 0
-    EachLists = InEach objects rows (λ ps ts. Lists objects rows ps ts bytes ended those)
+    EachLists = InEach objects rows (λ ps ts. Lists given their ps ts bytes ended those)
 
     abbrev pub HasEnded : Type 0
     HasEnded = (ended ≡ true) × Allows c.limit (suc (length (chosen parents time c ids)))
@@ -46,18 +51,18 @@ module _ (objects : Objects) (rows : List Row) (parents : ObjectId → List Obje
               let t = same_time objects rows parents other time times one another i here in
               (λ k. c.keeps (length (p k)) (t k))
 
-      same_written : written (commit_line objects parents time c.line) c.form (chosen parents time c ids) ≡ written (commit_line objects other times c.line) c.form (chosen other times c ids)
-      same_written = written_same (commit_line objects parents time c.line) (commit_line objects other times c.line) c.form (chosen parents time c ids) line ∙ ap (written (commit_line objects other times c.line) c.form) same_chosen
+      same_written : written (commit_line given parents time c.line) c.form (chosen parents time c ids) ≡ written (commit_line given other times c.line) c.form (chosen other times c ids)
+      same_written = written_same (commit_line given parents time c.line) (commit_line given other times c.line) c.form (chosen parents time c ids) line ∙ ap (written (commit_line given other times c.line) c.form) same_chosen
         where
-          line : (i : ObjectId) → Contains (chosen parents time c ids) i → commit_line objects parents time c.line i ≡ commit_line objects other times c.line i
+          line : (i : ObjectId) → Contains (chosen parents time c ids) i → commit_line given parents time c.line i ≡ commit_line given other times c.line i
           line i m =
               let here : IsThere objects rows i = All-contains (IsThere objects rows) ids i there (chosen_in parents time c ids i m) in
-              same_line objects objects parents other time times c.line i (same_parents objects rows parents other time times one another i here) (same_time objects rows parents other time times one another i here) (λ e. refl)
+              same_line given given parents other time times c.line i (same_parents objects rows parents other time times one another i here) (same_time objects rows parents other time times one another i here) (λ e. refl)
 
       -- a list in this history, by its own
       listed : {followed : ObjectId → List ObjectId} {starts : List ObjectId} → Follows other times tips by option followed starts → Begins other followed times starts hidden by ids
-          → (HasEnded → IsWhole other followed times starts hidden by ids) → Lists objects rows other times bytes ended those
-      listed follows begins whole = lists option words c ids named chooses some follows there texts begins
+          → (HasEnded → IsWhole other followed times starts hidden by ids) → Lists given their other times bytes ended those
+      listed follows begins whole = lists option words c ids named chooses some follows (all_on ids there) texts begins
           (subst (λ xs. Allows c.limit (length xs)) same_chosen allows)
           (λ e more. whole (e, subst (λ xs. Allows c.limit (suc (length xs))) (sym same_chosen) more))
           may (is_written ∙ same_written)
@@ -115,23 +120,23 @@ module _ (objects : Objects) (rows : List Row) (parents : ObjectId → List Obje
       → AreThere (left ∷ []) → AreThere (right ∷ []) → IsNumberShown parents parents time (left ∷ []) (right ∷ []) n → IsNumberShown parents parents time (right ∷ []) (left ∷ []) m
       → Appends old new (digits 10 false n ++ 32 ∷ (digits 10 false m ++ 10 ∷ [])) → Each (codes "ahead" ∷ a ∷ b ∷ [])
   ahead_each {left = left} {right = right} n m a b there others ns ms written other times another =
-      ahead n m a b (there left (start (0, omega arith, refl))) (others right (start (0, omega arith, refl)))
+      ahead n m a b (there_on left (there left (start (0, omega arith, refl)))) (there_on right (others right (start (0, omega arith, refl))))
       (counted_there objects rows parents other time times one another (left ∷ []) (right ∷ []) there others n ns)
       (counted_there objects rows parents other time times one another (right ∷ []) (left ∷ []) others there m ms) written
 
   pub containing_each : {words : List (List ℕ)} {target : ObjectId} {tips those : List ObjectId} → AreTips words (target ∷ tips) [] → tips ≢ [] → AreThere tips → All (IsThere objects rows) (target ∷ tips)
       → Keeps (λ before i after. Reaches parents (i ∷ []) target) [] tips those → Appends old new (flat_map id_line those) → Each (codes "containing" ∷ words)
   containing_each {target = target} {tips = tips} {those = those} are some there all_there keeps written other times another =
-      containing are some all_there (containing_there objects rows parents other time times one another target tips there those keeps) written
+      containing are some (all_on (target ∷ tips) all_there) (containing_there objects rows parents other time times one another target tips there those keeps) written
 
   pub bases_each : {words : List (List ℕ)} {left : ObjectId} {others : List ObjectId} (those : List ObjectId) → AreTips words (left ∷ others) [] → others ≢ [] → AreThere (left ∷ []) → AreThere others → All (IsThere objects rows) (left ∷ others)
       → ((i : ObjectId) → Contains those i ↔ IsBase parents left others i) → AllPairs (λ i j. by_bytes i j ≡ Less) those → Appends old new (flat_map id_line those) → Each (codes "merge-base" ∷ words)
   bases_each {left = left} {others = others} those are some above beyond all_there exact rising written other times another =
-      bases those are some all_there
+      bases those are some (all_on (left ∷ others) all_there)
       (λ i. (λ c. base_there objects rows parents other time times one another left others above beyond i ((exact i).0 c), λ b. (exact i).1 (base_back objects rows parents other time times one another left others above beyond i b)))
       rising written
 
   pub files_each : (limit : Option ℕ) (bound option : List (List ℕ)) (a : List ℕ) {ending : ℕ} {tree : ObjectId} {entries : List Entry} {placed : List (List ℕ × Entry)} → IsLimit bound limit
-      → ((option ≡ []) × (ending ≡ 10)) ⊎ ((option ≡ codes "-z" ∷ []) × (ending ≡ 0)) → Spells (digits_in tree) a tree → IsTree objects tree entries → Unfolds objects [] entries placed
+      → ((option ≡ []) × (ending ≡ 10)) ⊎ ((option ≡ codes "-z" ∷ []) × (ending ≡ 0)) → Spells (digits_in tree) a tree → IsTree given tree entries → Unfolds given [] entries placed
       → Appends old new (flat_map (entry_line ending) (allowed limit placed)) → Each (codes "files" ∷ (bound ++ (option ++ a ∷ [])))
   files_each limit bound option a within ends spells is unfolds written other times another = files limit bound option a within ends spells is unfolds written

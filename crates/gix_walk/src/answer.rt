@@ -293,7 +293,12 @@ impl Asking<'_> {
         if let Some(status) = self.few_lines(repository, output)? {
             return Ok(status);
         }
-        let known = rows(self.rt, repository, &self.question.options)?;
+        let known = rows(
+            self.rt,
+            repository,
+            &self.question.options,
+            self.reads_all(),
+        )?;
         let answered = match &known.graph {
             Some(graph) => self.over_rows(repository, graph, output),
             None => self.over(repository, None, output),
@@ -352,7 +357,7 @@ impl Asking<'_> {
         let mut part = Part::of(alloc, gathering, least);
         if least.is_none() {
             part.read_all(&mut repository.odb, graph, &mut self.progress)?;
-            return self.finish(part.gathering.objects(), graph, output);
+            return self.finish(repository, &mut part, graph, output);
         }
         let lines = self.from_part(repository, &mut part, graph, output)?;
         Ok(self.status(lines.as_slice()))
@@ -404,6 +409,17 @@ impl Asking<'_> {
         let limit = number(self.question.options.limit.as_ref())?;
         let skip = number(self.question.options.skip.as_ref()).unwrap_or(0);
         Some(limit.saturating_add(skip))
+    }
+
+    /// Whether each commit is read in any case, as for the texts of all that the tips reach.
+    fn reads_all(&self) -> bool {
+        let options = &self.question.options;
+        options.give_text()
+            && options.limit.is_none()
+            && options.since.is_none()
+            && !options.by_first_parents
+            && self.chosen.hidden.is_empty()
+            && self.chosen.pairs.is_empty()
     }
 
     /// Whether a list leaves out commits by what they say, so that nobody knows how many are met until enough are left.
@@ -467,30 +483,36 @@ impl Asking<'_> {
     /// Answers a question about commits from the objects that were read, and rows.
     fn finish<W: Write>(
         &mut self,
-        objects: &NamedObjects,
+        repository: &mut Repository<HostRuntime>,
+        part: &mut Part,
         graph: Option<&Graph>,
         output: &mut W,
     ) -> Result<u8, Failure> {
         let alloc = self.rt.alloc();
         let name = self.question.name;
         if name != Name::Ahead {
-            self.chosen.exclude_common(alloc, &objects.store(), graph)?;
+            let store = part.gathering.store();
+            self.chosen.exclude_common(alloc, &store, graph)?;
         }
         if name == Name::Resolve {
             return Ok(self.write_ids(output)?);
         }
-        Ok(self.finish_list(objects, graph, output)?)
+        let words = self.chosen.words(alloc, self.keys, self.question)?;
+        if graph.is_some() && self.question.options.give_text() {
+            part.read_listed(words.as_slice(), &mut repository.odb, graph)?;
+        }
+        Ok(self.finish_list(words, part.gathering.objects(), graph, output)?)
     }
 
     /// Runs the command over the objects that were read, and rows.
     fn finish_list<W: Write>(
         &self,
+        words: Vec<String>,
         objects: &NamedObjects,
         graph: Option<&Graph>,
         output: &mut W,
     ) -> Result<u8, Fault> {
         let alloc = self.rt.alloc();
-        let words = self.chosen.words(alloc, self.keys, self.question)?;
         if self.question.name != Name::Containing {
             run_named(alloc, words.as_slice(), objects, graph, output)?;
             return Ok(0);

@@ -57,12 +57,13 @@ fn unchecked() -> Known {
     }
 }
 
-/// The rows that a question may use: those of the border, those of git's commit-graph where it was checked or is trusted, or none. No row
-/// has what `--oneline` and `--format` write.
+/// The rows that a question may use: those of the border, those of git's commit-graph where it was checked or is trusted, or none, as where
+/// each commit is read in any case.
 pub(crate) fn rows(
     rt: &HostRuntime,
     repository: &mut Repository<HostRuntime>,
     options: &Options,
+    reads_all: bool,
 ) -> Result<Known, Failure> {
     if options.takes_border {
         return Ok(Known {
@@ -70,7 +71,7 @@ pub(crate) fn rows(
             is_unchecked: false,
         });
     }
-    if options.rows == Rows::Unused || options.give_text() {
+    if options.rows == Rows::Unused || reads_all {
         return Ok(nothing());
     }
     let paths = repository.graph_layers()?;

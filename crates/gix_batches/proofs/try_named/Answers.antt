@@ -7,6 +7,7 @@ use Rattle.gix_statement.proofs.LinesOnce.{named_spelled}
 use Rattle.gix_words.specs.Words.{Commits}
 use Rattle.gix_commands.specs.Pages.{page_objects}
 use Rattle.gix_commands.specs.Readable.{readable, reads_all_lines}
+use Rattle.gix_commands.specs.Chosen.{HasObject}
 use Rattle.gix_commands.specs.Run.{Serves}
 use Rattle.gix_commands.proofs.NamedOnes.{are_named}
 use Rattle.gix_batches.specs.Batches.{FailsOver, all_lines_to}
@@ -53,6 +54,6 @@ returns-clause-fails c =
     let l = c.in_ok-listing.listing in
     let given : IsOf o (page_objects o) = (are_named o c.store-lent.ensures.named, refl) in
     let spelled = named_spelled (page_objects o) given.0 in
-    let err = subst (λ (x : Objects). IfErr c.batch_of.result (λ e. Serves (readable (reads_all_lines (Commits l.order (all_lines_to l.limit) l.tips.items l.hidden.items)) (with_rows [] x)) [] (Some []) (Commits l.order (all_lines_to l.limit) l.tips.items l.hidden.items) (Err e) (Some []))) c.store-lent.ensures.exact c.batch_of.ensures.err in
+    let err = subst (λ (x : Objects). IfErr c.batch_of.result (λ e. Serves (HasObject x []) (readable (reads_all_lines (Commits l.order (all_lines_to l.limit) l.tips.items l.hidden.items)) (with_rows [] x)) [] (Some []) (Commits l.order (all_lines_to l.limit) l.tips.items l.hidden.items) (Err e) (Some []))) c.store-lent.ensures.exact c.batch_of.ensures.err in
     unstarted_fails words o (IsOf o) given spelled (FailsOver words o) l.limit l.tips.items l.hidden.items l.order c.in_ok-listing.ensures.ok
     (served_over words o (IsOf o) given spelled l.order l.limit l.tips.items l.hidden.items c.in_ok-listing.ensures.ok) c.batch_of.result err c.batch_of.ensures.unwritten
