@@ -3,13 +3,13 @@ use Rattle.std.proofs.Common.{codes, ℕ, ◌≡◌, ◌*◌, ◌&&◌, List, []
 use Rattle.std.specs.Prelude.{flat_map, not}
 use Rattle.std.specs.Fmt.{signed_decimal}
 use Rattle.std.specs.List.{list_all}
-use Rattle.std.specs.Str.{bytes_eq}
+use Rattle.std.specs.Str.{bytes_eq, str_to_ascii_lowercase}
 use Rattle.std.proofs.lemmas.Bool.{cond-false}
 use Rattle.std.proofs.lemmas.Bool.Decides.{nat_tests}
 use Rattle.gix_hash.specs.declared.ObjectId.{ObjectId}
 use Rattle.gix_hash.specs.declared.ObjectId.TheVariants.{Sha1, Sha256}
 use Rattle.gix_hash.specs.Id.{id_len, kind_of}
-use Rattle.gix_statement.specs.Formats.{Commit, address_in, digits_in, person, field_among, fields, hex, name_in, offset, said, subject}
+use Rattle.gix_statement.specs.Formats.{Commit, address_in, digits_in, field_among, fields, header, hex, lines_in, name_in, offset, said, subject}
 use Rattle.gix_format.specs.Pieces.{date_text, field_text}
 
 pub digits_in-is : (i : ObjectId) → 2 * id_len (kind_of i) ≡ digits_in i
@@ -35,7 +35,7 @@ pub short_id : (c : Commit) (before letter : ℕ) → before ≡ 37 → letter �
 unfolding field_text
 short_id c before letter = by_name c 37 104 before letter _ refl
 
-pub tree : (c : Commit) (before letter : ℕ) → before ≡ 37 → letter ≡ 84 → field_text c before letter ≡ take (digits_in c.id) (drop 5 c.text)
+pub tree : (c : Commit) (before letter : ℕ) → before ≡ 37 → letter ≡ 84 → field_text c before letter ≡ str_to_ascii_lowercase (take (digits_in c.id) (drop 5 c.text))
 unfolding field_text
 tree c before letter = by_name c 37 84 before letter _ refl
 
@@ -48,11 +48,11 @@ pub subject_line : (c : Commit) (before letter : ℕ) → before ≡ 37 → lett
 unfolding field_text
 subject_line c before letter = by_name c 37 115 before letter _ refl
 
-pub name : (c : Commit) (before letter : ℕ) → before ≡ 97 → letter ≡ 110 → field_text c before letter ≡ name_in (person (codes "author ") c.text)
+pub name : (c : Commit) (before letter : ℕ) → before ≡ 97 → letter ≡ 110 → field_text c before letter ≡ name_in (header (codes "author ") (lines_in c.text))
 unfolding field_text
 name c before letter = by_name c 97 110 before letter _ refl
 
-pub address : (c : Commit) (before letter : ℕ) → before ≡ 97 → letter ≡ 101 → field_text c before letter ≡ address_in (person (codes "author ") c.text)
+pub address : (c : Commit) (before letter : ℕ) → before ≡ 97 → letter ≡ 101 → field_text c before letter ≡ address_in (header (codes "author ") (lines_in c.text))
 unfolding field_text
 address c before letter = by_name c 97 101 before letter _ refl
 
@@ -60,7 +60,7 @@ pub seconds : (c : Commit) (before letter : ℕ) → before ≡ 99 → letter �
 unfolding field_text
 seconds c before letter = by_name c 99 116 before letter _ refl
 
-pub date : (c : Commit) (before letter : ℕ) → before ≡ 99 → letter ≡ 105 → field_text c before letter ≡ date_text c.time (offset (person (codes "committer ") c.text))
+pub date : (c : Commit) (before letter : ℕ) → before ≡ 99 → letter ≡ 105 → field_text c before letter ≡ date_text c.time (offset (header (codes "committer ") (lines_in c.text)))
 unfolding field_text date_text
 date c before letter = by_name c 99 105 before letter _ refl
 

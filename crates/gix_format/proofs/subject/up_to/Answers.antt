@@ -1,6 +1,6 @@
 use Rattle.std.proofs.Common.{sym, arith}
 use Rattle.gix_format.proofs.FirstByte.{all_before, before_first}
-use Rattle.gix_format.proofs.person.up_to.Goals as goal
+use Rattle.gix_format.proofs.subject.up_to.Goals as goal
 
 pub returns-in-None : goal.returns-in-None
 returns-in-None c = sym (all_before c.args.byte c.args.text.now (λ i l. c.in-None.ensures i (omega arith) l))
