@@ -1,7 +1,8 @@
 -- The first empty line of a text, by the end at its front.
-use Rattle.std.proofs.Common.{ℕ, zero, suc, ◌≡◌, ◌<◌, ◌&&◌, List, [], ◌∷◌, Bool, true, false, length, drop, refl, ap, ◌∙◌, arith, get_or}
+use Rattle.std.proofs.Common.{ℕ, zero, suc, ◌≡◌, ◌<◌, ◌==◌, ◌&&◌, List, [], ◌∷◌, Bool, true, false, length, drop, refl, ap, ◌∙◌, arith, get_or}
+use Rattle.std.specs.List.{before_first}
 use Rattle.std.proofs.lemmas.Bool.{cond-false, cond-true, false≢true}
-use Rattle.gix_statement.specs.Formats.{ends, message, up_to}
+use Rattle.gix_statement.specs.Formats.{ends, message}
 use Rattle.gix_format.proofs.FirstByte.{other}
 
 abbrev IsEnd : ℕ → Type 0
@@ -34,7 +35,7 @@ line_passed at_start (b ∷ text) (suc n) l at none some =
     ∙ line_passed false text n (omega (arith, l)) at (λ i k. none (suc i) (omega (arith, k))) (λ e _. false≢true e)
 
 -- an empty line is the last
-pub line_empty : (text : List ℕ) (n : ℕ) → n < length text → n ≡ 0 → IsEnd (get_or text n 0) → message true text ≡ up_to 0 text
+pub line_empty : (text : List ℕ) (n : ℕ) → n < length text → n ≡ 0 → IsEnd (get_or text n 0) → message true text ≡ before_first (λ b. b == 0) text
 line_empty [] n l first at = absurd (omega (arith, l))
 line_empty (b ∷ text) zero l first at = cond-true _ _ _ at
 line_empty (b ∷ text) (suc n) l first at = absurd (omega (arith, first))

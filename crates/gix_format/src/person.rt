@@ -1,6 +1,6 @@
 //! Who wrote a commit, and who committed it: a name, an address between `<` and `>`, seconds, and how far the clock was ahead of UTC.
-ghost use Rattle.std.specs.Prelude.{◌≡◌, codes};
-ghost use Rattle.std.specs.Io.BufRead.{drop_through};
+ghost use Rattle.std.specs.Prelude.{◌≡◌, ◌==◌, codes};
+ghost use Rattle.std.specs.List.{after_first};
 ghost use Rattle.gix_statement.specs.Formats.{header, name_in, address_in, lines_in, offset};
 
 use crate::subject::{first_line, trimmed, up_to};
@@ -40,7 +40,7 @@ pub(crate) fn committer(text: &[u8]) -> &[u8]
 
 /// What is behind the first such byte, or nothing.
 fn behind(text: &[u8], byte: u8) -> &[u8]
-    ensures { result.now ≡ drop_through byte text.now }
+    ensures { result.now ≡ after_first (λ b. b == byte) text.now }
 {
     match memchr(byte, text) {
         None => &[],

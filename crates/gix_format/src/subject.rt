@@ -1,13 +1,15 @@
 //! The subject of a commit, as `git log` writes it for `%s`.
 ghost use Rattle.std.specs.Prelude.{◌≡◌, ◌≢◌, ◌<◌, ◌⊎◌, ◌==◌, ◌||◌, ℕ, List, [], ◌∷◌, ◌++◌, length, true, OnOk, IsOk};
-ghost use Rattle.gix_statement.specs.Formats.{message, lines_in, trimmed, subject, up_to};
+ghost use Rattle.std.specs.List.{before_first};
+ghost use Rattle.gix_statement.specs.Formats.{message, lines_in, trimmed};
+ghost use Rattle.gix_format.specs.Pieces.{subject_text};
 
 use memchr::{memchr, memchr2};
 use std::alloc::AllocError;
 
 /// What is before the first such byte, or the whole text.
 pub(crate) fn up_to(text: &[u8], byte: u8) -> &[u8]
-    ensures { result.now ≡ up_to byte text.now }
+    ensures { result.now ≡ before_first (λ b. b == byte) text.now }
 {
     match memchr(byte, text) {
         None => text,
@@ -69,9 +71,9 @@ pub(crate) fn trimmed(line: &[u8]) -> &[u8]
 ///
 /// Where memory runs out. What was added then is a beginning of the subject, or nothing.
 pub(crate) fn add_subject(line: &mut Vec<u8>, text: &[u8]) -> Result<(), AllocError>
-    ensures whole { OnOk result (line.new.items ≡ line.old.items ++ subject text.now) }
-    ensures begun { (added more : List ℕ) × (line.new.items ≡ line.old.items ++ added) × (added ++ more ≡ subject text.now) }
-    ensures succeeds { subject text.now ≡ [] → IsOk result }
+    ensures whole { OnOk result (line.new.items ≡ line.old.items ++ subject_text text.now) }
+    ensures begun { (added more : List ℕ) × (line.new.items ≡ line.old.items ++ added) × (added ++ more ≡ subject_text text.now) }
+    ensures succeeds { subject_text text.now ≡ [] → IsOk result }
 {
     let mut left = message(text);
     let mut has_begun = false;
