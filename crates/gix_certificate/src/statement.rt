@@ -12,7 +12,7 @@ pub const PAGES: &[(&str, &str)] = &[
     ),
     (
         "crates/gix_statement/specs/Formats.antt",
-        "8ffcdc6a2a6269278af403c7e06c72b8234783829bfeaff850d2b84a3c1665cd",
+        "88b2877f404e6083ca2e4799611a701623b221663a2d7659f4438c5754c9d86e",
     ),
     (
         "crates/gix_statement/specs/CommitGraph.antt",

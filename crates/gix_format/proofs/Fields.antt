@@ -1,16 +1,16 @@
 -- What each field says.
 use Rattle.std.proofs.Common.{codes, ℕ, ◌≡◌, ◌*◌, ◌&&◌, List, [], ◌∷◌, Bool, true, false, take, drop, refl, ap, ◌∙◌, arith}
-use Rattle.std.specs.Prelude.{flat_map, not}
+use Rattle.std.specs.Prelude.{find, flat_map, not}
 use Rattle.std.specs.Fmt.{signed_decimal}
 use Rattle.std.specs.List.{list_all}
-use Rattle.std.specs.Str.{bytes_eq}
+use Rattle.std.specs.Str.{bytes_eq, str_to_ascii_lowercase}
 use Rattle.std.proofs.lemmas.Bool.{cond-false}
 use Rattle.std.proofs.lemmas.Bool.Decides.{nat_tests}
 use Rattle.gix_hash.specs.declared.ObjectId.{ObjectId}
 use Rattle.gix_hash.specs.declared.ObjectId.TheVariants.{Sha1, Sha256}
 use Rattle.gix_hash.specs.Id.{id_len, kind_of}
-use Rattle.gix_statement.specs.Formats.{Commit, address_in, digits_in, person, field_among, fields, hex, name_in, offset, said, subject}
-use Rattle.gix_format.specs.Pieces.{date_text, field_text}
+use Rattle.gix_statement.specs.Formats.{Commit, address_in, digits_in, fields, header, hex, lines_in, name_in, offset, said}
+use Rattle.gix_format.specs.Pieces.{date_text, field_text, subject_text}
 
 pub digits_in-is : (i : ObjectId) → 2 * id_len (kind_of i) ≡ digits_in i
 digits_in-is (Sha1 bytes) = refl
@@ -35,7 +35,7 @@ pub short_id : (c : Commit) (before letter : ℕ) → before ≡ 37 → letter �
 unfolding field_text
 short_id c before letter = by_name c 37 104 before letter _ refl
 
-pub tree : (c : Commit) (before letter : ℕ) → before ≡ 37 → letter ≡ 84 → field_text c before letter ≡ take (digits_in c.id) (drop 5 c.text)
+pub tree : (c : Commit) (before letter : ℕ) → before ≡ 37 → letter ≡ 84 → field_text c before letter ≡ str_to_ascii_lowercase (take (digits_in c.id) (drop 5 c.text))
 unfolding field_text
 tree c before letter = by_name c 37 84 before letter _ refl
 
@@ -44,15 +44,15 @@ pub parents : (c : Commit) (before letter : ℕ) → before ≡ 37 → letter �
 unfolding field_text
 parents c before letter = by_name c 37 80 before letter _ refl
 
-pub subject_line : (c : Commit) (before letter : ℕ) → before ≡ 37 → letter ≡ 115 → field_text c before letter ≡ subject c.text
-unfolding field_text
+pub subject_line : (c : Commit) (before letter : ℕ) → before ≡ 37 → letter ≡ 115 → field_text c before letter ≡ subject_text c.text
+unfolding field_text subject_text
 subject_line c before letter = by_name c 37 115 before letter _ refl
 
-pub name : (c : Commit) (before letter : ℕ) → before ≡ 97 → letter ≡ 110 → field_text c before letter ≡ name_in (person (codes "author ") c.text)
+pub name : (c : Commit) (before letter : ℕ) → before ≡ 97 → letter ≡ 110 → field_text c before letter ≡ name_in (header (codes "author ") (lines_in c.text))
 unfolding field_text
 name c before letter = by_name c 97 110 before letter _ refl
 
-pub address : (c : Commit) (before letter : ℕ) → before ≡ 97 → letter ≡ 101 → field_text c before letter ≡ address_in (person (codes "author ") c.text)
+pub address : (c : Commit) (before letter : ℕ) → before ≡ 97 → letter ≡ 101 → field_text c before letter ≡ address_in (header (codes "author ") (lines_in c.text))
 unfolding field_text
 address c before letter = by_name c 97 101 before letter _ refl
 
@@ -60,19 +60,20 @@ pub seconds : (c : Commit) (before letter : ℕ) → before ≡ 99 → letter �
 unfolding field_text
 seconds c before letter = by_name c 99 116 before letter _ refl
 
-pub date : (c : Commit) (before letter : ℕ) → before ≡ 99 → letter ≡ 105 → field_text c before letter ≡ date_text c.time (offset (person (codes "committer ") c.text))
+pub date : (c : Commit) (before letter : ℕ) → before ≡ 99 → letter ≡ 105 → field_text c before letter ≡ date_text c.time (offset (header (codes "committer ") (lines_in c.text)))
 unfolding field_text date_text
 date c before letter = by_name c 99 105 before letter _ refl
 
 pub ruleset what_each_says = (percent, newline, id, short_id, tree, parents, subject_line, name, address, seconds, date)
 
-abbrev Fields : Type 0
-Fields = List (List ℕ × (Commit → List ℕ))
+abbrev Field : Type 0
+Field = List ℕ × (Commit → List ℕ)
 
-abbrev all_other : List ℕ → Fields → Bool
-all_other name fs = list_all (λ f. not (bytes_eq f.0 name)) fs
+abbrev all_other : List ℕ → List Field → Bool
+all_other name fs = list_all (λ (f : Field). not (bytes_eq f.0 name)) fs
 
-none_among : (fs : Fields) (name : List ℕ) (c : Commit) → all_other name fs ≡ true → said (field_among fs name) c ≡ []
+none_among : (fs : List Field) (name : List ℕ) (c : Commit) → all_other name fs ≡ true
+    → said (find (λ (f : Field). bytes_eq f.0 name) fs) c ≡ []
 none_among [] name c none = refl
 none_among ((own, value) ∷ fs) name c none =
     let parts = both (bytes_eq own name) (all_other name fs) none in

@@ -12,6 +12,8 @@ pub mod FirstLine
 pub mod LineEnds
 -- What the text that is left adds to a subject.
 pub mod LinesLeft
+-- What the bytes that are left add in lower case.
+pub mod Lower
 -- The month of a day.
 pub mod Months
 -- What the parents that are left add.

@@ -2,11 +2,14 @@
 use Rattle.std.specs.Prelude.{ℕ, ◌+◌, ◌*◌, ◌/◌, ◌%◌, ℤ, List, [], ◌∷◌, ◌++◌, sum, take, drop}
 use Rattle.std.specs.Str.Parse.{digits_value}
 use Rattle.gix_statement.specs.Formats as formats
-use Rattle.gix_statement.specs.Formats.{date, date_and_time, field, month_and_day, months, padded, said}
+use Rattle.gix_statement.specs.Formats.{date, date_and_time, field, month_and_day, months, padded, said, subject}
 
 -- what a field says, by the two bytes of its name
 unfoldable pub field_text : formats.Commit → (before letter : ℕ) → List ℕ
 field_text c before letter = said (field before letter) c
+
+unfoldable pub subject_text : List ℕ → List ℕ
+subject_text text = subject text
 
 -- a number below 100
 unfoldable pub two : ℕ → List ℕ

@@ -1,10 +1,30 @@
 //! Dates, as `2005-04-07 15:13:13 -0700`.
-ghost use Rattle.std.specs.Prelude.{◌≡◌, ◌+◌, ◌*◌, ◌/◌, ◌%◌, ◌<◌, ◌≤◌, ℕ, List, [], ◌∷◌, ◌++◌, OnOk, IsOk, not, ◌==◌, ◌&&◌, ◌||◌, true};
+ghost use Rattle.std.specs.Prelude.{◌≡◌, ◌+◌, ◌*◌, ◌/◌, ◌%◌, ◌<◌, ◌≤◌, ℕ, List, [], ◌∷◌, ◌++◌, OnOk, IsOk, not, ◌==◌, ◌&&◌, ◌||◌, nat_le, true};
+ghost use Rattle.std.specs.List.{list_all};
 ghost use Rattle.std.specs.Fmt.{decimal};
 ghost use Rattle.gix_statement.specs.Formats.{clock, is_offset, months};
 ghost use Rattle.gix_format.specs.Pieces.{after_year, date_text, day_text, month_text, offset_seconds, two, year_days};
 
 use std::alloc::AllocError;
+
+/// Whether there are only digits.
+fn are_digits(text: &[u8]) -> bool
+    ensures { result ≡ list_all (λ b. nat_le 48 b && nat_le b 57) text.now }
+{
+    text.iter().all(|b| b'0' <= *b && *b <= b'9')
+}
+
+/// Whether a text is a sign, two digits of hours and two of minutes.
+fn is_offset(text: &[u8]) -> bool
+    ensures { result ≡ is_offset text.now }
+{
+    match text {
+        [] => false,
+        [sign, rest @ ..] => {
+            (*sign == b'+' || *sign == b'-') && rest.len() == 4 && are_digits(rest)
+        }
+    }
+}
 
 /// What a digit stands for.
 fn value(digit: u8) -> u64
@@ -139,7 +159,7 @@ fn behind_the_year(month: u64, day: u64, second: u64) -> [u8; 16]
     ]
 }
 
-/// Adds the date and the time of a clock that is off UTC by so much, and how much that is.
+/// Adds the date and the time of a clock that is off UTC by so much, and how much that is. Adds nothing if this is no offset.
 ///
 /// # Errors
 ///
@@ -149,11 +169,13 @@ pub(crate) fn add_date_and_time(
     time: i64,
     offset: &[u8],
 ) -> Result<(), AllocError>
-    requires { is_offset offset.now ≡ true }
     ensures whole { OnOk result (line.new.items ≡ line.old.items ++ date_text time offset.now) }
     ensures begun { (added more : List ℕ) × (line.new.items ≡ line.old.items ++ added) × (added ++ more ≡ date_text time offset.now) }
     ensures succeeds { date_text time offset.now ≡ [] → IsOk result }
 {
+    if !is_offset(offset) {
+        return Ok(());
+    }
     let now = clock(time, offset);
     let (year, day) = year_and_day(now / 86_400);
     let (month, day) = month_and_day(year, day);

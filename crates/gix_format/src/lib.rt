@@ -2,6 +2,7 @@
 #![tactic(auto)]
 
 ghost use Rattle.std.specs.Prelude.{◌≡◌, ◌≤◌, ◌==◌, ◌&&◌, ◌||◌, ℕ, List, [], ◌∷◌, ◌++◌, length, take, drop, flat_map, OnOk, IsOk};
+ghost use Rattle.std.specs.Str.{str_to_ascii_lowercase};
 ghost use Rattle.gix_statement.specs.Formats.{formatted, hex, digits_in};
 ghost use Rattle.gix_format.specs.Page.{page_commit};
 ghost use Rattle.gix_format.specs.Pieces.{field_text};
@@ -35,6 +36,18 @@ fn add(line: &mut Vec<u8>, text: &[u8]) -> Result<(), AllocError>
     ensures succeeds { text.now ≡ [] → IsOk result }
 {
     line.extend_from_slice(text)
+}
+
+/// Adds a text in lower case.
+fn add_lower(line: &mut Vec<u8>, text: &[u8]) -> Result<(), AllocError>
+    ensures whole { OnOk result (line.new.items ≡ line.old.items ++ str_to_ascii_lowercase text.now) }
+    ensures begun { (added more : List ℕ) × (line.new.items ≡ line.old.items ++ added) × (added ++ more ≡ str_to_ascii_lowercase text.now) }
+    ensures succeeds { str_to_ascii_lowercase text.now ≡ [] → IsOk result }
+{
+    for byte in text {
+        line.push(byte.to_ascii_lowercase())?;
+    }
+    Ok(())
 }
 
 /// Adds the first `count` hex digits of an id, or nothing where memory runs out.
@@ -107,7 +120,7 @@ fn add_field(
         (b'%', b'n') => add(line, b"\n"),
         (b'%', b'H') => add_id(line, &commit.id),
         (b'%', b'h') => add_digits(line, &commit.id, 10),
-        (b'%', b'T') => add(line, tree(commit)),
+        (b'%', b'T') => add_lower(line, tree(commit)),
         (b'%', b'P') => add_parents(line, commit.parents),
         (b'%', b's') => subject::add_subject(line, commit.text),
         (b'a', b'n') => add(line, person::name_in(person::author(commit.text))),

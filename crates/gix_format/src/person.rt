@@ -1,16 +1,15 @@
 //! Who wrote a commit, and who committed it: a name, an address between `<` and `>`, seconds, and how far the clock was ahead of UTC.
-ghost use Rattle.std.specs.Prelude.{◌≡◌, ◌==◌, ◌&&◌, nat_le, nat_eq, not, codes, take_while, [], true};
-ghost use Rattle.std.specs.List.{list_all};
-ghost use Rattle.gix_statement.specs.Formats.{header, person, name_in, address_in, behind, lines_in, is_offset, offset};
+ghost use Rattle.std.specs.Prelude.{◌≡◌, ◌==◌, codes};
+ghost use Rattle.std.specs.List.{after_first};
+ghost use Rattle.gix_statement.specs.Formats.{header, name_in, address_in, lines_in, offset};
 
-use crate::subject::{first_line, trimmed};
+use crate::subject::{first_line, trimmed, up_to};
 use memchr::memchr;
 
-/// What the last line of a header says that begins with a word, and nothing where there is none. The first empty line ends the header.
+/// What the first line of a header says that begins with a word, and nothing where there is none. The first empty line ends the header.
 fn header<'t>(text: &'t [u8], word: &[u8]) -> &'t [u8]
-    ensures { result.now ≡ header word.now (lines_in text.now) [] }
+    ensures { result.now ≡ header word.now (lines_in text.now) }
 {
-    let mut found: &[u8] = &[];
     let mut left = text;
     while !left.is_empty() {
         let (first, rest) = first_line(left);
@@ -18,40 +17,30 @@ fn header<'t>(text: &'t [u8], word: &[u8]) -> &'t [u8]
             break;
         }
         if first.starts_with(word) {
-            found = &first[word.len()..];
+            return &first[word.len()..];
         }
         left = rest;
     }
-    found
+    &[]
 }
 
 /// What the text of a commit says of its author.
 pub(crate) fn author(text: &[u8]) -> &[u8]
-    ensures { result.now ≡ person (codes "author ") text.now }
+    ensures { result.now ≡ header (codes "author ") (lines_in text.now) }
 {
     header(text, b"author ")
 }
 
 /// What the text of a commit says of its committer.
 pub(crate) fn committer(text: &[u8]) -> &[u8]
-    ensures { result.now ≡ person (codes "committer ") text.now }
+    ensures { result.now ≡ header (codes "committer ") (lines_in text.now) }
 {
     header(text, b"committer ")
 }
 
-/// What is before the first such byte, or the whole text.
-fn up_to(text: &[u8], byte: u8) -> &[u8]
-    ensures { result.now ≡ take_while (λ b. not (b == byte)) text.now }
-{
-    match memchr(byte, text) {
-        None => text,
-        Some(end) => &text[..end],
-    }
-}
-
 /// What is behind the first such byte, or nothing.
 fn behind(text: &[u8], byte: u8) -> &[u8]
-    ensures { result.now ≡ behind byte text.now }
+    ensures { result.now ≡ after_first (λ b. b == byte) text.now }
 {
     match memchr(byte, text) {
         None => &[],
@@ -73,35 +62,16 @@ pub(crate) fn address_in(person: &[u8]) -> &[u8]
     up_to(behind(person, b'<'), b'>')
 }
 
-/// Whether there are only digits.
-fn are_digits(text: &[u8]) -> bool
-    ensures { result ≡ list_all (λ b. nat_le 48 b && nat_le b 57) text.now }
-{
-    text.iter().all(|b| b'0' <= *b && *b <= b'9')
-}
-
-/// Whether a text is a sign and four digits.
-fn is_offset(text: &[u8]) -> bool
-    ensures { result ≡ is_offset text.now }
-{
-    match text {
-        [] => false,
-        [sign, rest @ ..] => {
-            (*sign == b'+' || *sign == b'-') && rest.len() == 4 && are_digits(rest)
-        }
-    }
-}
-
-/// How far the clock was ahead of UTC: a sign, two digits of hours and two of minutes. Where no such text is at the end it is `+0000`, and for
-/// `-0000`.
+/// What should be how far the clock was ahead of UTC: the last five bytes behind the `>`, without white space at the end. For `-0000` it is
+/// `+0000`.
 pub(crate) fn offset(person: &[u8]) -> &[u8]
-    ensures value { result.now ≡ offset person.now }
-    ensures form { is_offset result.now ≡ true }
+    ensures { result.now ≡ offset person.now }
 {
-    let last = &person[person.len().saturating_sub(5)..];
-    if is_offset(last) && last != b"-0000".as_slice() {
-        last
-    } else {
+    let rest = trimmed(behind(person, b'>'));
+    let last = &rest[rest.len().saturating_sub(5)..];
+    if last == b"-0000".as_slice() {
         b"+0000"
+    } else {
+        last
     }
 }

@@ -1,26 +1,37 @@
 //! The subject of a commit, as `git log` writes it for `%s`.
-ghost use Rattle.std.specs.Prelude.{◌≡◌, ◌≢◌, ◌<◌, ◌⊎◌, ◌==◌, ◌||◌, ℕ, List, [], ◌∷◌, ◌++◌, length, OnOk, IsOk};
-ghost use Rattle.gix_statement.specs.Formats.{message, lines_in, trimmed, subject};
+ghost use Rattle.std.specs.Prelude.{◌≡◌, ◌≢◌, ◌<◌, ◌⊎◌, ◌==◌, ◌||◌, ℕ, List, [], ◌∷◌, ◌++◌, length, true, OnOk, IsOk};
+ghost use Rattle.std.specs.List.{before_first};
+ghost use Rattle.gix_statement.specs.Formats.{message, lines_in, trimmed};
+ghost use Rattle.gix_format.specs.Pieces.{subject_text};
 
 use memchr::{memchr, memchr2};
 use std::alloc::AllocError;
 
-/// What is behind the first empty line of a text.
+/// What is before the first such byte, or the whole text.
+pub(crate) fn up_to(text: &[u8], byte: u8) -> &[u8]
+    ensures { result.now ≡ before_first (λ b. b == byte) text.now }
+{
+    match memchr(byte, text) {
+        None => text,
+        Some(end) => &text[..end],
+    }
+}
+
+/// The message of a commit that has this text: from the end of the first empty line on, up to a byte 0. A newline or a byte 0 ends a line.
 fn message(text: &[u8]) -> &[u8]
-    ensures { result.now ≡ message 10 text.now }
+    ensures { result.now ≡ message true text.now }
 {
     let mut left = text;
-    while let Some(end) = memchr(b'\n', left) {
-        let behind = &left[end..][1..];
+    while let Some(end) = memchr2(b'\n', 0, left) {
         if end == 0 {
-            return behind;
+            return up_to(left, 0);
         }
-        left = behind;
+        left = &left[end..][1..];
     }
     &[]
 }
 
-/// The first line of a text, and what is behind its newline: nothing where a byte 0 or the end of the text ends the line.
+/// The first line of a text, and what is behind the newline or the byte 0 that ends it.
 pub(crate) fn first_line(text: &[u8]) -> (&[u8], &[u8])
     ensures lines { (lines_in text.now ≡ result.0.now ∷ lines_in result.1.now)
         ⊎ ((lines_in text.now ≡ result.0.now ∷ []) × (result.1.now ≡ [])) }
@@ -28,7 +39,6 @@ pub(crate) fn first_line(text: &[u8]) -> (&[u8], &[u8])
 {
     match memchr2(b'\n', 0, text) {
         None => (text, &[]),
-        Some(end) if text[end] == 0 => (&text[..end], &[]),
         Some(end) => (&text[..end], &text[end + 1..]),
     }
 }
@@ -54,17 +64,16 @@ pub(crate) fn trimmed(line: &[u8]) -> &[u8]
     left
 }
 
-/// Adds the subject of a commit that has this text. The message of a commit is what is behind the first empty line of its text, up to a
-/// byte 0. Its subject are the lines of that from the first that isn't blank up to a blank one, each without the spaces, tabs and carriage
-/// returns at its end, and with a space before each but the first.
+/// Adds the subject of a commit that has this text: the lines of its message from the first that isn't blank up to a blank one, each without
+/// the spaces, tabs and carriage returns at its end, and with a space before each but the first.
 ///
 /// # Errors
 ///
 /// Where memory runs out. What was added then is a beginning of the subject, or nothing.
 pub(crate) fn add_subject(line: &mut Vec<u8>, text: &[u8]) -> Result<(), AllocError>
-    ensures whole { OnOk result (line.new.items ≡ line.old.items ++ subject text.now) }
-    ensures begun { (added more : List ℕ) × (line.new.items ≡ line.old.items ++ added) × (added ++ more ≡ subject text.now) }
-    ensures succeeds { subject text.now ≡ [] → IsOk result }
+    ensures whole { OnOk result (line.new.items ≡ line.old.items ++ subject_text text.now) }
+    ensures begun { (added more : List ℕ) × (line.new.items ≡ line.old.items ++ added) × (added ++ more ≡ subject_text text.now) }
+    ensures succeeds { subject_text text.now ≡ [] → IsOk result }
 {
     let mut left = message(text);
     let mut has_begun = false;
@@ -107,6 +116,12 @@ mod tests {
         (b"\n\r\nabc\r\ndef", b"abc def"),
         (b"gpgsig a\n b\n \n c\n\nsubj\n", b"subj"),
         (b"\nab\0cd\nef\n", b"ab"),
+        (b"x\0y\n\nsubj\n", b"subj"),
+        (b"x\0\nsubj\n", b"subj"),
+        (b"\0\nsubj\n", b""),
+        (b"\0\n\nsubj\n", b""),
+        (b"\n\0\nsubj\n", b""),
+        (b"\n\n\0", b""),
     ];
 
     #[test]

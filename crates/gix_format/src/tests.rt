@@ -75,6 +75,150 @@ const CASES: &[Case] = &[
     },
 ];
 
+/// What is behind the line for the tree of a commit whose time is 1000000000 seconds, and what git writes for `%an|%ae|%ci|%s`.
+const PEOPLE: &[(&[u8], &[u8])] = &[
+    (
+        b"author A <a> 1 +0000\r\ncommitter C <c> 1000000000 +0200\r\n\nsubj\n",
+        b"A|a|2001-09-09 03:46:40 +0200|subj",
+    ),
+    (
+        b"author A <a> 1 +0000\ncommitter C <c> 1000000000 +0200 \n\nsubj\n",
+        b"A|a|2001-09-09 03:46:40 +0200|subj",
+    ),
+    (
+        b"author A <a> 1 +0000\ncommitter C <c> 1000000000 +0200\t \t\n\nsubj\n",
+        b"A|a|2001-09-09 03:46:40 +0200|subj",
+    ),
+    (
+        b"author A <a> 1 +0000\ncommitter C <c> 1000000000   +0200\n\nsubj\n",
+        b"A|a|2001-09-09 03:46:40 +0200|subj",
+    ),
+    (
+        b"author A <a> 1 +0000\ncommitter C <c> 1000000000+0200\n\nsubj\n",
+        b"A|a|2001-09-09 03:46:40 +0200|subj",
+    ),
+    (
+        b"author A <a> 1 +0000\ncommitter C <c> 1000000000 -0000\n\nsubj\n",
+        b"A|a|2001-09-09 01:46:40 +0000|subj",
+    ),
+    (
+        b"author A <a> 1 +0000\ncommitter C <c> 1000000000 +0299\n\nsubj\n",
+        b"A|a|2001-09-09 05:25:40 +0299|subj",
+    ),
+    (
+        b"author A <a> 1 +0000\ncommitter C <c> 1000000000 +9999\n\nsubj\n",
+        b"A|a|2001-09-13 06:25:40 +9999|subj",
+    ),
+    (
+        b"author A <a> 1 +0000\ncommitter C <c> 1000000000 -9959\n\nsubj\n",
+        b"A|a|2001-09-04 21:47:40 -9959|subj",
+    ),
+    (
+        b"author A <a> 1 +0000\ncommitter C <c> 1000000000\n\nsubj\n",
+        b"A|a||subj",
+    ),
+    (
+        b"author A <a> 1 +0000\ncommitter C <c> 1000000000 \n\nsubj\n",
+        b"A|a||subj",
+    ),
+    (
+        b"author A <a> 1 +0000\ncommitter C <c> 1000000000 0200\n\nsubj\n",
+        b"A|a||subj",
+    ),
+    (
+        b"author A <a> 1 +0000\ncommitter C <c> 1000000000 +\n\nsubj\n",
+        b"A|a||subj",
+    ),
+    (
+        b"author A <a> 1 +0000\ncommitter C <c> 1000000000 + 0200\n\nsubj\n",
+        b"A|a||subj",
+    ),
+    (
+        b"author A <a> 1 +0000\ncommitter C <c> 1000000000 *0200\n\nsubj\n",
+        b"A|a||subj",
+    ),
+    (
+        b"author A <a> 1 +0000\ncommitter C <c 1000000000 +0200\n\nsubj\n",
+        b"A|a||subj",
+    ),
+    (b"author A <a> 1 +0000\ncommitter \n\nsubj\n", b"A|a||subj"),
+    (b"author A <a> 1 +0000\ncommitter C\n\nsubj\n", b"A|a||subj"),
+    (b"author A <a> 1 +0000\n\nsubj\n", b"A|a||subj"),
+    (
+        b"committer C <c> 1000000000 +0200\n\nsubj\n",
+        b"||2001-09-09 03:46:40 +0200|subj",
+    ),
+    (b"\nsubj\n", b"|||subj"),
+    (
+        b"author A <a> 1 +0000\n\ncommitter C <c> 1000000000 +0200\n\nsubj\n",
+        b"A|a||committer C <c> 1000000000 +0200",
+    ),
+    (
+        b"Author A <a> 1 +0000\ncommitter C <c> 1000000000 +0200\n\nsubj\n",
+        b"||2001-09-09 03:46:40 +0200|subj",
+    ),
+    (
+        b" author A <a> 1 +0000\ncommitter C <c> 1000000000 +0200\n\nsubj\n",
+        b"||2001-09-09 03:46:40 +0200|subj",
+    ),
+    (
+        b"author A <a> 1 +0000\ncommitters C <c> 1000000000 +0200\n\nsubj\n",
+        b"A|a||subj",
+    ),
+    (
+        b"author A <a> 1 +0000\ncommitter C <c> 1000000000 +0200\nauthors B <b> 2 +0000\ncommitters D <d> 2 -0100\n\nsubj\n",
+        b"A|a|2001-09-09 03:46:40 +0200|subj",
+    ),
+    (
+        b"mergetag author B <b> 2 +0000\n author B <b> 2 +0000\nauthor A <a> 1 +0000\ncommitter C <c> 1000000000 +0200\n\nsubj\n",
+        b"A|a|2001-09-09 03:46:40 +0200|subj",
+    ),
+    (
+        b"author A <a>\0b 1 +0000\ncommitter C <c> 1000000000 +0200\n\nsubj\n",
+        b"A|a|2001-09-09 03:46:40 +0200|subj",
+    ),
+    (
+        b"author A <a> 1 +0000\ncommitter C <c> 1000000000 +0200\0\n\nsubj\n",
+        b"A|a|2001-09-09 03:46:40 +0200|subj",
+    ),
+    (
+        b"author A <a> 1 +0000\ncommitter C <c> 1000000000 +0200\0-0300\n\nsubj\n",
+        b"A|a|2001-09-09 03:46:40 +0200|subj",
+    ),
+    (
+        b"author A <a> 1 +0000\ncommitter C <c> 1000000000 +0200\nx\0y\nsubj\n",
+        b"A|a|2001-09-09 03:46:40 +0200|",
+    ),
+    (
+        b"author A <a> 1 +0000\ncommitter C <c> 1000000000 +0200\n\0\nsubj\n",
+        b"A|a|2001-09-09 03:46:40 +0200|",
+    ),
+    (
+        b"author A <a> 1 +0000\ncommitter C <c> 1000000000 +0200\n\n\0\nsubj\n",
+        b"A|a|2001-09-09 03:46:40 +0200|",
+    ),
+    (
+        b"\0author A <a> 1 +0000\ncommitter C <c> 1000000000 +0200\n\nsubj\n",
+        b"|||",
+    ),
+    (
+        b"author A <a> 1 +0000\n\0committer C <c> 1000000000 +0200\n\nsubj\n",
+        b"A|a||",
+    ),
+    (
+        b"x\0author A <a> 1 +0000\ncommitter C <c> 1000000000 +0200\n\nsubj\n",
+        b"A|a|2001-09-09 03:46:40 +0200|subj",
+    ),
+    (
+        b"author A <a> 1 +0000\ncommitter C <c> 1000000000 +0200\n",
+        b"A|a|2001-09-09 03:46:40 +0200|",
+    ),
+    (
+        b"author A <a> 1 +0000\ncommitter C <c> 1000000000 +0200",
+        b"A|a|2001-09-09 03:46:40 +0200|",
+    ),
+];
+
 /// Seconds and an offset of the committer's clock, and the date that git writes.
 const DATES: &[(i64, &[u8], &[u8])] = &[
     (0, b"+0000", b"1970-01-01 00:00:00 +0000"),
@@ -153,6 +297,33 @@ fn dates(rt: HostRuntime) -> Result<(), Fail> {
         line.clear();
         add_formatted(&mut line, b"%ci", commit)?;
         assert_eq!(rt; line.as_slice(), *says);
+    }
+    Ok(())
+}
+
+#[test]
+fn people(rt: HostRuntime) -> Result<(), Fail> {
+    let mut text = Vec::new(rt.alloc());
+    let mut line = Vec::new(rt.alloc());
+    for (behind, says) in PEOPLE {
+        text.clear();
+        text.extend_from_slice(b"tree 4B825DC642CB6EB9A060E54BF8D69288FBEE4904\n")?;
+        text.extend_from_slice(*behind)?;
+        let commit = Commit {
+            id: ObjectId::Sha1([0; 20]),
+            parents: &[],
+            time: 1_000_000_000,
+            text: &text,
+        };
+        line.clear();
+        add_formatted(&mut line, b"%an|%ae|%ci|%s", commit)?;
+        assert_eq!(rt; line.as_slice(), *says, "{behind:?}");
+        line.clear();
+        add_formatted(&mut line, b"%T", commit)?;
+        assert_eq!(rt;
+            line.as_slice(),
+            b"4b825dc642cb6eb9a060e54bf8d69288fbee4904".as_slice()
+        );
     }
     Ok(())
 }

@@ -68,11 +68,62 @@ a_clock_that_would_be_before_1970 : date_and_time (pos 60) (codes "-0100") ≡ c
 unfolding digits
 a_clock_that_would_be_before_1970 = refl
 
-no_offset : offset (codes "C <c> 12345") ≡ codes "+0000"
+-- PEOPLE AND DATES that aren't in git's form. Of several lines git takes the last one.
+abbrev people_of : List ℕ → List ℕ
+people_of rest = formatted (commit (replicate 20 0xab) [] (pos 1000000000) rest) 0 (codes "%an|%ae|%ci|%s")
+
+two_of_each :
+    people_of (codes "author A <a> 1 +0000\nauthor B <b> 1 +0000\ncommitter C <c> 1000000000 +0200\ncommitter C <c> 1100000000 -0300\n\nx\n")
+    ≡ codes "A|a|2001-09-09 03:46:40 +0200|x"
+unfolding digits
+two_of_each = refl
+
+people_in_the_message : people_of (codes "\nauthor A <a> 1 +0000\ncommitter C <c> 1000000000 +0200\n") ≡ codes "|||author A <a> 1 +0000 committer C <c> 1000000000 +0200"
+people_in_the_message = refl
+
+carriage_returns : people_of (codes "author A <a> 1 +0000\r\ncommitter C <c> 1000000000 +0200\r\n\nx\r\n") ≡ codes "A|a|2001-09-09 03:46:40 +0200|x"
+unfolding digits
+carriage_returns = refl
+
+-- a byte 0 ends a line as a newline does
+a_byte_0_in_an_author : people_of (codes "author A <a>" ++ 0 ∷ codes "b\ncommitter C <c> 1000000000 +0200\n\nx\n") ≡ codes "A|a|2001-09-09 03:46:40 +0200|x"
+unfolding digits
+a_byte_0_in_an_author = refl
+
+a_byte_0_behind_an_offset : people_of (codes "author A <a>\ncommitter C <c> 1000000000 +0200" ++ 0 ∷ codes "\nx\n") ≡ codes "A|a|2001-09-09 03:46:40 +0200|x"
+unfolding digits
+a_byte_0_behind_an_offset = refl
+
+a_line_that_a_byte_0_makes_empty : people_of (codes "author A <a>\n" ++ 0 ∷ codes "committer C <c> 1000000000 +0200\n\nx\n") ≡ codes "A|a||"
+a_line_that_a_byte_0_makes_empty = refl
+
+abbrev date_of : List ℕ → List ℕ
+date_of committer = date_and_time (pos 1000000000) (offset committer)
+
+white_space_behind_an_offset : date_of (codes "C <c> 1000000000   +0200 \t\r") ≡ codes "2001-09-09 03:46:40 +0200"
+unfolding digits
+white_space_behind_an_offset = refl
+
+a_minus_and_no_offset : date_of (codes "C <c> 1000000000 -0000") ≡ codes "2001-09-09 01:46:40 +0000"
+unfolding digits
+a_minus_and_no_offset = refl
+
+no_offset : date_of (codes "C <c> 1000000000") ≡ []
 no_offset = refl
 
-an_offset_of_letters : offset (codes "C <c> 12345 +12x0") ≡ codes "+0000"
-an_offset_of_letters = refl
+no_address : date_of (codes "C c 1000000000 +0200") ≡ []
+no_address = refl
+
+no_committer : date_of [] ≡ []
+no_committer = refl
+
+-- git takes any number of digits, and passes over what is behind them
+an_offset_of_three_digits : date_of (codes "C <c> 1000000000 +200") ≡ []
+an_offset_of_three_digits = refl
+
+upper_case_in_a_tree : formatted (record { id = Sha1 (replicate 20 0xab); parents = []; time = pos 0; text = codes "tree 4B825DC642CB6EB9A060E54BF8D69288FBEE4904\n" }) 0 (codes "%T")
+    ≡ codes "4b825dc642cb6eb9a060e54bf8d69288fbee4904"
+upper_case_in_a_tree = refl
 
 is_a_format : is_format 0 (codes "%H %h%T%P %ct%ci %an<%ae>: %s%n%%") ≡ true
 is_a_format = refl
@@ -88,6 +139,3 @@ a_sign_at_the_end = refl
 
 a_field_of_another : is_format 0 (codes "%cn") ≡ false
 a_field_of_another = refl
-
-no_offset_by_a_minus : offset (codes "C <c> 12345 -0000") ≡ codes "+0000"
-no_offset_by_a_minus = refl

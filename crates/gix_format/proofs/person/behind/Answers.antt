@@ -1,6 +1,6 @@
-use Rattle.std.proofs.Common.{ℕ, List, suc, ◌+◌, drop, ap, sym, ◌∙◌, arith}
+use Rattle.std.proofs.Common.{ℕ, List, ◌+◌, sym, ◌∙◌, arith}
 use Rattle.std.proofs.lemmas.List.{take_rest}
-use Rattle.gix_format.proofs.FirstByte.{behind_first, none_behind}
+use Rattle.gix_format.proofs.FirstByte.{behind_here, none_behind}
 use Rattle.gix_format.proofs.person.behind.Goals as goal
 
 pub returns-in-None : goal.returns-in-None
@@ -11,5 +11,4 @@ returns-in-Some c =
     let text : List ℕ = c.args.text.now in
     let end : ℕ = c.in-Some.end in
     let found = c.in-Some.ensures in
-    let is = behind_first c.args.byte text end found.0.high found.1 (λ i l. found.0.before i (omega arith) l) in
-    take_rest text (end + 1) ∙ ap (λ k. drop k text) {x = end + 1} {y = suc end} (omega arith) ∙ sym is
+    take_rest text (end + 1) ∙ sym (behind_here c.args.byte text end found.0.high found.1 (λ i l. found.0.before i (omega arith) l))
