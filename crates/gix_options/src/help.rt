@@ -150,8 +150,9 @@ pub const COMMANDS: &[Command] = &[
 /// What the help says behind the commands.
 pub const NOTES: &str = "\
 A revision is an id, the first 4 digits of one or more, a ref by git's rules, HEAD or @, or worktrees/NAME/HEAD or main-worktree/HEAD of
-another worktree; behind it any of ~N, ^N, ^{commit}, ^{tree}, ^{tag} and ^{}; for files also :PATH. In the first five commands ^A excludes all commits that A reaches, A..B stands for ^A B, and
-A...B for A and B without what both reach. For ahead A...B stands for A B.
+another worktree; behind it any of ~N, ^N, ^{commit}, ^{tree}, ^{tag} and ^{}; for files also :PATH. In the first five commands ^A
+excludes all commits that A reaches, A..B stands for ^A B, and A...B for A and B without what both reach. For ahead A...B stands for
+A B.
 
 All objects are compared with their ids. An object that is damaged is a fault, and nothing is listed. Where one is missing, or no commit,
 the first five commands have listed the commits before it, and nothing with --reverse and --count, and the others nothing. newest and
@@ -187,7 +188,8 @@ with a name that is empty or holds a slash.
                2024-05-01T12:00:00 with nothing or Z for UTC behind it or an offset as +02:00. --after TIME, --since=TIME
                and --after=TIME are the same
   -z           ends each line in a byte 0 and not in a newline, in the first five commands and in files: a path may have a newline
-  --all        adds all refs and HEAD to the revisions; --branches adds all branches, --tags all tags, and --remotes all remote branches
+  --all        adds all refs and HEAD to the revisions, and none in merge-base; --branches adds all branches, --tags all tags, and
+               --remotes all remote branches
   --not        turns ^ round for the revisions behind it, up to the next --not: A --not B --tags is A ^B and ^ before each tag
   --stdin      adds the lines of standard input to the revisions, none of which is empty or an option; --not doesn't count for them
   --border     takes the commits at the border of a shallow clone as commits without parents, as git does

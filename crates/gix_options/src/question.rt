@@ -20,7 +20,7 @@ pub enum Place {
 }
 
 /// A set of refs.
-#[derive(Clone, Copy, PartialEq, Eq, Debug)]
+#[derive(Clone, Copy, Debug)]
 pub enum Refs {
     /// All refs and HEAD.
     All,

@@ -85,7 +85,8 @@ where
     }
 
     /// The first ref that a short name means, in git's order: `N` itself where it is below `refs/`, or `HEAD` or the like of this worktree or,
-    /// as `main-worktree/HEAD` and `worktrees/NAME/HEAD`, of another one, and then `refs/N`, `refs/tags/N`, `refs/heads/N`, `refs/remotes/N` and `refs/remotes/N/HEAD`. A ref that is damaged is passed over, as in git.
+    /// as `main-worktree/HEAD` and `worktrees/NAME/HEAD`, of another one, and then `refs/N`, `refs/tags/N`, `refs/heads/N`, `refs/remotes/N`
+    /// and `refs/remotes/N/HEAD`. A ref that is damaged is passed over, as in git.
     ///
     /// # Errors
     ///
