@@ -159,7 +159,7 @@ struct kestrelrack_file {
 /* Puts the words of a command at the front of the room, with a newline between two, and with ids in place of its revisions.
  *
  * words    A command as for kestrelrack_run, or "resolve", whose revisions are as the program takes them: "main~2", "^v1.0", "A..B",
- *          "A...B", "HEAD^{tree}", an id or the first digits of one; and "--all", "--branches" and "--tags".
+ *          "A...B", "HEAD^{tree}", an id or the first digits of one; and "--not", "--all", "--branches" and "--tags".
  *
  * At KESTRELRACK_WELL the first `length` bytes of the room are words for the two calls below. Those of "resolve" are no command: they are
  * its name, and the ids. At KESTRELRACK_ROOM the words need `length` bytes. At every number but KESTRELRACK_WELL the room is as it was.

@@ -149,9 +149,10 @@ pub const COMMANDS: &[Command] = &[
 
 /// What the help says behind the commands.
 pub const NOTES: &str = "\
-A revision is an id, the first 4 digits of one or more, a ref by git's rules, HEAD or @; behind it any of ~N, ^N, ^{commit}, ^{tree},
-^{tag} and ^{}; for files also :PATH. In the first five commands ^A excludes all commits that A reaches, A..B stands for ^A B, and
-A...B for A and B without what both reach. For ahead A...B stands for A B.
+A revision is an id, the first 4 digits of one or more, a ref by git's rules, HEAD or @, or worktrees/NAME/HEAD or main-worktree/HEAD of
+another worktree; behind it any of ~N, ^N, ^{commit}, ^{tree}, ^{tag} and ^{}; for files also :PATH. In the first five commands ^A
+excludes all commits that A reaches, A..B stands for ^A B, and A...B for A and B without what both reach. For ahead A...B stands for
+A B.
 
 All objects are compared with their ids. An object that is damaged is a fault, and nothing is listed. Where one is missing, or no commit,
 the first five commands have listed the commits before it, and nothing with --reverse and --count, and the others nothing. newest and
@@ -162,13 +163,13 @@ with a name that is empty or holds a slash.
   --git-dir FOLDER
                takes the folder that is called .git elsewhere
   -n NUMBER    ends after so many lines, in the first five commands and in files, which reads all trees; a number has 1 to 9
-               digits. -n2, --max-count 2 and --max-count=2 are the same as -n 2
+               digits, and one below 0 is no limit. -n2, -2, --max-count 2 and --max-count=2 are the same as -n 2
   --skip NUMBER
                leaves out so many lines first, in the first five commands, and -n counts those behind them
   --merges     takes the commits of two parents and more alone, in the first five commands; --no-merges takes those of one and none
   --until TIME leaves out the commits of a later time, in the first five commands, and goes on from them. --before TIME is the same
   --reverse    writes the lines of the first five commands with the last first, as --skip and -n have chosen them
-  --count      writes the number of these lines and not the lines
+  --count      writes the number of these lines and not the lines, whatever their order
   --timestamp  writes the committer's seconds and a space before each id, in the first five commands
   --parents    writes behind each id a space and the id of each parent, as the commit names them, in the first five commands
   --oneline    writes behind these a space and the commit's subject, in the first five commands; no commit-graph has subjects, so all
@@ -187,8 +188,10 @@ with a name that is empty or holds a slash.
                2024-05-01T12:00:00 with nothing or Z for UTC behind it or an offset as +02:00. --after TIME, --since=TIME
                and --after=TIME are the same
   -z           ends each line in a byte 0 and not in a newline, in the first five commands and in files: a path may have a newline
-  --all        adds all refs and HEAD to the revisions; --branches adds all branches, --tags all tags, and --remotes all remote branches
-  --stdin      adds the lines of standard input to the revisions, none of which is empty or an option
+  --all        adds all refs and HEAD to the revisions, and none in merge-base; --branches adds all branches, --tags all tags, and
+               --remotes all remote branches
+  --not        turns ^ round for the revisions behind it, up to the next --not: A --not B --tags is A ^B and ^ before each tag
+  --stdin      adds the lines of standard input to the revisions, none of which is empty or an option; --not doesn't count for them
   --border     takes the commits at the border of a shallow clone as commits without parents, as git does
   --no-graph   reads all commits themselves. Otherwise git's commit-graph is used where check-graph has found it right
   --trust-graph

@@ -2,16 +2,21 @@
 #![tactic(auto)]
 
 mod date;
+mod format;
 mod help;
+mod hint;
+mod lines;
 mod misuse;
 mod name;
 mod question;
+mod turned;
 
 pub use help::{COMMANDS, Command, NOTES, USAGE, VERSION, WHAT, help_of};
+pub use lines::read_lines;
 pub use misuse::Misuse;
 pub use name::Name;
 pub use question::{
-    Asked, Asks, Options, Place, Question, Rows, read_arguments, read_lines, read_question,
+    Asked, Asks, Options, Place, Question, Refs, Rows, read_arguments, read_question,
 };
 
 #[cfg(test)]

@@ -9,39 +9,42 @@ pub enum Misuse {
     /// No word names a command.
     #[error("a command is missing")]
     NoCommand,
-    /// The first word that is no option names no command.
-    #[error("no command is called {0:?}")]
-    Command(String),
-    /// A word begins with `-` and is no option.
-    #[error("no option is called {0:?}")]
-    NoOption(String),
+    /// The first word that is no option names no command. Behind it is what there is in its place, or nothing.
+    #[error("no command is called {0:?}{1}")]
+    Command(String, &'static str),
+    /// A word begins with `-` and is no option. Behind it is what there is in its place, or nothing.
+    #[error("no option is called {0:?}{1}")]
+    NoOption(String, &'static str),
     /// Behind this option its folder is missing.
     #[error("{0} needs a folder")]
     NoFolder(&'static str),
     /// Behind `-n` there is no number.
-    #[error("-n needs a number of 1 to 9 digits")]
+    #[error("-n needs a number of 1 to 9 digits, or one below 0 for no limit")]
     Limit,
     /// Behind `--skip` there is no number.
     #[error("--skip needs a number of 1 to 9 digits")]
     Skip,
     /// Behind `--format` there is none.
-    #[error("--format needs 1 to 128 bytes, in which each % begins a field: %H, %h, %T, %P, %s, %an, %ae, %ct, %ci, %n or %%")]
-    Format,
+    #[error("--format is empty: it needs 1 to 128 bytes, as %H or '%h %an: %s'")]
+    NoFormat,
+    /// A format has so many bytes.
+    #[error("--format has {0} bytes, and takes 128 at most")]
+    LongFormat(usize),
+    /// A format has this field, which isn't known.
+    #[error("--format has no field {0:?}: its fields are %H, %h, %T, %P, %s, %an, %ae, %ct, %ci, %n and %%")]
+    Field(String),
     /// Behind this option there is no time that can be used.
     #[error("{0} needs seconds of 1 to 10 digits, or a date from 1970 on, as 2024-05-01 or 2024-05-01T12:00:00Z")]
     Time(&'static str),
     /// No commit has one parent at most and two at least.
     #[error("--merges and --no-merges don't go together")]
     Merges,
-    /// A number of lines has no last line.
-    #[error("--count and --reverse don't go together")]
-    Count,
     /// `--` would separate revisions from paths.
-    #[error("paths aren't known: what follows the command are revisions")]
+    #[error("paths aren't known: nothing may be behind --, and only files takes REVISION:PATH")]
     Paths,
-    /// This option doesn't go with the command, or with another option.
-    #[error("{0} doesn't go with {1}")]
-    Misfit(&'static str, &'static str),
+    /// This option doesn't go with the command, or with another option. Behind it is what it goes with, or nothing.
+    #[error("{0} doesn't go with {1}{2}")]
+    Misfit(&'static str, &'static str, &'static str),
     /// A revision is a word without letters, or `^` alone.
     #[error("a revision is empty")]
     Empty,
@@ -61,7 +64,7 @@ pub enum Misuse {
     #[error("line {0} of standard input: {1}")]
     Line(usize, LineFault),
     /// A list of commits begins nowhere.
-    #[error("{0} needs a revision without ^")]
+    #[error("{0} needs a revision without ^, as HEAD")]
     NoTip(&'static str),
     /// The revisions that `contains`, `containing` or `merge-base` asks about are missing or hidden, or the first isn't named.
     #[error("{0} needs two revisions at least, the first of them by its name, and none with ^ or a range A..B")]
@@ -109,7 +112,19 @@ pub enum LineFault {
 impl Misuse {
     /// The option doesn't go with this command.
     pub(crate) fn option(option: &'static str, name: Name) -> Misuse {
-        Misuse::Misfit(option, name.word())
+        Misuse::Misfit(option, name.word(), fitting(option))
+    }
+}
+
+/// The commands that an option goes with, where these are few.
+fn fitting(option: &str) -> &'static str {
+    match option {
+        "--first-parent" => ", only with breadth, topo and date",
+        "--since" => ", only with newest and oldest",
+        "--names" => ", only with contains and containing",
+        "-n" | "-z" => ", only with lists of commits and with files",
+        "--certificate" => "",
+        _ => ", only with lists of commits",
     }
 }
 

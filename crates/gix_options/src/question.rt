@@ -2,10 +2,13 @@
 ghost use Rattle.std.specs.Prelude.{◌≡◌, ◌+◌, ◌≤◌, ◌<◌, length};
 
 use crate::date::seconds_of;
-use crate::misuse::LineFault;
+use crate::format::format_fault;
+use crate::hint::{of_command, of_option};
+use crate::lines::{fault_of, misuse_of};
+use crate::turned::push_turned;
 use crate::{Misuse, Name};
 use std::alloc::{AllocError, Global};
-use std::{mem, str};
+use std::mem;
 
 /// Where the repository is.
 #[derive(Drop, Debug)]
@@ -16,11 +19,9 @@ pub enum Place {
     GitDir(String),
 }
 
-/// A word that names revisions, or a set of them.
-#[derive(Drop, Debug)]
-pub enum Asked {
-    /// A revision, maybe with `^`, or a range.
-    Word(String),
+/// A set of refs.
+#[derive(Clone, Copy, Debug)]
+pub enum Refs {
     /// All refs and HEAD.
     All,
     /// All branches.
@@ -29,6 +30,17 @@ pub enum Asked {
     Tags,
     /// All remote branches that are tracked.
     Remotes,
+}
+
+/// A word that names revisions, or a set of them.
+#[derive(Drop, Debug)]
+pub enum Asked {
+    /// A revision, maybe with `^`, or a range.
+    Word(String),
+    /// These refs.
+    Refs(Refs),
+    /// These refs, each as if `^` were before it.
+    Hidden(Refs),
     /// The lines of standard input, each of which is a word.
     Lines,
 }
@@ -263,6 +275,8 @@ struct Arguments {
     place: Option<Place>,
     name: Option<Name>,
     needs_help: bool,
+    /// Whether `^` means the opposite, as behind `--not`.
+    is_turned: bool,
     asked: Vec<Asked>,
     options: Options,
 }
@@ -275,6 +289,7 @@ impl Drop for Arguments {
             place: _,
             name: _,
             needs_help: _,
+            is_turned: _,
             asked: _,
             options: _,
         } = self;
@@ -309,7 +324,7 @@ pub fn read_question(alloc: Global, place: Place, words: &[String]) -> Result<Qu
     let mut arguments = Arguments::new(alloc);
     arguments.read_all(words)?;
     if arguments.place.is_some() {
-        return Err(Misuse::NoOption(String::from_str(alloc, "-C")?));
+        return Err(Misuse::NoOption(String::from_str(alloc, "-C")?, ""));
     }
     arguments.place = Some(place);
     match arguments.ask() {
@@ -361,6 +376,7 @@ impl Arguments {
             place: None,
             name: None,
             needs_help: false,
+            is_turned: false,
             asked: Vec::new(alloc),
             options: Options::none(),
         }
@@ -390,15 +406,27 @@ impl Arguments {
         match word {
             "-C" | "--git-dir" => return self.read_place(word, behind),
             "--help" | "-h" => self.needs_help = true,
-            "--all" => self.asked.push(Asked::All)?,
-            "--branches" => self.asked.push(Asked::Branches)?,
-            "--tags" => self.asked.push(Asked::Tags)?,
-            "--remotes" => self.asked.push(Asked::Remotes)?,
+            "--all" => self.push_refs(Refs::All)?,
+            "--branches" => self.push_refs(Refs::Branches)?,
+            "--tags" => self.push_refs(Refs::Tags)?,
+            "--remotes" => self.push_refs(Refs::Remotes)?,
+            "--not" => self.is_turned = !self.is_turned,
             "--stdin" => self.asked.push(Asked::Lines)?,
+            "--" if behind.is_empty() => {}
             "--" => return Err(Misuse::Paths),
             word => self.read_word(word)?,
         }
         Ok(behind)
+    }
+
+    /// Takes a set of refs.
+    fn push_refs(&mut self, refs: Refs) -> Result<(), AllocError> {
+        let asked = if self.is_turned {
+            Asked::Hidden(refs)
+        } else {
+            Asked::Refs(refs)
+        };
+        Ok(self.asked.push(asked)?)
     }
 
     /// Reads `--git-dir=FOLDER`, or `-N` for `-n N`. Whether the word is one of them.
@@ -466,8 +494,12 @@ impl Arguments {
         }
     }
 
-    /// Takes the value of an option.
+    /// Takes the value of an option. A negative number of lines is no limit.
     fn set(&mut self, option: &str, value: &str) -> Result<(), Misuse> {
+        if matches!(option, "-n" | "--max-count") && is_negative(value) {
+            self.options.limit = None;
+            return Ok(());
+        }
         let text = text_of(self.alloc, option, value)?;
         *self.options.place_of(option) = Some(text);
         Ok(())
@@ -476,7 +508,8 @@ impl Arguments {
     /// Reads a word that is no option: the command, or a revision.
     fn read_word(&mut self, word: &str) -> Result<(), Misuse> {
         if word.starts_with('-') {
-            return Err(Misuse::NoOption(String::from_str(self.alloc, word)?));
+            let text = String::from_str(self.alloc, word)?;
+            return Err(Misuse::NoOption(text, of_option(word)));
         }
         if self.name.is_none() {
             if word == "help" {
@@ -484,13 +517,17 @@ impl Arguments {
                 return Ok(());
             }
             let Some(name) = Name::of(word) else {
-                return Err(Misuse::Command(String::from_str(self.alloc, word)?));
+                let text = String::from_str(self.alloc, word)?;
+                return Err(Misuse::Command(text, of_command(word)));
             };
             self.name = Some(name);
             return Ok(());
         }
         if let Some(fault) = fault_of(word) {
             return Err(misuse_of(self.alloc, word, fault)?);
+        }
+        if self.is_turned {
+            return Ok(push_turned(self.alloc, word, &mut self.asked)?);
         }
         self.asked
             .push(Asked::Word(String::from_str(self.alloc, word)?))?;
@@ -505,11 +542,23 @@ impl Arguments {
         let Some(name) = self.name else {
             return Err(Misuse::NoCommand);
         };
+        self.take_as_git(name);
         self.check_options(name)?;
         self.check_number(name)?;
         match self.place.take() {
             Some(place) => Ok(Asks::Question(self.question(place, name))),
             None => Err(Misuse::NoFolder("-C")),
+        }
+    }
+
+    /// Leaves out what git leaves out: the order of what is only counted, and that all best common ancestors are wanted, as they always are.
+    fn take_as_git(&mut self, name: Name) {
+        if self.options.counts {
+            self.options.is_reversed = false;
+        }
+        if name == Name::MergeBase {
+            self.asked
+                .retain(|asked| !matches!(asked, Asked::Refs(Refs::All)));
         }
     }
 
@@ -537,15 +586,12 @@ impl Arguments {
         if self.options.merges && self.options.no_merges {
             return Err(Misuse::Merges);
         }
-        if self.options.counts && self.options.is_reversed {
-            return Err(Misuse::Count);
-        }
         if self.options.gives_subject && self.options.takes_border {
-            return Err(Misuse::Misfit("--oneline", "--border"));
+            return Err(Misuse::Misfit("--oneline", "--border", ""));
         }
         if self.options.format.is_some() {
             if let Some(option) = self.options.against_format() {
-                return Err(Misuse::Misfit("--format", option));
+                return Err(Misuse::Misfit("--format", option, ""));
             }
         }
         if self.options.by_first_parents
@@ -567,6 +613,7 @@ impl Arguments {
         }
         if name == Name::VerifyCertificate
             && (self.options.certificate.is_some()
+                || self.is_turned
                 || self.options.takes_border
                 || self.options.rows == Rows::Trusted)
         {
@@ -645,7 +692,10 @@ fn text_of(alloc: Global, option: &str, value: &str) -> Result<String, Misuse> {
     let is_right = match option {
         "-n" | "--max-count" | "--skip" => is_number(value, 9),
         "--certificate" => !value.is_empty(),
-        "--format" => !value.is_empty() && value.len() <= 128 && is_format(value.as_bytes()),
+        "--format" => match format_fault(alloc, value)? {
+            Some(misuse) => return Err(misuse),
+            None => true,
+        },
         _ => return digits_of(alloc, option, value),
     };
     if is_right {
@@ -654,7 +704,6 @@ fn text_of(alloc: Global, option: &str, value: &str) -> Result<String, Misuse> {
     Err(match option {
         "--skip" => Misuse::Skip,
         "--certificate" => Misuse::NoFile,
-        "--format" => Misuse::Format,
         _ => Misuse::Limit,
     })
 }
@@ -676,7 +725,8 @@ fn digits_of(alloc: Global, option: &str, value: &str) -> Result<String, Misuse>
 fn may_be_tip(asked: &Asked) -> bool {
     match asked {
         Asked::Word(word) => !word.starts_with('^'),
-        _ => true,
+        Asked::Hidden(_) => false,
+        Asked::Refs(_) | Asked::Lines => true,
     }
 }
 
@@ -716,75 +766,11 @@ fn is_number(word: &str, most: usize) -> bool {
         && word.as_bytes().iter().all(|byte| byte.is_ascii_digit())
 }
 
-/// Whether each `%` begins a field that a format may have.
-fn is_format(text: &[u8]) -> bool {
-    let mut left = text;
-    for _ in 0..text.len() {
-        left = match left {
-            [
-                b'%',
-                b'%' | b'n' | b'H' | b'h' | b'T' | b'P' | b's',
-                behind @ ..,
-            ] => behind,
-            [b'%', b'a', b'n' | b'e', behind @ ..] => behind,
-            [b'%', b'c', b't' | b'i', behind @ ..] => behind,
-            [b'%', ..] => return false,
-            [_, behind @ ..] => behind,
-            [] => return true,
-        };
+/// Whether a word is a number below 0 of at most 9 digits.
+fn is_negative(word: &str) -> bool {
+    match word.strip_prefix('-') {
+        Some(digits) => is_number(digits, 9)
+            && digits.as_bytes().iter().any(|digit| *digit != b'0'),
+        None => false,
     }
-    true
-}
-
-/// What is wrong with a word that is to be a revision, whatever the repository has.
-fn fault_of(word: &str) -> Option<LineFault> {
-    match word.as_bytes() {
-        [] | [b'^'] => Some(LineFault::Empty),
-        [b'-', ..] => Some(LineFault::Dash),
-        [b'^', b'^', ..] => Some(LineFault::TwoHidden),
-        [.., b'\r'] => Some(LineFault::CarriageReturn),
-        _ => None,
-    }
-}
-
-/// The misuse of a word with a fault.
-fn misuse_of(alloc: Global, word: &str, fault: LineFault) -> Result<Misuse, AllocError> {
-    let text = String::from_str(alloc, word)?;
-    Ok(match fault {
-        LineFault::Empty => Misuse::Empty,
-        LineFault::TwoHidden => Misuse::TwoHidden(text),
-        LineFault::CarriageReturn => Misuse::CarriageReturn,
-        LineFault::Dash => Misuse::Dash(text),
-        LineFault::NotText => Misuse::NotText,
-    })
-}
-
-/// The revisions that the lines of a text are. The last line need not end in a newline. An empty text has no line.
-///
-/// # Errors
-///
-/// The first line that can't be a revision, whatever the repository has, by its number. `Memory`.
-pub fn read_lines(alloc: Global, text: &[u8]) -> Result<Vec<String>, Misuse> {
-    let mut lines = Vec::new(alloc);
-    let mut rest = text;
-    for _ in 0..text.len() {
-        if rest.is_empty() {
-            break;
-        }
-        let end = rest
-            .iter()
-            .position(|byte| *byte == b'\n')
-            .unwrap_or(rest.len());
-        let number = lines.len().saturating_add(1);
-        let line = rest.get(..end).unwrap_or_default();
-        rest = rest.get(end.saturating_add(1)..).unwrap_or_default();
-        let Ok(line) = str::from_utf8(line) else {
-            return Err(Misuse::Line(number, LineFault::NotText));
-        };
-        if let Some(fault) = fault_of(line) {
-            return Err(Misuse::Line(number, fault));
-        }
-        lines.push(String::from_str(alloc, line)?)?;
-    }
-    Ok(lines)
 }

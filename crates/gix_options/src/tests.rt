@@ -7,14 +7,37 @@ const CASES: &[(&str, &str)] = &[
     ("-C .", "a command is missing"),
     ("-C", "-C needs a folder"),
     ("topo HEAD --git-dir", "--git-dir needs a folder"),
-    ("-C . log", "no command is called \"log\""),
-    ("-C . topo --graph HEAD", "no option is called \"--graph\""),
-    ("-C . topo HEAD -n", "-n needs a number of 1 to 9 digits"),
+    (
+        "-C . log",
+        "no command is called \"log\": newest lists commits as git rev-list does, with --oneline or --format as git log",
+    ),
+    (
+        "-C . topo --graph HEAD",
+        "no option is called \"--graph\": the command topo lists commits in this order",
+    ),
+    (
+        "-C . newest --tags=v* HEAD",
+        "no option is called \"--tags=v*\": refs aren't chosen by a pattern, but --branches, --tags, --remotes and --all add refs",
+    ),
+    (
+        "-C . newest --patch HEAD",
+        "no option is called \"--patch\": what a commit changes isn't known",
+    ),
+    (
+        "-C . topo HEAD -n",
+        "-n needs a number of 1 to 9 digits, or one below 0 for no limit",
+    ),
     (
         "-C . topo HEAD -n 1234567890",
-        "-n needs a number of 1 to 9 digits",
+        "-n needs a number of 1 to 9 digits, or one below 0 for no limit",
     ),
     ("-C . topo HEAD -n 123456789", ""),
+    ("-C . topo HEAD -n -1", ""),
+    ("-C . topo --max-count=-20 HEAD", ""),
+    (
+        "-C . topo HEAD -n -0",
+        "-n needs a number of 1 to 9 digits, or one below 0 for no limit",
+    ),
     (
         "-C . newest --since x HEAD",
         "--since needs seconds of 1 to 10 digits, or a date from 1970 on, as 2024-05-01 or 2024-05-01T12:00:00Z",
@@ -42,44 +65,56 @@ const CASES: &[(&str, &str)] = &[
         "-C . topo --merges HEAD --no-merges",
         "--merges and --no-merges don't go together",
     ),
+    ("-C . topo --count HEAD --reverse", ""),
     (
-        "-C . topo --count HEAD --reverse",
-        "--count and --reverse don't go together",
+        "-C . ahead a b --count",
+        "--count doesn't go with ahead, only with lists of commits",
     ),
-    ("-C . ahead a b --count", "--count doesn't go with ahead"),
     (
         "-C . contains --no-merges a b",
-        "--no-merges doesn't go with contains",
+        "--no-merges doesn't go with contains, only with lists of commits",
     ),
-    ("-C . files a --until 1", "--until doesn't go with files"),
+    (
+        "-C . files a --until 1",
+        "--until doesn't go with files, only with lists of commits",
+    ),
     (
         "-C . merge-base --skip=1 a b",
-        "--skip doesn't go with merge-base",
+        "--skip doesn't go with merge-base, only with lists of commits",
     ),
     (
         "-C . resolve --reverse a",
-        "--reverse doesn't go with resolve",
+        "--reverse doesn't go with resolve, only with lists of commits",
     ),
     ("-C . date --before=1 --merges --skip 2 --count a", ""),
     ("-C . oldest --until=2024-02-29 --no-merges --reverse a", ""),
-    ("-C . topo --since 1 HEAD", "--since doesn't go with topo"),
+    (
+        "-C . topo --since 1 HEAD",
+        "--since doesn't go with topo, only with newest and oldest",
+    ),
     (
         "-C . newest HEAD --first-parent",
-        "--first-parent doesn't go with newest",
+        "--first-parent doesn't go with newest, only with breadth, topo and date",
     ),
     ("-C . topo HEAD --first-parent", ""),
     ("-C . date --first-parent HEAD", ""),
     ("-C . topo -z --parents HEAD --timestamp", ""),
-    ("-C . ahead -z a b", "-z doesn't go with ahead"),
+    (
+        "-C . ahead -z a b",
+        "-z doesn't go with ahead, only with lists of commits and with files",
+    ),
     (
         "-C . contains --timestamp a b",
-        "--timestamp doesn't go with contains",
+        "--timestamp doesn't go with contains, only with lists of commits",
     ),
-    ("-C . files --parents a", "--parents doesn't go with files"),
+    (
+        "-C . files --parents a",
+        "--parents doesn't go with files, only with lists of commits",
+    ),
     ("-C . topo -z --oneline HEAD --reverse", ""),
     (
         "-C . ahead --oneline a b",
-        "--oneline doesn't go with ahead",
+        "--oneline doesn't go with ahead, only with lists of commits",
     ),
     (
         "-C . newest --oneline --border HEAD",
@@ -91,28 +126,40 @@ const CASES: &[(&str, &str)] = &[
     ),
     ("-C . breadth --format a=b HEAD", ""),
     (
+        "-C . topo --format %%%H%h%C(red) HEAD",
+        "--format has no field \"%C(\": its fields are %H, %h, %T, %P, %s, %an, %ae, %ct, %ci, %n and %%",
+    ),
+    (
+        "-C . topo --format é%éa HEAD",
+        "--format has no field \"%é\": its fields are %H, %h, %T, %P, %s, %an, %ae, %ct, %ci, %n and %%",
+    ),
+    (
+        "-C . topo --format %H%a HEAD",
+        "--format has no field \"%a\": its fields are %H, %h, %T, %P, %s, %an, %ae, %ct, %ci, %n and %%",
+    ),
+    (
         "-C . topo HEAD --format",
-        "--format needs 1 to 128 bytes, in which each % begins a field: %H, %h, %T, %P, %s, %an, %ae, %ct, %ci, %n or %%",
+        "--format is empty: it needs 1 to 128 bytes, as %H or '%h %an: %s'",
     ),
     (
         "-C . topo HEAD --format=",
-        "--format needs 1 to 128 bytes, in which each % begins a field: %H, %h, %T, %P, %s, %an, %ae, %ct, %ci, %n or %%",
+        "--format is empty: it needs 1 to 128 bytes, as %H or '%h %an: %s'",
     ),
     (
         "-C . topo HEAD --format %",
-        "--format needs 1 to 128 bytes, in which each % begins a field: %H, %h, %T, %P, %s, %an, %ae, %ct, %ci, %n or %%",
+        "--format has no field \"%\": its fields are %H, %h, %T, %P, %s, %an, %ae, %ct, %ci, %n and %%",
     ),
     (
         "-C . topo HEAD --format %ad",
-        "--format needs 1 to 128 bytes, in which each % begins a field: %H, %h, %T, %P, %s, %an, %ae, %ct, %ci, %n or %%",
+        "--format has no field \"%ad\": its fields are %H, %h, %T, %P, %s, %an, %ae, %ct, %ci, %n and %%",
     ),
     (
         "-C . topo HEAD --format %B",
-        "--format needs 1 to 128 bytes, in which each % begins a field: %H, %h, %T, %P, %s, %an, %ae, %ct, %ci, %n or %%",
+        "--format has no field \"%B\": its fields are %H, %h, %T, %P, %s, %an, %ae, %ct, %ci, %n and %%",
     ),
     (
         "-C . topo HEAD --format xxxxxxxxxxxxxxxxxxxxxxxxxxxxxxxxxxxxxxxxxxxxxxxxxxxxxxxxxxxxxxxxxxxxxxxxxxxxxxxxxxxxxxxxxxxxxxxxxxxxxxxxxxxxxxxxxxxxxxxxxxxxxxxxx",
-        "--format needs 1 to 128 bytes, in which each % begins a field: %H, %h, %T, %P, %s, %an, %ae, %ct, %ci, %n or %%",
+        "--format has 129 bytes, and takes 128 at most",
     ),
     (
         "-C . topo HEAD --format xxxxxxxxxxxxxxxxxxxxxxxxxxxxxxxxxxxxxxxxxxxxxxxxxxxxxxxxxxxxxxxxxxxxxxxxxxxxxxxxxxxxxxxxxxxxxxxxxxxxxxxxxxxxxxxxxxxxxxxxxxxxxxxx",
@@ -120,7 +167,7 @@ const CASES: &[(&str, &str)] = &[
     ),
     (
         "-C . topo --pretty=format:%H HEAD",
-        "no option is called \"--pretty=format:%H\"",
+        "no option is called \"--pretty=format:%H\": --format FORMAT and --oneline say what a line has",
     ),
     (
         "-C . newest --oneline --format %H HEAD",
@@ -140,13 +187,42 @@ const CASES: &[(&str, &str)] = &[
     ),
     (
         "-C . ahead --format %H a b",
-        "--format doesn't go with ahead",
+        "--format doesn't go with ahead, only with lists of commits",
     ),
     ("-C . files -n 1 HEAD -z", ""),
-    ("-C . ahead -n 1 a b", "-n doesn't go with ahead"),
+    (
+        "-C . ahead -n 1 a b",
+        "-n doesn't go with ahead, only with lists of commits and with files",
+    ),
     (
         "-C . topo HEAD -- x",
-        "paths aren't known: what follows the command are revisions",
+        "paths aren't known: nothing may be behind --, and only files takes REVISION:PATH",
+    ),
+    (
+        "-C . newest --nowhere HEAD",
+        "no option is called \"--nowhere\"",
+    ),
+    ("-C . topo HEAD --", ""),
+    ("-C . topo A --not B --all --not C", ""),
+    ("-C . topo --not ^A", ""),
+    ("-C . topo --not A..B", ""),
+    (
+        "-C . topo --not --all",
+        "topo needs a revision without ^, as HEAD",
+    ),
+    (
+        "-C . topo --not A...B",
+        "topo needs a revision without ^, as HEAD",
+    ),
+    ("-C . topo --not ^", "a revision is empty"),
+    ("-C . topo --not --stdin", ""),
+    (
+        "-C . files --not HEAD",
+        "the number of revisions for files is 1, none of them with ^ or a range A..B",
+    ),
+    (
+        "-C . verify-certificate --not FILE",
+        "verify-certificate takes one file, and no option but -C and --no-graph",
     ),
     ("-C . topo ^", "a revision is empty"),
     (
@@ -154,7 +230,10 @@ const CASES: &[(&str, &str)] = &[
         "a revision has one ^ at most: \"^^HEAD\"",
     ),
     ("-C . topo HEAD\r", "a revision ends in a carriage return"),
-    ("-C . topo ^HEAD", "topo needs a revision without ^"),
+    (
+        "-C . topo ^HEAD",
+        "topo needs a revision without ^, as HEAD",
+    ),
     ("topo --all -C .", ""),
     ("-C . topo ^HEAD --stdin", ""),
     (
@@ -176,13 +255,13 @@ const CASES: &[(&str, &str)] = &[
     ),
     (
         "-C . containing --count HEAD a",
-        "--count doesn't go with containing",
+        "--count doesn't go with containing, only with lists of commits",
     ),
     ("-C . containing HEAD --names --tags", ""),
     ("-C . contains HEAD --names --tags", ""),
     (
         "-C . merge-base HEAD --names a",
-        "--names doesn't go with merge-base",
+        "--names doesn't go with merge-base, only with contains and containing",
     ),
     (
         "-C . merge-base HEAD",
@@ -193,6 +272,11 @@ const CASES: &[(&str, &str)] = &[
         "merge-base needs two revisions at least, the first of them by its name, and none with ^ or a range A..B",
     ),
     ("-C . merge-base HEAD --stdin", ""),
+    ("-C . merge-base --all HEAD a", ""),
+    (
+        "-C . merge-base HEAD --all",
+        "merge-base needs two revisions at least, the first of them by its name, and none with ^ or a range A..B",
+    ),
     (
         "-C . is-ancestor HEAD",
         "the number of revisions for is-ancestor is 2, none of them with ^ or a range A..B",
@@ -261,13 +345,53 @@ fn options_may_be_anywhere(rt: HostRuntime) -> Result<(), Fail> {
         && question.options.is_verbose
         && matches!(&question.place, Place::Folder(folder) if folder.as_str() == "b")
         && matches!(&question.options.limit, Some(limit) if limit.as_str() == "3");
-    let [Asked::Word(a), Asked::All, Asked::Word(b)] = question.asked.as_slice() else {
+    let [Asked::Word(a), Asked::Refs(Refs::All), Asked::Word(b)] = question.asked.as_slice() else {
         return Err(Fail::new("other words"));
     };
     if is_right && a.as_str() == "A" && b.as_str() == "^B" {
         return Ok(());
     }
     Err(Fail::new(format_args!("{question:?}")))
+}
+
+/// Revisions behind `--not`, and what they are without it.
+const TURNED: &[(&str, &str)] = &[
+    ("A", "^A"),
+    ("^A", "A"),
+    ("A..B", "B..A"),
+    ("A..", "..A"),
+    ("..B~2", "B~2.."),
+    ("..", ".."),
+    ("A...B", "^A ^B"),
+    ("...B^", "^HEAD ^B^"),
+    ("^A..B", "^A..B"),
+    ("A:b..c", "^A:b..c"),
+    ("A --not B", "^A B"),
+];
+
+#[test]
+fn not_turns_revisions(rt: HostRuntime) -> Result<(), Fail> {
+    let alloc = rt.alloc();
+    for (text, wanted) in TURNED {
+        let words = words_of(
+            alloc,
+            format!(in alloc; "-C . topo T --not {text}")?.as_str(),
+        )?;
+        let Asks::Question(question) = read_arguments(alloc, words.as_slice())? else {
+            return Err(Fail::new("no question"));
+        };
+        let mut said = String::from_str(alloc, "T")?;
+        for asked in question.asked.iter().skip(1) {
+            if let Asked::Word(word) = asked {
+                said.push(' ')?;
+                said.push_str(word.as_str())?;
+            }
+        }
+        if said.as_str().strip_prefix("T ") != Some(*wanted) {
+            return Err(Fail::new(format_args!("{text}: {said}")));
+        }
+    }
+    Ok(())
 }
 
 #[test]

@@ -3,7 +3,7 @@ use crate::fault::Fault;
 use gix_hash::hashtable::IdSet;
 use gix_hash::{Keys, ObjectId};
 use gix_object::Kind;
-use gix_options::{Asked, Misuse, Name, Options, Question};
+use gix_options::{Asked, Misuse, Name, Options, Question, Refs};
 use gix_repository::Repository;
 use gix_revision::{Resolved, Set, resolve, resolve_all};
 use std::alloc::{AllocError, Global};
@@ -152,10 +152,8 @@ where
 {
     match asked {
         Asked::Word(word) => resolve(alloc, repository, word.as_str(), wanted, resolved)?,
-        Asked::All => resolve_all(alloc, repository, Set::All, resolved)?,
-        Asked::Branches => resolve_all(alloc, repository, Set::Branches, resolved)?,
-        Asked::Tags => resolve_all(alloc, repository, Set::Tags, resolved)?,
-        Asked::Remotes => resolve_all(alloc, repository, Set::Remotes, resolved)?,
+        Asked::Refs(refs) => resolve_all(alloc, repository, set_of(*refs), false, resolved)?,
+        Asked::Hidden(refs) => resolve_all(alloc, repository, set_of(*refs), true, resolved)?,
         Asked::Lines => {
             for line in lines {
                 resolve(alloc, repository, line.as_str(), wanted, resolved)?;
@@ -163,6 +161,16 @@ where
         }
     }
     Ok(())
+}
+
+/// The refs of a repository that are asked for.
+fn set_of(refs: Refs) -> Set {
+    match refs {
+        Refs::All => Set::All,
+        Refs::Branches => Set::Branches,
+        Refs::Tags => Set::Tags,
+        Refs::Remotes => Set::Remotes,
+    }
 }
 
 impl Chosen {

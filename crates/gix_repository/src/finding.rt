@@ -17,6 +17,8 @@ pub(crate) const MOST_NAME: usize = 4096;
 /// The most bytes of packed refs.
 const MOST_PACKED: u64 = 1 << 32;
 
+/// What is before the name of a ref that is the main worktree's own.
+const MAIN: &str = "main-worktree/";
 /// What may be before and behind a short name.
 const PLACES: [(&str, &str); 6] = [
     ("", ""),
@@ -82,8 +84,9 @@ where
         self.follow(Target::Name(name), MOST_READS, None)
     }
 
-    /// The first ref that a short name means, in git's order: `N` itself where it is `HEAD` or the like or below `refs/`, and then `refs/N`,
-    /// `refs/tags/N`, `refs/heads/N`, `refs/remotes/N` and `refs/remotes/N/HEAD`. A ref that is damaged is passed over, as in git.
+    /// The first ref that a short name means, in git's order: `N` itself where it is below `refs/`, or `HEAD` or the like of this worktree or,
+    /// as `main-worktree/HEAD` and `worktrees/NAME/HEAD`, of another one, and then `refs/N`, `refs/tags/N`, `refs/heads/N`, `refs/remotes/N`
+    /// and `refs/remotes/N/HEAD`. A ref that is damaged is passed over, as in git.
     ///
     /// # Errors
     ///
@@ -210,14 +213,16 @@ where
         }
     }
 
-    /// The path of the file of a ref, or of a folder of refs. Some refs are this worktree's own.
+    /// The path of the file of a ref, or of a folder of refs. Some refs are this worktree's own, and such refs of the main worktree are in
+    /// the folder that all have in common.
     pub(crate) fn path_of(&self, name: &str) -> Result<String, AllocError> {
-        let folder = if is_of_worktree(name) || is_upper(name) {
-            self.folders.git.as_str()
-        } else {
-            self.folders.common.as_str()
+        let common = self.folders.common.as_str();
+        let (folder, file) = match name.strip_prefix(MAIN) {
+            Some(own) if is_own(own) => (common, own),
+            _ if is_own(name) => (self.folders.git.as_str(), name),
+            _ => (common, name),
         };
-        joined(self.rt.alloc(), folder, name)
+        joined(self.rt.alloc(), folder, file)
     }
 
     /// The id that the packed refs give to a name. Their file is read once, when a name that has no file of its own is asked for first.
@@ -254,9 +259,24 @@ fn keep_broken(first: &mut Option<Fault>, fault: Fault) -> Result<(), Fault> {
     Ok(())
 }
 
-/// Whether a name can be a whole one: it is below `refs/`, or has capitals and underscores alone.
+/// Whether a name can be a whole one: it is below `refs/`, or has capitals and underscores alone, or is a worktree's own ref of any worktree:
+/// `main-worktree/HEAD`, `worktrees/NAME/HEAD` and the like.
 fn is_whole(name: &str) -> bool {
+    if let Some(own) = name.strip_prefix(MAIN) {
+        return is_own(own);
+    }
+    if let Some((_, own)) = name
+        .strip_prefix("worktrees/")
+        .and_then(|rest| rest.split_once('/'))
+    {
+        return is_own(own);
+    }
     name.starts_with("refs/") || (is_upper(name) && !name.contains('-'))
+}
+
+/// Whether a name is that of a worktree's own ref.
+fn is_own(name: &str) -> bool {
+    is_of_worktree(name) || is_upper(name)
 }
 
 /// Whether a name has no other bytes than capitals, underscores and hyphens.

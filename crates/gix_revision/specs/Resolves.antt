@@ -1,5 +1,5 @@
 -- What words mean. Nothing is said of the id that a ref or the first digits of an id mean: the object that it leads to is named by its hash.
-use Rattle.std.specs.Prelude.{◌≡◌, ◌⊎◌, List, [], ◌∷◌, ◌++◌, true, false}
+use Rattle.std.specs.Prelude.{◌≡◌, ◌⊎◌, Bool, List, [], ◌∷◌, ◌++◌, true, false}
 use Rattle.gix_hash.specs.declared.ObjectId.{ObjectId}
 use Rattle.gix_object.specs.declared.Kind.{Kind}
 use Rattle.gix_object.specs.declared.Kind.TheVariants as kind
@@ -51,11 +51,11 @@ IsChosen wanted (revision.Symmetric one other) old new =
 abbrev pub Adds : Target → List Resolved → List Resolved → Type 0
 Adds wanted old new = (word : Revision) × IsChosen wanted word old new
 
--- nothing is added, or a commit
-abbrev pub AddsOne : List Resolved → List Resolved → Type 0
-AddsOne old new = (old ≡ new) ⊎ ((i : ObjectId) × IsOf kind.Commit i × IsPushed (chosen.One i false) old new)
+-- nothing is added, or a commit, which is hidden or not
+abbrev pub AddsOne : Bool → List Resolved → List Resolved → Type 0
+AddsOne hidden old new = (old ≡ new) ⊎ ((i : ObjectId) × IsOf kind.Commit i × IsPushed (chosen.One i hidden) old new)
 
--- commits are added, one after the other
-pub data AddsCommits (old : List Resolved) : List Resolved → Type 0 where
-  nothing : AddsCommits old old
-  more : {new then : List Resolved} → AddsCommits old new → AddsOne new then → AddsCommits old then
+-- commits are added, one after the other, all hidden or none
+pub data AddsCommits (hidden : Bool) (old : List Resolved) : List Resolved → Type 0 where
+  nothing : AddsCommits hidden old old
+  more : {new then : List Resolved} → AddsCommits hidden old new → AddsOne hidden new then → AddsCommits hidden old then

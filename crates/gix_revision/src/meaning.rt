@@ -137,7 +137,7 @@ where
 }
 
 /// Adds the refs of a set that lead to commits, by rising names, and the HEADs behind them. A ref that leads to an object of another
-/// kind is left out.
+/// kind is left out. If `are_hidden`, what each of them reaches is left out, as behind `--not`.
 ///
 /// # Errors
 ///
@@ -146,12 +146,13 @@ pub fn resolve_all<R>(
     alloc: Global,
     repository: &mut Repository<R>,
     set: Set,
+    are_hidden: bool,
     found: &mut Vec<Resolved>,
 ) -> Result<(), Fault>
 where
     R: Files + AllocGlobal + Clone + Drop,
     R::File: FileExt,
-    ensures { OnOk result (AddsCommits found.old.items found.new.items) }
+    ensures { OnOk result (AddsCommits are_hidden found.old.items found.new.items) }
 {
     let prefix = match set {
         Set::All => "refs/",
@@ -164,12 +165,14 @@ where
         return Err(Fault::BrokenRef(name.clone()?));
     }
     for named in listed.refs.iter() {
-        add_commit(alloc, repository, named.name.as_str(), &named.id, found)?;
+        let name = named.name.as_str();
+        add_commit(alloc, repository, name, &named.id, are_hidden, found)?;
     }
     if set == Set::All {
         let heads = repository.heads()?;
         for head in heads.iter() {
-            add_commit(alloc, repository, head.name.as_str(), &head.id, found)?;
+            let name = head.name.as_str();
+            add_commit(alloc, repository, name, &head.id, are_hidden, found)?;
         }
     }
     Ok(())
@@ -181,18 +184,16 @@ fn add_commit<R>(
     repository: &mut Repository<R>,
     name: &str,
     id: &ObjectId,
+    is_hidden: bool,
     found: &mut Vec<Resolved>,
 ) -> Result<(), Fault>
 where
     R: Files + AllocGlobal + Clone + Drop,
     R::File: FileExt,
-    ensures { OnOk result (AddsOne found.old.items found.new.items) }
+    ensures { OnOk result (AddsOne is_hidden found.old.items found.new.items) }
 {
     match peel(alloc, &mut repository.odb, id, Target::Commit) {
-        Ok(id) => {
-            let is_hidden = false;
-            push(alloc, found, name, Chosen::One { id, is_hidden })
-        }
+        Ok(id) => push(alloc, found, name, Chosen::One { id, is_hidden }),
         Err(StepFault::Kind(..)) => Ok(()),
         Err(fault) => Err(fault_of_steps(alloc, name, fault)),
     }

@@ -86,47 +86,47 @@ pub enum Revision<'a> {
     },
 }
 
-/// A form of revisions that git takes and that isn't taken here.
+/// A form of revisions that git takes and that isn't taken here. Its text says what is taken in its place.
 #[derive(Clone, Copy, PartialEq, Eq, Debug, Error)]
 pub enum Form {
     /// `REF@{..}`.
-    #[error("the log of a ref (`@{{..}}`)")]
+    #[error("the log of a ref (`@{{..}}`) isn't taken, but the id that `git reflog` shows is")]
     Log,
     /// `@{-n}`.
-    #[error("the branch that was checked out before (`@{{-n}}`)")]
+    #[error("the branch that was checked out before (`@{{-n}}`) isn't taken, but its name is")]
     Previous,
     /// `BRANCH@{upstream}`, also `@{u}` and `@{push}`.
-    #[error("the upstream of a branch (`@{{upstream}}`)")]
+    #[error("the upstream of a branch (`@{{upstream}}`) isn't taken, but its name is, as `origin/main`")]
     Upstream,
     /// `:/text` and `REV^{/text}`.
-    #[error("a search for a message (`:/text`)")]
+    #[error("a search for a message (`:/text`) isn't taken, but the commit's id is")]
     Message,
     /// `:path` and `:n:path`.
-    #[error("a path in the index (`:path`)")]
+    #[error("a path in the index (`:path`) isn't taken, but files takes `HEAD:path`")]
     Index,
     /// `REV:./path` and `REV:../path`.
-    #[error("a path from the current folder (`:./path`)")]
+    #[error("a path from the current folder (`:./path`) isn't taken, but one from the top is (`:path`)")]
     RelativePath,
     /// `REV:path`, where a commit is wanted.
-    #[error("a path (`:path`) in place of a commit")]
+    #[error("a path (`:path`) isn't taken in place of a commit, but files takes one")]
     Path,
     /// `REV^@`.
-    #[error("all parents of a commit (`^@`)")]
+    #[error("`A^@` isn't taken for all parents of a commit, but `A^1 A^2` is for those of a merge")]
     Parents,
     /// `REV^!`.
-    #[error("a commit without its parents (`^!`)")]
+    #[error("`A^!` isn't taken for a commit without its parents, but `A ^A^1` is, and `A ^A^1 ^A^2` for a merge")]
     Alone,
     /// `REV^-` and `REV^-n`.
-    #[error("a commit without one of its parents (`^-`)")]
+    #[error("`A^-` isn't taken for a commit without one of its parents, but `A^..A` is")]
     WithoutParent,
     /// Words with `*`, `?` or `[`.
-    #[error("a pattern")]
+    #[error("a pattern isn't taken, but --branches, --tags, --remotes and --all are")]
     Pattern,
     /// `v1-3-gabc`, as `git describe` writes it.
-    #[error("what `git describe` writes")]
+    #[error("what `git describe` writes isn't taken, but the digits behind its `-g` are")]
     Described,
     /// `A..B` and `A...B`, where one tree is wanted.
-    #[error("a range in place of a tree")]
+    #[error("a range isn't taken in place of a tree")]
     Range,
 }
 
@@ -134,7 +134,7 @@ pub enum Form {
 #[derive(Clone, Copy, PartialEq, Eq, Debug, Error)]
 pub enum ParseFault {
     /// The word is of this form.
-    #[error("{0} isn't taken")]
+    #[error("{0}")]
     NotTaken(Form),
     /// Nothing is in front of the steps.
     #[error("it names nothing")]

@@ -10,7 +10,7 @@ use gix_gather::{Gathering, Order};
 use gix_hash::Keys;
 use gix_hash::hashtable::IdSet;
 use gix_odb::Front;
-use gix_options::{Asked, Name, Place, Question, read_lines};
+use gix_options::{Asked, Name, Options, Place, Question, read_lines};
 use gix_questions::{Chosen, choose_from, resolve_words};
 use gix_records::{NamedObjects, READS, read_to_end};
 use gix_repository::Repository;
@@ -124,15 +124,25 @@ pub(crate) fn answer_from<W: Write>(
             status,
             rows: asking.rows,
         }),
-        Err(failure) => Err(missing_of_clone(repository, failure)),
+        Err(failure) => Err(missing_of_clone(repository, &question.options, failure)),
     }
 }
 
-/// The failure, where what isn't there of a shallow or partial clone is called so.
-fn missing_of_clone(repository: &Repository<HostRuntime>, failure: Failure) -> Failure {
+/// The failure, where what isn't there of a shallow or partial clone is called so. `--border` is named where it isn't given and goes with
+/// what is.
+fn missing_of_clone(
+    repository: &Repository<HostRuntime>,
+    options: &Options,
+    failure: Failure,
+) -> Failure {
+    let border = if options.takes_border || options.give_text() {
+        ""
+    } else {
+        "--border takes its border as the beginning, "
+    };
     match &failure {
         Failure::Command(Fault::Missing(id)) if !repository.shallow().is_empty() => {
-            Failure::Shallow(*id)
+            Failure::Shallow(*id, border)
         }
         Failure::Command(Fault::Missing(id)) if repository.is_partial() => Failure::Partial(*id),
         _ => failure,

@@ -51,9 +51,9 @@ pub(crate) enum Failure {
     /// The repository has no commit.
     #[error("no commit yet")]
     NoCommit,
-    /// A shallow clone doesn't have this object.
-    #[error("missing {0}: the clone is shallow, and its history ends here. --border takes its border as the beginning, git fetch --unshallow fetches the rest")]
-    Shallow(ObjectId),
+    /// A shallow clone doesn't have this object. Behind it is what `--border` does, where it may be given.
+    #[error("missing {0}: the clone is shallow, and its history ends here. {1}git fetch --unshallow fetches the rest")]
+    Shallow(ObjectId, &'static str),
     /// A partial clone doesn't have this object.
     #[error("missing {0}: the clone is partial, and nothing is fetched here. git fetch --refetch --no-filter fetches what is missing")]
     Partial(ObjectId),
@@ -77,7 +77,7 @@ impl Drop for Failure {
             Failure::Repository(_) | Failure::Revision(_) => {}
             Failure::Lacking(_, _) => {}
             Failure::Graph(_) | Failure::Layer(_) | Failure::Certificate(_) => {}
-            Failure::NoCommit | Failure::Shallow(_) | Failure::Partial(_) => {}
+            Failure::NoCommit | Failure::Shallow(_, _) | Failure::Partial(_) => {}
             Failure::Differs | Failure::NoGraph => {}
         }
     }

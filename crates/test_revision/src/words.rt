@@ -154,43 +154,70 @@ fn forms_that_are_not_taken(rt: HostRuntime) -> Result<(), Fail> {
     check(
         &rt,
         &[
-            ("main@{1}", "the log of a ref (`@{..}`) isn't taken"),
-            ("@{yesterday}", "the log of a ref (`@{..}`) isn't taken"),
+            (
+                "main@{1}",
+                "the log of a ref (`@{..}`) isn't taken, but the id that `git reflog` shows is",
+            ),
+            (
+                "@{yesterday}",
+                "the log of a ref (`@{..}`) isn't taken, but the id that `git reflog` shows is",
+            ),
             (
                 "@{-1}",
-                "the branch that was checked out before (`@{-n}`) isn't taken",
+                "the branch that was checked out before (`@{-n}`) isn't taken, but its name is",
             ),
             (
                 "main@{upstream}",
-                "the upstream of a branch (`@{upstream}`) isn't taken",
+                "the upstream of a branch (`@{upstream}`) isn't taken, but its name is, as `origin/main`",
             ),
             (
                 "@{u}~2",
-                "the upstream of a branch (`@{upstream}`) isn't taken",
+                "the upstream of a branch (`@{upstream}`) isn't taken, but its name is, as `origin/main`",
             ),
-            (":/text", "a search for a message (`:/text`) isn't taken"),
+            (
+                ":/text",
+                "a search for a message (`:/text`) isn't taken, but the commit's id is",
+            ),
             (
                 "HEAD^{/a..b}",
-                "a search for a message (`:/text`) isn't taken",
+                "a search for a message (`:/text`) isn't taken, but the commit's id is",
             ),
-            (":README", "a path in the index (`:path`) isn't taken"),
-            (":0:README", "a path in the index (`:path`) isn't taken"),
+            (
+                ":README",
+                "a path in the index (`:path`) isn't taken, but files takes `HEAD:path`",
+            ),
+            (
+                ":0:README",
+                "a path in the index (`:path`) isn't taken, but files takes `HEAD:path`",
+            ),
             (
                 "HEAD:./a",
-                "a path from the current folder (`:./path`) isn't taken",
+                "a path from the current folder (`:./path`) isn't taken, but one from the top is (`:path`)",
             ),
             (
                 "HEAD:../a",
-                "a path from the current folder (`:./path`) isn't taken",
+                "a path from the current folder (`:./path`) isn't taken, but one from the top is (`:path`)",
             ),
-            ("HEAD^@", "all parents of a commit (`^@`) isn't taken"),
-            ("HEAD^!", "a commit without its parents (`^!`) isn't taken"),
+            (
+                "HEAD^@",
+                "`A^@` isn't taken for all parents of a commit, but `A^1 A^2` is for those of a merge",
+            ),
+            (
+                "HEAD^!",
+                "`A^!` isn't taken for a commit without its parents, but `A ^A^1` is, and `A ^A^1 ^A^2` for a merge",
+            ),
             (
                 "HEAD^-2",
-                "a commit without one of its parents (`^-`) isn't taken",
+                "`A^-` isn't taken for a commit without one of its parents, but `A^..A` is",
             ),
-            ("ma*n", "a pattern isn't taken"),
-            ("ma[i]n~1", "a pattern isn't taken"),
+            (
+                "ma*n",
+                "a pattern isn't taken, but --branches, --tags, --remotes and --all are",
+            ),
+            (
+                "ma[i]n~1",
+                "a pattern isn't taken, but --branches, --tags, --remotes and --all are",
+            ),
         ],
     )?;
     Ok(())

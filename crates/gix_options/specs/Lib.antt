@@ -1,0 +1,2 @@
+-- Revisions behind `--not`.
+pub mod Turning

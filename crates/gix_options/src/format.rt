@@ -1,0 +1,51 @@
+//! What is wrong with a format.
+use crate::Misuse;
+use std::alloc::{AllocError, Global};
+
+/// The most bytes of a format.
+const MOST: usize = 128;
+
+/// Why a text is no format that a line may have: it is empty, or too long, or else its first field that isn't known.
+pub(crate) fn format_fault(alloc: Global, text: &str) -> Result<Option<Misuse>, AllocError> {
+    if text.is_empty() {
+        return Ok(Some(Misuse::NoFormat));
+    }
+    if text.len() > MOST {
+        return Ok(Some(Misuse::LongFormat(text.len())));
+    }
+    match unknown_field(text) {
+        Some(field) => Ok(Some(Misuse::Field(String::from_str(alloc, field)?))),
+        None => Ok(None),
+    }
+}
+
+/// The first `%` of a text with what follows it, where that is no field.
+fn unknown_field(text: &str) -> Option<&str> {
+    let mut left = text;
+    for _ in 0..text.len() {
+        let (_, behind) = left.split_once('%')?;
+        left = match behind.as_bytes() {
+            [b'%' | b'n' | b'H' | b'h' | b'T' | b'P' | b's', ..] => behind.get(1..)?,
+            [b'a', b'n' | b'e', ..] | [b'c', b't' | b'i', ..] => behind.get(2..)?,
+            _ => return Some(field_at(left, behind)),
+        };
+    }
+    None
+}
+
+/// The `%` before the end of a text, and one letter behind it, or two where git's fields have two.
+fn field_at<'a>(text: &'a str, behind: &str) -> &'a str {
+    let begin = text.len().saturating_sub(behind.len()).saturating_sub(1);
+    let field = text.get(begin..).unwrap_or_default();
+    let mut letters = behind.chars();
+    let mut len = 1usize;
+    if let Some(first) = letters.next() {
+        len = len.saturating_add(first.len_utf8());
+        if let 'a' | 'c' | 'g' | 'G' | 'C' | 'x' = first {
+            if let Some(second) = letters.next() {
+                len = len.saturating_add(second.len_utf8());
+            }
+        }
+    }
+    field.get(..len).unwrap_or(field)
+}
