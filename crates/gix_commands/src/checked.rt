@@ -1,5 +1,6 @@
 //! A walk by time that goes on only where parents are there.
-ghost use Rattle.std.specs.Prelude.{◌≡◌, ◌≢◌, None, Some};
+ghost use Rattle.std.specs.Prelude.{◌≡◌, ◌≢◌, None, Some, MatchBool};
+ghost use Rattle.gix_commitgraph.specs.Rows.{row_of};
 ghost use Rattle.gix_revwalk.specs.Agreeing.{rows_in};
 ghost use Rattle.gix_graph_store.specs.WithRows.{with_rows};
 ghost use Rattle.gix_commands.specs.Checked.{HasRows, Looks, lost_at};
@@ -78,12 +79,19 @@ impl<'a> Checked<'a> {
         }
     }
 
+    /// Whether this commit has a row.
+    fn has_row(&self, id: &ObjectId) -> bool
+        ensures { MatchBool result (row_of self.now.rows id.now ≢ None) (row_of self.now.rows id.now ≡ None) }
+    {
+        has_row(self.graph, id)
+    }
+
     /// Why this commit isn't there, if it isn't.
     fn look_at(&mut self, id: &ObjectId) -> Option<Fault>
         ensures looks { result ≢ Some Fault.Memory → result ≡ lost_at self.old.objects self.old.rows id.now }
         ensures kept { self.new ≡ self.old }
     {
-        if has_row(self.graph, id) {
+        if self.has_row(id) {
             return None;
         }
         let items = match self.objects.find_commit_iter(id, &mut self.text) {

@@ -116,7 +116,7 @@ impl<'a> Chooser<'a> {
         ensures text { OnOk result (HasTextIn self.old id.now) }
         ensures err { IfErr result (λ e. (e ≡ Fault.Memory) ⊎ ((e ≡ Fault.Missing id.now) × (HasTextIn self.old id.now → ⊥))) }
     {
-        if !self.has_text(id)? {
+        if self.lacks_text(id)? {
             return Err(Fault::Missing(*id));
         }
         if !self.keeps(id)? {
@@ -132,17 +132,17 @@ impl<'a> Chooser<'a> {
         Ok(true)
     }
 
-    /// Whether a commit has the text that a format needs. A row has none.
-    fn has_text(&mut self, id: &ObjectId) -> Result<bool, Fault>
-        ensures ok { IfOk result (λ h. MatchBool h (HasTextIn self.old id.now) (HasTextIn self.old id.now → ⊥)) }
-        ensures same { self.new ≡ self.old }
+    /// Whether a commit lacks the text that a format needs. A row has none.
+    fn lacks_text(&self, id: &ObjectId) -> Result<bool, Fault>
+        ensures ok { IfOk result (λ l. MatchBool l (HasTextIn self.now id.now → ⊥) (HasTextIn self.now id.now)) }
         ensures err { IfErr result (λ e. e ≡ Fault.Memory) }
     {
         if self.shown.line.format.is_empty() || !has_row(self.graph, id) {
-            return Ok(true);
+            return Ok(false);
         }
-        match self.store.find_into(id, &mut self.text) {
-            Ok(found) => Ok(found.is_some()),
+        let mut text = Vec::new(self.alloc);
+        match self.store.find_into(id, &mut text) {
+            Ok(found) => Ok(found.is_none()),
             Err(_) => Err(Fault::Memory),
         }
     }

@@ -173,6 +173,17 @@ impl Gathering {
         if self.is_known(&id) {
             return Ok(false);
         }
+        self.read_alone(odb, id)
+    }
+
+    /// Reads the object of an id that isn't known, and nothing by way of it. Whether there is such an object.
+    fn read_alone<R>(&mut self, odb: &mut Odb<R>, id: ObjectId) -> Result<bool, Fault>
+    where
+        R: Files + AllocGlobal + Clone + Drop,
+        R::File: FileExt,
+        requires { map.get self.old id ≡ None }
+        ensures { IsWithin self.old self.new }
+    {
         let Some(kind) = read_named(odb, &id, &mut self.object)? else {
             self.absent.insert(id)?;
             return Ok(false);

@@ -172,13 +172,12 @@ with a name that is empty or holds a slash.
   --count      writes the number of these lines and not the lines, whatever their order
   --timestamp  writes the committer's seconds and a space before each id, in the first five commands
   --parents    writes behind each id a space and the id of each parent, as the commit names them, in the first five commands
-  --oneline    writes behind these a space and the commit's subject, in the first five commands; no commit-graph has subjects, so all
-               commits are read themselves. Not with --border
+  --oneline    writes behind these a space and the commit's subject, in the first five commands. Not with --border
   --format FORMAT
                writes on each line of the first five commands, in place of the id, a format of at most 128 bytes. In it %H stands for
                the id and %h for its first ten digits, %T for the tree's id, %P for the parents' ids, %s for the subject, %an and
                %ae for the author's name and address, %ct and %ci for the committer's time, in seconds and as a date, %n for a
-               newline, and %% for %. All commits are read themselves. Not with --oneline, --parents, --timestamp and --border
+               newline, and %% for %. Not with --oneline, --parents, --timestamp and --border
   --names      writes behind each id of contains and containing a space and the revision as it was given, or the name of
                the ref
   --first-parent
