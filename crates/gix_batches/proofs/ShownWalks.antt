@@ -144,7 +144,7 @@ module _ (objects : Objects) (agrees : IsAgreeing objects []) (read : AreRead ob
     ended_good infos ends whole =
         let d = by_drawn Answers IsWalkFault walk infos limit (Ok tt) ends in
         good true infos d.0 d.1
-        (simple.ended_so objects [] agrees m by tips hidden some (simple_there objects [] agrees read Any (page_objects objects) [] (itself (page_objects objects)) None (Commits (Simple m by) shown_all tips hidden) have m by shown_all tips hidden refl) Any (page_objects objects) [] (itself (page_objects objects)) name option rest named chosen_by shown_all place chooses limit refl walk starts infos (λ info c e. tt)
+        (simple.ended_so objects [] agrees m by tips hidden some (simple_there objects [] agrees read Any (page_objects objects) [] (itself (page_objects objects)) None (Commits (Simple m by) shown_all tips hidden) have m by shown_all tips hidden refl) Any (page_objects objects) [] (itself (page_objects objects)) name option rest named chosen_by shown_all place chooses Any limit refl walk starts infos (λ info c e. tt)
         (subst (λ (those : List Info → List ObjectId). EndsBy Answers IsWalkFault Any those limit walk infos (Ok tt)) (sym kept_so) ends) (subst (λ n. GoesOnWhole objects [] by limit n infos) (sym (number_so infos)) whole))
 
     begun_good : (infos : List Info) (last : Walk) → Yields Answers walk (given infos) last → Allows limit (length infos) → (by ≢ sorting.BreadthFirst → HaveParents objects [] (take (length infos - 1) infos)) → Good false infos
@@ -190,7 +190,7 @@ module _ (objects : Objects) (agrees : IsAgreeing objects []) (read : AreRead ob
     down_ended : (infos : List Info) → EndsBy topo.Answers topo.IsWalkFault Any ids_given limit walk infos (Ok tt) → Good true infos
     down_ended infos ends =
         let d = by_drawn topo.Answers topo.IsWalkFault walk infos limit (Ok tt) ends in
-        good_down true infos d.0 d.1 (down.ended_so objects [] agrees m by tips hidden some (down_there objects [] agrees read Any (page_objects objects) [] (itself (page_objects objects)) None (Commits (Topo m by) shown_all tips hidden) have) (read m by tips hidden) Any (page_objects objects) [] (itself (page_objects objects)) walk built name option rest named chosen shown_all place chooses limit refl infos (λ info c e. tt)
+        good_down true infos d.0 d.1 (down.ended_so objects [] agrees m by tips hidden some (down_there objects [] agrees read Any (page_objects objects) [] (itself (page_objects objects)) None (Commits (Topo m by) shown_all tips hidden) have) (read m by tips hidden) Any (page_objects objects) [] (itself (page_objects objects)) walk built name option rest named chosen shown_all place chooses Any limit refl infos (λ info c e. tt)
         (subst (λ (those : List Info → List ObjectId). EndsBy topo.Answers topo.IsWalkFault Any those limit walk infos (Ok tt)) (sym kept_so) ends))
 
     down_begun : (infos : List Info) (at : topo.Walk) → Yields topo.Answers walk (given infos) at → Allows limit (length infos) → Good false infos

@@ -233,12 +233,12 @@ module _ (objects : Objects) (rows : List GraphRow) (agrees : IsAgreeing objects
         first_each ended may walk starts ids more l (read_begun walk starts every info infos last drawn parents more l) (ids_stored Stored (page_choice shown) (info ∷ infos) stored) allows (λ one_more. absurd (none one_more))
 
     -- what a run of it lists that ends well
-    pub ended_so : {Has : ObjectId → Type 0} (limit : Option ℕ) → shown.limit ≡ limit → (walk : Walk) → StartsFrom objects rows m by tips hidden walk → (infos : List Info) → HaveText infos → EndsBy Answers IsWalkFault Has (kept_in objects shown) limit walk infos (Ok tt)
+    pub ended_so : (Has : ObjectId → Type 0) (limit : Option ℕ) → shown.limit ≡ limit → (walk : Walk) → StartsFrom objects rows m by tips hidden walk → (infos : List Info) → HaveText infos → EndsBy Answers IsWalkFault Has (kept_in objects shown) limit walk infos (Ok tt)
         → GoesOnWhole objects rows by limit (length (kept_in objects shown infos)) infos → AreListed true (ids_in infos)
-    ended_so None is walk starts infos stored ends parents = ended_each walk starts infos stored ends parents (allows_all shown.limit _ is)
-    ended_so (Some n) is walk starts infos stored (before ends less) parents =
+    ended_so Has None is walk starts infos stored ends parents = ended_each walk starts infos stored ends parents (allows_all shown.limit _ is)
+    ended_so Has (Some n) is walk starts infos stored (before ends less) parents =
         ended_each walk starts infos stored ends (λ other. subst (HaveParents objects rows) (less_on objects rows n (length (kept_in objects shown infos)) infos less) (parents other)) (allows_least shown.limit _ n is (omega (arith, less)))
-    ended_so (Some n) is walk starts infos stored (enough at drawn e) parents =
+    ended_so Has (Some n) is walk starts infos stored (enough at drawn e) parents =
         drawn_each true (inl refl) walk starts infos stored at drawn (λ other. subst (HaveParents objects rows) (enough_on objects rows n (length (kept_in objects shown infos)) infos e) (parents other)) (allows_least shown.limit _ n is (omega (arith, e)))
         (λ one_more. no_more shown.limit (length (kept_in objects shown infos)) n is e one_more.1)
 
@@ -274,10 +274,10 @@ module _ (objects : Objects) (rows : List GraphRow) (agrees : IsAgreeing objects
       failed_each lines walk starts infos stored (cut_short info last h) fails more parents written = begun_each lines walk starts infos stored h.0 h.1 more (λ other. fewer_parents (length infos - 1) infos (parents other)) written
       failed_each lines walk starts infos stored (unstored info last h none) fails more parents written = begun_each lines walk starts infos stored h.0 h.1 more (λ other. fewer_parents (length infos - 1) infos (parents other)) written
 
-      pub failed_run : page_form shown.form ≡ page.Lines → (walk : Walk) → StartsFrom objects rows m by tips hidden walk → {Has : ObjectId → Type 0} (infos : List Info) → HaveText infos → (e : Fault) (limit : Option ℕ) → shown.limit ≡ limit → EndsBy Answers IsWalkFault Has (kept_in objects shown) limit walk infos (Err e)
+      pub failed_run : (Has : ObjectId → Type 0) → page_form shown.form ≡ page.Lines → (walk : Walk) → StartsFrom objects rows m by tips hidden walk → (infos : List Info) → HaveText infos → (e : Fault) (limit : Option ℕ) → shown.limit ≡ limit → EndsBy Answers IsWalkFault Has (kept_in objects shown) limit walk infos (Err e)
           → GoesOnWhole objects rows by limit (length (kept_in objects shown infos)) infos → Appends old new (bytes_of (ids_in infos)) → IsWritten false
-      failed_run lines walk starts infos stored e None is ends parents written = failed_each lines walk starts infos stored ends (λ s. cc) (subst (λ l. AsksForMore l (length (kept_in objects shown infos))) (sym is) tt) parents written
-      failed_run lines walk starts infos stored e (Some n) is (before ends less) parents written =
+      failed_run Has lines walk starts infos stored e None is ends parents written = failed_each lines walk starts infos stored ends (λ s. cc) (subst (λ l. AsksForMore l (length (kept_in objects shown infos))) (sym is) tt) parents written
+      failed_run Has lines walk starts infos stored e (Some n) is (before ends less) parents written =
           failed_each lines walk starts infos stored ends (λ s. cc) (subst (λ l. AsksForMore l (length (kept_in objects shown infos))) (sym is) less)
           (λ late. subst (HaveParents objects rows) (less_on objects rows n (length (kept_in objects shown infos)) infos less) (parents late)) written
 
@@ -286,11 +286,11 @@ module _ (objects : Objects) (rows : List GraphRow) (agrees : IsAgreeing objects
       (shown : Shown) (place : ℕ) (chooses : Chooses tips hidden place words (page_choice shown)) where
     pub simple_right : (answer : Result (Unit {0}) Fault) (new : Option (List ℕ)) → Serves Stored objects rows old (Commits (Simple m by) shown tips hidden) answer new → IsRight (page_objects objects) given_objects given_rows (name ∷ (option ++ words)) old answer new
     simple_right (Ok tt) new (walked walk infos starts ends stored parents written) =
-        written_so name option words named chosen_by shown place chooses old new true infos (ended_so name option words named chosen_by shown place chooses shown.limit refl walk starts infos stored ends parents)
+        written_so name option words named chosen_by shown place chooses old new true infos (ended_so name option words named chosen_by shown place chooses (HasText Stored shown) shown.limit refl walk starts infos stored ends parents)
         (ended_bytes (line_in objects shown) shown.form (kept_in objects shown infos) old new written)
     simple_right (Err e) new (walked walk infos starts ends stored parents written) = ⊎_elim
         (λ same. inl same)
-        (λ lines. begun_right (page_objects objects) given_objects given_rows (name ∷ (option ++ words)) old e new (failed_run name option words named chosen_by shown place chooses old new lines.0 walk starts infos stored e shown.limit refl ends parents lines.1))
+        (λ lines. begun_right (page_objects objects) given_objects given_rows (name ∷ (option ++ words)) old e new (failed_run name option words named chosen_by shown place chooses old new (HasText Stored shown) lines.0 walk starts infos stored e shown.limit refl ends parents lines.1))
         (begun_bytes (line_in objects shown) shown.form e (kept_in objects shown infos) old new written)
     simple_right (Err e) new (lost walk at infos late starts drawn more lacks stored written) =
         let place_is : take (length infos - 1) infos ≡ lacks.before =

@@ -89,10 +89,10 @@ module _ (objects : Objects) (rows : List GraphRow) (agrees : IsAgreeing objects
           down_so ended may ids more (subst IsList (sym (take-append-drop (length ids) f.0) ∙ ap (λ xs. xs ++ more) f.2) f.1) (ids_stored Stored (page_choice shown) infos stored) allows (λ one_more. absurd (none one_more))
 
       -- what a run of it lists that ends well
-      pub ended_so : {Has : ObjectId → Type 0} (limit : Option ℕ) → shown.limit ≡ limit → (infos : List Info) → HaveText infos → EndsBy Answers IsWalkFault Has (kept_in objects shown) limit walk infos (Ok tt) → AreListed true (ids_in infos)
-      ended_so None is infos stored drawn = whole_run infos stored drawn (allows_all shown.limit _ is)
-      ended_so (Some n) is infos stored (before drawn less) = whole_run infos stored drawn (allows_least shown.limit _ n is (omega (arith, less)))
-      ended_so (Some n) is infos stored (enough at drawn e) =
+      pub ended_so : (Has : ObjectId → Type 0) (limit : Option ℕ) → shown.limit ≡ limit → (infos : List Info) → HaveText infos → EndsBy Answers IsWalkFault Has (kept_in objects shown) limit walk infos (Ok tt) → AreListed true (ids_in infos)
+      ended_so Has None is infos stored drawn = whole_run infos stored drawn (allows_all shown.limit _ is)
+      ended_so Has (Some n) is infos stored (before drawn less) = whole_run infos stored drawn (allows_least shown.limit _ n is (omega (arith, less)))
+      ended_so Has (Some n) is infos stored (enough at drawn e) =
           first_run true (inl refl) infos stored at drawn (allows_least shown.limit _ n is (omega (arith, e))) (λ one_more. no_more shown.limit (length (kept_in objects shown infos)) n is e one_more.1)
 
       -- and one that was drawn so far
@@ -119,20 +119,20 @@ module _ (objects : Objects) (rows : List GraphRow) (agrees : IsAgreeing objects
         failed_run lines infos stored (cut_short info last h) fails more written = begun_run lines infos stored h.0 h.1 more written
         failed_run lines infos stored (unstored info last h none) fails more written = begun_run lines infos stored h.0 h.1 more written
 
-        pub stopped_run : page_form shown.form ≡ page.Lines → {Has : ObjectId → Type 0} (infos : List Info) → HaveText infos → (e : Fault) (limit : Option ℕ) → shown.limit ≡ limit → EndsBy Answers IsWalkFault Has (kept_in objects shown) limit walk infos (Err e) → Appends old new (bytes_of (ids_in infos)) → IsWritten false
-        stopped_run lines infos stored e None is drawn written = failed_run lines infos stored drawn (λ s. cc) (subst (λ l. AsksForMore l (length (kept_in objects shown infos))) (sym is) tt) written
-        stopped_run lines infos stored e (Some n) is (before drawn less) written = failed_run lines infos stored drawn (λ s. cc) (subst (λ l. AsksForMore l (length (kept_in objects shown infos))) (sym is) less) written
+        pub stopped_run : (Has : ObjectId → Type 0) → page_form shown.form ≡ page.Lines → (infos : List Info) → HaveText infos → (e : Fault) (limit : Option ℕ) → shown.limit ≡ limit → EndsBy Answers IsWalkFault Has (kept_in objects shown) limit walk infos (Err e) → Appends old new (bytes_of (ids_in infos)) → IsWritten false
+        stopped_run Has lines infos stored e None is drawn written = failed_run lines infos stored drawn (λ s. cc) (subst (λ l. AsksForMore l (length (kept_in objects shown infos))) (sym is) tt) written
+        stopped_run Has lines infos stored e (Some n) is (before drawn less) written = failed_run lines infos stored drawn (λ s. cc) (subst (λ l. AsksForMore l (length (kept_in objects shown infos))) (sym is) less) written
 
   -- whatever a run of it answers, what it wrote is right
   module _ (old : Option (List ℕ)) (name : List ℕ) (option words : List (List ℕ)) (named : IsNameOf name (Topo m by)) (picked : IsOptionOf option (Topo m by))
       (shown : Shown) (place : ℕ) (chooses : Chooses tips ends place words (page_choice shown)) where
     pub topo_right : (answer : Result (Unit {0}) Fault) (new : Option (List ℕ)) → Serves Stored objects rows old (Commits (Topo m by) shown tips ends) answer new → IsRight (page_objects objects) given_objects given_rows (name ∷ (option ++ words)) old answer new
     topo_right (Ok tt) new (walked_down walk infos built drawn stored written) =
-        written_so walk built name option words named picked shown place chooses old new true infos (ended_so walk built name option words named picked shown place chooses shown.limit refl infos stored drawn)
+        written_so walk built name option words named picked shown place chooses old new true infos (ended_so walk built name option words named picked shown place chooses (HasText Stored shown) shown.limit refl infos stored drawn)
         (ended_bytes (line_in objects shown) shown.form (kept_in objects shown infos) old new written)
     topo_right (Err e) new (walked_down walk infos built drawn stored written) = ⊎_elim
         (λ same. inl same)
-        (λ lines. begun_right (page_objects objects) given_objects given_rows (name ∷ (option ++ words)) old e new (stopped_run walk built name option words named picked shown place chooses old new lines.0 infos stored e shown.limit refl drawn lines.1))
+        (λ lines. begun_right (page_objects objects) given_objects given_rows (name ∷ (option ++ words)) old e new (stopped_run walk built name option words named picked shown place chooses old new (HasText Stored shown) lines.0 infos stored e shown.limit refl drawn lines.1))
         (begun_bytes (line_in objects shown) shown.form e (kept_in objects shown infos) old new written)
     topo_right (Err e) new (not_built why h) = inl refl
     topo_right (Err e) new unserved = inl refl

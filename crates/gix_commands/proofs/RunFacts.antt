@@ -59,15 +59,15 @@ topo_ends_sound {walk = walk} agreeing (failed e f new h is) = λ same. drawn_so
 topo_ends_sound agreeing (cut_short info new h) = λ e. cc
 topo_ends_sound agreeing (unstored info new h none) = λ e. cc
 
-by_sound : {Has : ObjectId → Type 0} (those : List Info → List ObjectId) (limit : Option ℕ) (walk : Walk) (infos : List Info) {answer : Result (Unit {0}) Fault} → EndsBy Answers IsWalkFault Has those limit walk infos answer → answer ≢ Err fault.Internal
-by_sound those None walk infos ends = ends_sound ends
-by_sound those (Some n) walk infos (enough at h e) = λ e. cc
-by_sound those (Some n) walk infos (before ends less) = ends_sound ends
+by_sound : (Has : ObjectId → Type 0) (those : List Info → List ObjectId) (limit : Option ℕ) (walk : Walk) (infos : List Info) {answer : Result (Unit {0}) Fault} → EndsBy Answers IsWalkFault Has those limit walk infos answer → answer ≢ Err fault.Internal
+by_sound Has those None walk infos ends = ends_sound ends
+by_sound Has those (Some n) walk infos (enough at h e) = λ e. cc
+by_sound Has those (Some n) walk infos (before ends less) = ends_sound ends
 
-topo_by_sound : {Has : ObjectId → Type 0} (those : List Info → List ObjectId) (limit : Option ℕ) (walk : topo.Walk) (infos : List Info) {answer : Result (Unit {0}) Fault} → IsAgreeing walk.plan.store walk.plan.rows → EndsBy topo.Answers topo.IsWalkFault Has those limit walk infos answer → answer ≢ Err fault.Internal
-topo_by_sound those None walk infos agreeing ends = topo_ends_sound agreeing ends
-topo_by_sound those (Some n) walk infos agreeing (enough at h e) = λ e. cc
-topo_by_sound those (Some n) walk infos agreeing (before ends less) = topo_ends_sound agreeing ends
+topo_by_sound : (Has : ObjectId → Type 0) (those : List Info → List ObjectId) (limit : Option ℕ) (walk : topo.Walk) (infos : List Info) {answer : Result (Unit {0}) Fault} → IsAgreeing walk.plan.store walk.plan.rows → EndsBy topo.Answers topo.IsWalkFault Has those limit walk infos answer → answer ≢ Err fault.Internal
+topo_by_sound Has those None walk infos agreeing ends = topo_ends_sound agreeing ends
+topo_by_sound Has those (Some n) walk infos agreeing (enough at h e) = λ e. cc
+topo_by_sound Has those (Some n) walk infos agreeing (before ends less) = topo_ends_sound agreeing ends
 
 lost_sound : (objects : Objects) (rows : List GraphRow) (ids : List ObjectId) (why : Fault) → (why ≢ fault.Memory → first_lost objects rows ids ≡ Some why) → why ≢ fault.Internal
 lost_sound objects rows ids why h same =
@@ -75,10 +75,10 @@ lost_sound objects rows ids why h same =
     lost_so (λ e. e ≢ fault.Internal) (λ i e. cc) (λ i e. cc) (λ e. cc) objects rows ids why (h (λ m. internal (sym same ∙ m))) same
 
 pub serves_sound : {Stored : ObjectId → Type 0} {objects : Objects} {rows : List GraphRow} {old new : Option (List ℕ)} {request : Request} {answer : Result (Unit {0}) Fault} → IsAgreeing objects rows → Serves Stored objects rows old request answer new → answer ≢ Err fault.Internal
-serves_sound {objects = objects} agreeing (walked {shown = shown} walk infos s ends have whole a) = by_sound (kept_in objects shown) shown.limit walk infos ends
+serves_sound {Stored = Stored} {objects = objects} agreeing (walked {shown = shown} walk infos s ends have whole a) = by_sound (HasText Stored shown) (kept_in objects shown) shown.limit walk infos ends
 serves_sound {objects = objects} {rows = rows} agreeing (run.lost walk at infos {why = why} by s h more l have a) = λ same. lost_sound objects rows l.last.parent_ids.items why l.lacks (err_same same)
 serves_sound agreeing (not_walked why f) = λ same. start_sound f (err_same same)
-serves_sound {objects = objects} agreeing (walked_down {shown = shown} walk infos built ends have a) = topo_by_sound (kept_in objects shown) shown.limit walk infos (built_agreeing built agreeing) ends
+serves_sound {Stored = Stored} {objects = objects} agreeing (walked_down {shown = shown} walk infos built ends have a) = topo_by_sound (HasText Stored shown) (kept_in objects shown) shown.limit walk infos (built_agreeing built agreeing) ends
 serves_sound {objects = objects} {rows = rows} agreeing (not_built {parents = m} {by = by} {tips = tips} {ends = ends} why h) = λ same. build_sound objects rows agreeing m by tips ends why h (err_same same)
 serves_sound {objects = objects} agreeing (not_listed recorder why r) = λ same. tree_sound objects r (err_same same)
 serves_sound agreeing (not_ahead f) = ends_sound f.1.ends

@@ -183,7 +183,7 @@ module _ (objects : Objects) (tips hiders : List ObjectId) (whole : AreWhole obj
   drawn_well each rows agreeing ms by walk starts infos answer (finished new h) = tt
   drawn_well each rows agreeing ms by walk starts infos answer (failed e f new h is) = subst IsOutside (sym is) (called h.2 (drawn infos walk h.0 h.1 (begins rows agreeing ms by walk starts)) (next_sound h.2))
   drawn_well each rows agreeing ms by walk starts infos answer (cut_short info new h) = tt
-  drawn_well each rows agreeing ms by walk starts infos answer (unstored info new h none) = absurd (none (each info.id))
+  drawn_well each rows agreeing ms by walk starts infos answer (unstored info new h lacks) = absurd (lacks (each info.id))
 
   pub started_well : (by : Sorting) (e : Error) → FailsAtStart objects by tips e → IsOutside (fault_of_walk e)
   started_well by e f = go e f.fails.fault

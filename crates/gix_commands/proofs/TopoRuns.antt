@@ -107,7 +107,7 @@ module _ (objects : Objects) (rows : List GraphRow) (agree : IsAgreeing objects 
         subst (λ plan. (taken : set.FinSet id_cmp) × (c : ObjectId) × IsFault objects_of never_faulty plan (IsNextReady objects_of plan taken c) e) (yields_plan walk h.0 (all_given infos) h.1 ∙ built.0.plan) (next_says h.2) in
         subst IsOutside (sym is) (outside (IsNextReady objects_of (plan_from objects rows m by tips ends) says.0 says.1) e says.2)
     drawn_outside each infos answer (cut_short info new h) = tt
-    drawn_outside each infos answer (unstored info new h none) = absurd (none (each info.id))
+    drawn_outside each infos answer (unstored info new h lacks) = absurd (lacks (each info.id))
 
   module _ (Stored : ObjectId → Type 0) (each : (i : ObjectId) → Stored i) (old : Option (List ℕ)) where
     pub well : (shown : Shown) (answer : Result (Unit {0}) Fault) (new : Option (List ℕ)) → Serves Stored objects rows old (Commits (Topo m by) shown tips ends) answer new → EndsWell answer

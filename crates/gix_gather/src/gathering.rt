@@ -188,7 +188,8 @@ impl Gathering {
             self.absent.insert(id)?;
             return Ok(false);
         };
-        self.objects.insert(id, kind, self.object.as_slice())?;
+        let bytes = self.object.as_slice();
+        self.objects.insert(id, kind, bytes)?;
         Ok(true)
     }
 
