@@ -1,11 +1,13 @@
 -- What a chooser has chosen of the commits that a walk gave.
-use Rattle.std.proofs.Common.{◌≡◌, ◌≢◌, ◌-◌, ◌+◌, ◌<◌, ℕ, zero, suc, List, [], ◌∷◌, ◌++◌, length, map, drop, filter, Bool, true, false, Option, Some, None, refl, sym, ap, subst, ◌∙◌, ⊎_elim, arith, append-nil, length-append}
+use Rattle.std.proofs.Common.{◌≡◌, ◌≢◌, ◌-◌, ◌+◌, ◌<◌, ℕ, zero, suc, List, [], ◌∷◌, ◌++◌, length, map, drop, filter, Bool, true, false, Option, Some, None, refl, sym, ap, subst, ◌∙◌, ◌⊎◌, ⊎_elim, arith, append-nil, length-append}
 use Rattle.gix_commands.proofs.Common.{Contains-append_cases, no_member, only_member, ObjectId, Objects, Info, Shown, cond-false, cond-true, kept_in, text_next, time_of}
 use Rattle.std.proofs.lemmas.List.Elements.{filter-append}
 use Rattle.std.proofs.lemmas.List.{drop-append-le, drop_all, map-append}
 use Rattle.gix_commands.specs.Chosen.{Choosing, HasObject, HasText, HasTextIn, Passes, fresh_choosing, is_kept, keeps, line_in, one_less, skipped, taken, unkept}
 use Rattle.gix_commands.specs.Output.{Held, Takes}
 use Rattle.gix_commands.specs.Walked.{Have}
+use Rattle.gix_words.specs.declared.fault.Fault.{Fault}
+use Rattle.gix_words.specs.declared.fault.Fault.TheVariants as fault
 use Rattle.gix_words.specs.declared.words.Form.{Form}
 use Rattle.gix_commands.proofs.OutputFacts.{IsLimitLeft, takes_more}
 
@@ -145,6 +147,9 @@ module _ (from : Choosing) where
   -- what such a chooser asks of each commit
   pub text_at : (infos : List Info) (c : Choosing) → IsAt infos c → HasTextIn c ≡ HasTextIn from
   text_at infos c at = (λ k. HasText (HasObject (at.stored_are k) (at.rows_are k)) (at.shown_is k))
+
+  pub lacks_at : (infos : List Info) (c : Choosing) → IsAt infos c → (i : ObjectId) (e : Fault) → (e ≡ fault.Memory) ⊎ ((e ≡ fault.Missing i) × (HasTextIn c i → ⊥)) → (e ≡ fault.Memory) ⊎ ((e ≡ fault.Missing i) × (HasTextIn from i → ⊥))
+  lacks_at infos c at i e h = subst (λ (Has : ObjectId → Type 0). (e ≡ fault.Memory) ⊎ ((e ≡ fault.Missing i) × (Has i → ⊥))) (text_at infos c at) h
 
   -- the lines of such a chooser
   pub lines_at : (infos : List Info) (c : Choosing) → IsAt infos c → line_in c.objects c.shown ≡ line_in objects shown

@@ -1,10 +1,9 @@
-use Rattle.std.proofs.Common.{◌≡◌, ◌⊎◌, ◌∙◌, ap, refl, subst, Err, [], ◌++◌, ◌∷◌}
+use Rattle.std.proofs.Common.{◌∙◌, ap, refl, subst, Err, [], ◌++◌, ◌∷◌}
 use Rattle.gix_commands.proofs.Common.{ObjectId, err_from_is_err_and}
-use Rattle.gix_words.specs.declared.fault.Fault.TheVariants as fault
-use Rattle.gix_commands.specs.Chosen.{line_in}
+use Rattle.gix_commands.specs.Chosen.{HasTextIn, line_in}
 use Rattle.gix_commands.specs.Output.{held_in}
 use Rattle.gix_commands.specs.declared.output.Sink.{Sink}
-use Rattle.gix_commands.proofs.ChosenFacts.{at_first, have_more, have_none, joined, lines_at, moves, none_kept, takes_kept, takes_left, text_at}
+use Rattle.gix_commands.proofs.ChosenFacts.{at_first, have_more, have_none, joined, lacks_at, lines_at, moves, none_kept, takes_kept, takes_left, text_at}
 use Rattle.gix_commands.proofs.OutputFacts.{adds_all, adds_cut, adds_enough, adds_failed, adds_none, drawn_one, same_form, stops_at_end, stops_enough, takes_nothing}
 use Rattle.gix_commands.proofs.output.draw.Goals as goal
 use Rattle.gix_commands.proofs.output.draw.Goals.{then-branch+in_ok-take, else-branch}
@@ -32,7 +31,7 @@ returns-in-Err-clause-adds g c = adds_failed g.I.Iterator.next_gives g.E.Into.co
 pub returns-in_err-takes-clause-adds : goal.returns-in_err-takes-clause-adds
 returns-in_err-takes-clause-adds g c =
     let p = err_from_is_err_and c.from_residual.result c.from_residual.ensures.1 in
-    adds_none g.I.Iterator.next_gives g.E.Into.converts _ _ _ _ _ _ _ _ _ _ c.draws.invariant.infos c.draws.invariant.have _ _ _ _ _ _ _ c.draws.invariant.at.left c.draws-test.ensures c.draws.invariant.drawn c.in-Some.ensures.steps c.in-Ok.is c.draws.invariant.takes (p.1 ∙ ap (λ f. Err f) p.2) (subst (λ (Has : ObjectId → Type 0). (c.in_err-takes.e ≡ fault.Memory) ⊎ ((c.in_err-takes.e ≡ fault.Missing c.in-Ok.info.id) × (Has c.in-Ok.info.id → ⊥))) (text_at c.args.chooser.now c.draws.invariant.infos _ c.draws.invariant.at) c.in_err-takes.ensures.err) rr
+    adds_none g.I.Iterator.next_gives g.E.Into.converts _ _ _ _ _ _ _ _ _ _ c.draws.invariant.infos c.draws.invariant.have _ _ _ _ _ _ _ c.draws.invariant.at.left c.draws-test.ensures c.draws.invariant.drawn c.in-Some.ensures.steps c.in-Ok.is c.draws.invariant.takes (p.1 ∙ ap (λ f. Err f) p.2) (lacks_at c.args.chooser.now c.draws.invariant.infos _ c.draws.invariant.at _ _ c.in_err-takes.ensures.err) 
 
 pub returns-in_err-take-clause-adds : goal.returns-in_err-take-clause-adds
 returns-in_err-take-clause-adds g c =
@@ -41,7 +40,7 @@ returns-in_err-take-clause-adds g c =
     (same_form _ _ c.draws.invariant.form _ _ _ _ _ c.in_err-take.ensures.err)
 
 pub returns-in_default-clause-within : goal.returns-in_default-clause-within
-returns-in_default-clause-within g c = stops_at_end g.I.Iterator.next_gives g.E.Into.converts _ _ _ (line_in c.args.chooser.now.objects c.args.chooser.now.shown) c.args.sink.now.form _ (g.W.Write.contents c.args.writer.now) (held_in c.args.sink.now) _ _ c.draws.invariant.infos _ c.draws.invariant.at.left c.draws-test.ensures c.draws.invariant.drawn c.in_default.ensures.steps
+returns-in_default-clause-within g c = stops_at_end g.I.Iterator.next_gives g.E.Into.converts (HasTextIn c.args.chooser.now) _ _ (line_in c.args.chooser.now.objects c.args.chooser.now.shown) c.args.sink.now.form _ (g.W.Write.contents c.args.writer.now) (held_in c.args.sink.now) _ _ c.draws.invariant.infos _ c.draws.invariant.at.left c.draws-test.ensures c.draws.invariant.drawn c.in_default.ensures.steps
 
 -- the lines are the same all along
 pub returns-in_default-clause-lines : goal.returns-in_default-clause-lines
@@ -54,7 +53,7 @@ pub returns-clause-adds : goal.returns-clause-adds
 returns-clause-adds g c = adds_enough g.I.Iterator.next_gives g.E.Into.converts _ _ _ _ _ _ _ _ _ c.draws.invariant.infos c.draws.invariant.have _ _ _ c.draws.invariant.at.left c.draws-test.ensures c.draws.invariant.drawn c.draws.invariant.takes
 
 pub returns-clause-within : goal.returns-clause-within
-returns-clause-within g c = stops_enough g.I.Iterator.next_gives g.E.Into.converts _ _ _ (line_in c.args.chooser.now.objects c.args.chooser.now.shown) c.args.sink.now.form _ (g.W.Write.contents c.args.writer.now) (held_in c.args.sink.now) _ c.draws.invariant.infos _ c.draws.invariant.at.left c.draws-test.ensures c.draws.invariant.drawn
+returns-clause-within g c = stops_enough g.I.Iterator.next_gives g.E.Into.converts (HasTextIn c.args.chooser.now) _ _ (line_in c.args.chooser.now.objects c.args.chooser.now.shown) c.args.sink.now.form _ (g.W.Write.contents c.args.writer.now) (held_in c.args.sink.now) _ c.draws.invariant.infos _ c.draws.invariant.at.left c.draws-test.ensures c.draws.invariant.drawn
 
 -- one more commit was drawn
 pub draws-preserved-after-branch : goal.draws-preserved-after-branch
