@@ -11,7 +11,6 @@ use Rattle.gix_words.specs.declared.words.Shown.{Shown}
 use Rattle.gix_words.specs.declared.words.Order.{Order}
 use Rattle.gix_words.specs.declared.words.Order.TheVariants.{Simple}
 use Rattle.gix_commands.specs.Readable.{readable, reads_all_lines}
-use Rattle.gix_commands.specs.Chosen.{HasObject}
 use Rattle.gix_commands.specs.Run.{Serves}
 use Rattle.gix_commands.specs.Walked.{Walk, Answers, IsWalkFault, StartsFrom}
 use Rattle.gix_batches.specs.declared.commit.Batch.{Batch}
@@ -38,12 +37,12 @@ pub if_err : {A : Type 0} (P : Fault → Type 0) (r : Result A Fault) (e : Fault
 if_err {A} P r e is p = subst (λ (x : Result A Fault). IfErr x P) (sym is) p
 
 -- a walk in this order couldn't start
-pub unstarted : {A : Type 0} (objects : Objects) (limit : Option ℕ) (tips hidden : List ObjectId) (order other : Order) (result : Result A Fault) (e : Fault) → order ≡ other → result ≡ Err e
-    → Serves (HasObject objects []) (readable (reads_all_lines (Commits other (all_lines_to limit) tips hidden)) objects) [] (Some []) (Commits other (all_lines_to limit) tips hidden) (Err e) (Some [])
-    → IfErr result (λ f. Serves (HasObject objects []) (readable (reads_all_lines (Commits order (all_lines_to limit) tips hidden)) objects) [] (Some []) (Commits order (all_lines_to limit) tips hidden) (Err f) (Some []))
-unstarted objects limit tips hidden order other result e is same s =
-    if_err (λ f. Serves (HasObject objects []) (readable (reads_all_lines (Commits order (all_lines_to limit) tips hidden)) objects) [] (Some []) (Commits order (all_lines_to limit) tips hidden) (Err f) (Some [])) result e same
-    (subst (λ (o : Order). Serves (HasObject objects []) (readable (reads_all_lines (Commits o (all_lines_to limit) tips hidden)) objects) [] (Some []) (Commits o (all_lines_to limit) tips hidden) (Err e) (Some [])) (sym is) s)
+pub unstarted : {A : Type 0} (Stored : ObjectId → Type 0) (objects : Objects) (limit : Option ℕ) (tips hidden : List ObjectId) (order other : Order) (result : Result A Fault) (e : Fault) → order ≡ other → result ≡ Err e
+    → Serves Stored (readable (reads_all_lines (Commits other (all_lines_to limit) tips hidden)) objects) [] (Some []) (Commits other (all_lines_to limit) tips hidden) (Err e) (Some [])
+    → IfErr result (λ f. Serves Stored (readable (reads_all_lines (Commits order (all_lines_to limit) tips hidden)) objects) [] (Some []) (Commits order (all_lines_to limit) tips hidden) (Err f) (Some []))
+unstarted Stored objects limit tips hidden order other result e is same s =
+    if_err (λ f. Serves Stored (readable (reads_all_lines (Commits order (all_lines_to limit) tips hidden)) objects) [] (Some []) (Commits order (all_lines_to limit) tips hidden) (Err f) (Some [])) result e same
+    (subst (λ (o : Order). Serves Stored (readable (reads_all_lines (Commits o (all_lines_to limit) tips hidden)) objects) [] (Some []) (Commits o (all_lines_to limit) tips hidden) (Err e) (Some [])) (sym is) s)
 
 pub breadth_by : (objects : Objects) (limit : Option ℕ) (tips hidden : List ObjectId) (skip : ℕ) (old new : List Commit) (before after : List CommitId) (batch : Batch) (m : Parents) (by : Sorting) → by ≡ sorting.BreadthFirst → (walk : Walk)
     → StartsFrom objects [] m by tips hidden walk → Fills Answers IsWalkFault limit skip walk old new before after batch → FillsBy objects limit tips hidden skip old new before after batch (Simple m by)

@@ -188,7 +188,7 @@ module _ (words : List (List ℕ)) (objects : Objects) (AreGiven : page.Objects 
       writes_lines : (infos : List Info) (e : Fault) → EndsBy Steps Tells Any ids_given limit walk infos (Err e) → WritesBegun Steps Tells (HasText (HasObject objects []) shown_all) (kept_in o shown_all) limit (line_in o shown_all) form.Lines walk (Some []) (Err e) (Some (lines_by o infos))
       writes_lines infos e ends = written (record {
         infos = infos;
-        ends = any_by (HasText (HasObject objects []) shown_all) (kept_in o shown_all) limit (Err e) (subst (λ (those : List Info → List ObjectId). EndsBy Steps Tells Any those limit walk infos (Err e)) (λ k xs. sym (all_kept limit (text_next o) (time_of o) (ids_given xs)) k) ends);
+        ends = any_by Steps Tells (HasText (HasObject objects []) shown_all) walk infos (kept_in o shown_all) limit (Err e) (subst (λ (those : List Info → List ObjectId). EndsBy Steps Tells Any those limit walk infos (Err e)) (λ k xs. sym (all_kept limit (text_next o) (time_of o) (ids_given xs)) k) ends);
         have = λ info c e. let no : false ≡ true = e in cc;
         writes = refl;
       })

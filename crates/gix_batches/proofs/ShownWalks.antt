@@ -61,7 +61,7 @@ module _ {W E : Type 0} (Steps : W → Option (Result Info E) → W → Type 0) 
   failed_asks (Some n) f (before ends less) = omega (arith, less, many infos)
 
 -- what nothing was asked of has what is asked
-module _ {W E : Type 0} {Steps : W → Option (Result Info E) → W → Type 0} {Tells : E → Fault → Type 0} (Has : ObjectId → Type 0) {walk : W} {infos : List Info} where
+module _ {W E : Type 0} (Steps : W → Option (Result Info E) → W → Type 0) (Tells : E → Fault → Type 0) (Has : ObjectId → Type 0) (walk : W) (infos : List Info) where
   any_ends : {answer : Result (Unit {0}) Fault} → Ends Steps Tells Any walk infos answer → Ends Steps Tells Has walk infos answer
   any_ends (finished last h) = finished last h
   any_ends (fell e f last h tells) = fell e f last h tells

@@ -1,10 +1,10 @@
 -- Given objects and rows that have what was read of others: what is written of that is right of them.
-use Rattle.std.proofs.Common.{◌≡◌, true, List, [], ◌∷◌, ℕ, ℤ, All, Contains, map, refl, subst}
+use Rattle.std.proofs.Common.{◌≡◌, true, List, [], ℕ, ℤ, All, Contains, map, refl, subst}
 use Rattle.std.proofs.lemmas.List.Elements.{All-contains}
 use Rattle.std.proofs.Math.ListN.{get_or}
 use Rattle.gix_commands.proofs.Common.{Contains-get_or, Info, ObjectId}
 use Rattle.gix_statement.proofs.SameLines.{same_texts}
-use Rattle.gix_statement.specs.WholeStatement.{Choice, Entry, InEach, IsCommit, IsHistory, IsThere, IsTree, Objects, Row, Unfolds, chosen, commit_line, other, says_more, text_in, tree, whole, written}
+use Rattle.gix_statement.specs.WholeStatement.{Choice, Entry, InEach, IsCommit, IsThere, IsTree, Objects, Row, Unfolds, chosen, commit_line, other, says_more, text_in, tree, whole, written}
 use Rattle.gix_commands.specs.Walked.{Any, Have}
 use Rattle.gix_commands.proofs.RowsAsTexts.{from_map}
 

@@ -1,5 +1,5 @@
 -- What is right of objects that were read is what the page promises of given objects and rows that have all of their commits and trees.
-use Rattle.std.proofs.Common.{◌≡◌, ℕ, List, [], Option, Result, Ok, Err, inl, inr, ⊎_elim, refl, sym, subst}
+use Rattle.std.proofs.Common.{◌≡◌, ℕ, List, Option, Result, Ok, Err, inl, inr, ⊎_elim, refl, sym, subst}
 use Rattle.gix_hash.specs.declared.ObjectId.{ObjectId}
 use Rattle.gix_statement.specs.WholeStatement.{Objects, Row, Agree, Promises}
 use Rattle.gix_words.specs.declared.fault.Fault.{Fault}

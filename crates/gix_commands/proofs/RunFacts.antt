@@ -1,5 +1,5 @@
 -- What a run may answer.
-use Rattle.std.proofs.Common.{◌≡◌, ◌≢◌, ℕ, Bool, true, false, List, [], ◌∷◌, Option, Some, None, Result, Ok, Err, refl, sym, subst, ap, ◌∙◌}
+use Rattle.std.proofs.Common.{◌≡◌, ◌≢◌, ℕ, List, [], ◌∷◌, Option, Some, None, Result, Ok, Err, refl, sym, subst, ap, ◌∙◌}
 use Rattle.gix_commands.proofs.Common.{get, same_map, ObjectId, Object, Objects, id_total, id_apart, with_rows, GraphRow, IsAgreeing, none_agree, Info, Parents, Fault, Order, Simple, Topo, fault_of_records, fault_of_walk, fault_of_topo_walk, WritesAll, stored, walked, not_walked, walked_down, not_built, not_listed, not_ahead, not_behind, not_selected, not_reaching, not_joined, unserved, Runs, without_memory, no_command, Shown, Writes, kept_in}
 use Rattle.gix_commands.proofs.Common.{not_read, bad_record, served, StartsFrom, FailsAtStart, IsStartFault, Ends, EndsBy, finished, cut_short, enough, before, Request, Commits, request_of, no_bad_record}
 use Rattle.std.specs.Option.{option_or}

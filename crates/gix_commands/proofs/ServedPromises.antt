@@ -2,7 +2,7 @@
 use Rattle.std.proofs.Common.{◌≡◌, ℕ, List, [], ◌∷◌, Option, Result, Ok, Contains, refl, ap, ◌∙◌, inl, inr, ⊎_elim}
 use Rattle.std.specs.List.{AllByRecursion}
 use Rattle.std.proofs.lemmas.List.Elements.{All-contains}
-use Rattle.gix_commands.proofs.Common.{Fault, GraphRow, IsAgreeing, Contains-cons_cases, no_member, Objects, ObjectId, Request, request_of, stored, with_rows}
+use Rattle.gix_commands.proofs.Common.{Fault, GraphRow, IsAgreeing, Contains-cons_cases, no_member, Objects, Request, request_of, stored, with_rows}
 use Rattle.gix_commitgraph.specs.Packed.{AreGraphRows}
 use Rattle.gix_commitgraph.specs.Renumbering.{HasSameRows, HaveDistinctIds, HavePlacesWithin}
 use Rattle.gix_commitgraph.specs.declared.ParentPlace.{ParentPlace}

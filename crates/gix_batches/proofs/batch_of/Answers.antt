@@ -17,7 +17,7 @@ use Rattle.gix_batches.proofs.batch_of.Goals as goal
 pub returns-in_err-walk-in-Simple-clause-err : goal.returns-in_err-walk-in-Simple-clause-err
 returns-in_err-walk-in-Simple-clause-err c =
     let p = err_from_is_err_and c.from_residual.result c.from_residual.ensures.1 in
-    unstarted _ _ _ _ _ _ _ _ c.in-Simple.is (p.1 ∙ ap (λ f. Err f) p.2) (serves_no_walk _ _ _ _ _ _ _ _ (Err _) _ refl c.in_err-walk-in-Simple.ensures.err)
+    unstarted _ _ _ _ _ _ _ _ _ c.in-Simple.is (p.1 ∙ ap (λ f. Err f) p.2) (serves_no_walk _ _ _ _ _ _ _ _ _ (Err _) _ refl c.in_err-walk-in-Simple.ensures.err)
 
 pub returns-in-BreadthFirst-clause-ok : goal.returns-in-BreadthFirst-clause-ok
 returns-in-BreadthFirst-clause-ok c =
@@ -33,7 +33,7 @@ returns-in_default-clause-ok c =
 pub returns-in_err-walk-in-Topo-clause-err : goal.returns-in_err-walk-in-Topo-clause-err
 returns-in_err-walk-in-Topo-clause-err c =
     let p = err_from_is_err_and c.from_residual-in_err-walk-in-Topo.result c.from_residual-in_err-walk-in-Topo.ensures.1 in
-    unstarted _ _ _ _ _ _ _ _ c.in-Topo.is (p.1 ∙ ap (λ f. Err f) p.2) (serves_no_topo _ _ _ _ _ _ _ _ (Err _) _ refl c.in_err-walk-in-Topo.ensures.err)
+    unstarted _ _ _ _ _ _ _ _ _ c.in-Topo.is (p.1 ∙ ap (λ f. Err f) p.2) (serves_no_topo _ _ _ _ _ _ _ _ _ (Err _) _ refl c.in_err-walk-in-Topo.ensures.err)
 
 pub returns-in_ok-walk-in-Topo-clause-ok : goal.returns-in_ok-walk-in-Topo-clause-ok
 returns-in_ok-walk-in-Topo-clause-ok c =

@@ -31,7 +31,7 @@ returns-in-Err-clause-adds g c = adds_failed g.I.Iterator.next_gives g.E.Into.co
 pub returns-in_err-takes-clause-adds : goal.returns-in_err-takes-clause-adds
 returns-in_err-takes-clause-adds g c =
     let p = err_from_is_err_and c.from_residual.result c.from_residual.ensures.1 in
-    adds_none g.I.Iterator.next_gives g.E.Into.converts _ _ _ _ _ _ _ _ _ _ c.draws.invariant.infos c.draws.invariant.have _ _ _ _ _ _ _ c.draws.invariant.at.left c.draws-test.ensures c.draws.invariant.drawn c.in-Some.ensures.steps c.in-Ok.is c.draws.invariant.takes (p.1 ∙ ap (λ f. Err f) p.2) (lacks_at c.args.chooser.now c.draws.invariant.infos _ c.draws.invariant.at _ _ c.in_err-takes.ensures.err) 
+    adds_none g.I.Iterator.next_gives g.E.Into.converts _ _ _ _ _ _ _ _ _ _ c.draws.invariant.infos c.draws.invariant.have _ _ _ _ _ _ _ c.draws.invariant.at.left c.draws-test.ensures c.draws.invariant.drawn c.in-Some.ensures.steps c.in-Ok.is c.draws.invariant.takes (p.1 ∙ ap (λ f. Err f) p.2) (lacks_at c.args.chooser.now c.draws.invariant.infos _ c.draws.invariant.at _ _ c.in_err-takes.ensures.err)
 
 pub returns-in_err-take-clause-adds : goal.returns-in_err-take-clause-adds
 returns-in_err-take-clause-adds g c =

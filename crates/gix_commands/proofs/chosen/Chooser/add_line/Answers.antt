@@ -1,4 +1,4 @@
-use Rattle.std.proofs.Common.{◌≡◌, ◌++◌, true, false, List, ℕ, Some, ap, sym, ◌∙◌}
+use Rattle.std.proofs.Common.{◌≡◌, ◌++◌, true, false, Some, ap, sym, ◌∙◌}
 use Rattle.gix_statement.proofs.SameLines.{same_line}
 use Rattle.gix_statement.specs.WholeStatement.{Objects, commit_line, says_more, text_in}
 use Rattle.gix_revwalk.specs.Commits.{time_of}
