@@ -181,6 +181,58 @@ fn parents_are_there_by_rows_or_records(rt: HostRuntime) -> Result<(), Fail> {
 }
 
 #[test]
+fn a_subject_is_that_of_a_record(rt: HostRuntime) -> Result<(), Fail> {
+    let alloc = rt.alloc();
+    let rows: &[(&[u32], &[Line])] = &[(EIGHT, &LINES)];
+    let seventh =
+        "commit #7 146\ntree #0\nparent #4\nauthor A <a@b> 7 +0000\ncommitter A <a@b> 7 +0000\n\ns\n\n";
+    check_over(
+        alloc,
+        rows,
+        &[LAST, seventh],
+        &[
+            (&["newest", "--oneline", "#8", "^#6", "^#4"], "#8 \n#7 s\n"),
+            (&["topo", "-n", "2", "--oneline", "#8"], "#8 \n#7 s\n"),
+            (
+                &["date", "--skip", "1", "-n", "1", "--oneline", "#8"],
+                "#7 s\n",
+            ),
+            (
+                &["breadth", "--merges", "-n", "1", "--oneline", "#8"],
+                "#8 \n",
+            ),
+            (&["topo", "--count", "--oneline", "#8", "^#6", "^#4"], "2\n"),
+            (&["newest", "-n", "0", "--oneline", "#8"], ""),
+        ],
+    )?;
+    check_over(
+        alloc,
+        rows,
+        &[LAST, seventh],
+        &[
+            (&["newest", "--oneline", "#8"], "#8 \n#7 s\n! missing #6"),
+            (&["breadth", "--oneline", "#8"], "#8 \n! missing #6"),
+            (
+                &["topo", "--oneline", "#8", "^#6"],
+                "#8 \n#7 s\n! missing #4",
+            ),
+            (
+                &["date", "--reverse", "--oneline", "#8", "^#6"],
+                "! missing #4",
+            ),
+            (
+                &["breadth", "--merges", "--oneline", "#8"],
+                "#8 \n! missing #6",
+            ),
+            (
+                &["oldest", "--skip", "1", "-n", "1", "--oneline", "#8"],
+                "! missing #6",
+            ),
+        ],
+    )
+}
+
+#[test]
 fn objects_without_a_row_are_records(rt: HostRuntime) -> Result<(), Fail> {
     check_over(
         rt.alloc(),
