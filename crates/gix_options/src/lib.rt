@@ -9,7 +9,6 @@ mod lines;
 mod misuse;
 mod name;
 mod question;
-mod turned;
 
 pub use help::{COMMANDS, Command, NOTES, USAGE, VERSION, WHAT, help_of};
 pub use lines::read_lines;
@@ -18,6 +17,3 @@ pub use name::Name;
 pub use question::{
     Asked, Asks, Options, Place, Question, Refs, Rows, read_arguments, read_question,
 };
-
-#[cfg(test)]
-mod tests;

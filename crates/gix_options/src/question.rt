@@ -5,7 +5,6 @@ use crate::date::seconds_of;
 use crate::format::format_fault;
 use crate::hint::{of_command, of_option};
 use crate::lines::{fault_of, misuse_of};
-use crate::turned::push_turned;
 use crate::{Misuse, Name};
 use std::alloc::{AllocError, Global};
 use std::mem;
@@ -37,9 +36,11 @@ pub enum Refs {
 pub enum Asked {
     /// A revision, maybe with `^`, or a range.
     Word(String),
+    /// The same behind `--not`: `^` means the opposite.
+    Turned(String),
     /// These refs.
     Refs(Refs),
-    /// These refs, each as if `^` were before it.
+    /// These refs behind `--not`: each as if `^` were before it.
     Hidden(Refs),
     /// The lines of standard input, each of which is a word.
     Lines,
@@ -526,12 +527,13 @@ impl Arguments {
         if let Some(fault) = fault_of(word) {
             return Err(misuse_of(self.alloc, word, fault)?);
         }
-        if self.is_turned {
-            return Ok(push_turned(self.alloc, word, &mut self.asked)?);
-        }
-        self.asked
-            .push(Asked::Word(String::from_str(self.alloc, word)?))?;
-        Ok(())
+        let text = String::from_str(self.alloc, word)?;
+        let asked = if self.is_turned {
+            Asked::Turned(text)
+        } else {
+            Asked::Word(text)
+        };
+        Ok(self.asked.push(asked)?)
     }
 
     /// What all arguments ask. It is moved out of what was read.
@@ -724,10 +726,20 @@ fn digits_of(alloc: Global, option: &str, value: &str) -> Result<String, Misuse>
 /// Whether a word may name a commit that isn't hidden.
 fn may_be_tip(asked: &Asked) -> bool {
     match asked {
-        Asked::Word(word) => !word.starts_with('^'),
+        Asked::Word(word) => may_be_shown(word.as_str(), false),
+        Asked::Turned(word) => may_be_shown(word.as_str(), true),
         Asked::Hidden(_) => false,
         Asked::Refs(_) | Asked::Lines => true,
     }
+}
+
+/// The same of a word, behind `--not` or not: a range, or one with parents, may name commits of both kinds.
+fn may_be_shown(word: &str, is_turned: bool) -> bool {
+    if word.contains("...") {
+        return !is_turned;
+    }
+    let has_both = word.contains("..") || word.ends_with("^!") || word.contains("^-");
+    has_both || word.starts_with('^') == is_turned
 }
 
 /// An option, and its value where it is in the same word.

@@ -151,12 +151,13 @@ where
     R::File: FileExt,
 {
     match asked {
-        Asked::Word(word) => resolve(alloc, repository, word.as_str(), wanted, resolved)?,
+        Asked::Word(word) => resolve(alloc, repository, word.as_str(), false, wanted, resolved)?,
+        Asked::Turned(word) => resolve(alloc, repository, word.as_str(), true, wanted, resolved)?,
         Asked::Refs(refs) => resolve_all(alloc, repository, set_of(*refs), false, resolved)?,
         Asked::Hidden(refs) => resolve_all(alloc, repository, set_of(*refs), true, resolved)?,
         Asked::Lines => {
             for line in lines {
-                resolve(alloc, repository, line.as_str(), wanted, resolved)?;
+                resolve(alloc, repository, line.as_str(), false, wanted, resolved)?;
             }
         }
     }

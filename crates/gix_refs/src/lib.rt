@@ -1,5 +1,5 @@
 //! The small text files of a repository, as bytes in memory: refs, packed refs, `.git` files, the border of a shallow clone, and what
-//! `config` says of the repository's format. No file is opened here. Each text is read as git reads it.
+//! `config` says of the repository's format and of the upstreams of branches. No file is opened here. Each text is read as git reads it.
 #![tactic(auto)]
 
 ghost use Rattle.std.specs.Prelude.{◌≡◌, ◌+◌, ◌≤◌, ◌<◌, length};
@@ -11,6 +11,7 @@ mod formats;
 mod names;
 mod packed;
 mod single;
+mod upstream;
 
 pub use border::shallow_ids;
 pub use fault::{ConfigFault, RefFault};
@@ -18,6 +19,4 @@ pub use formats::{Settings, settings_of};
 pub use names::{is_name_of_any_level, is_ref_name};
 pub use packed::{PackedRef, PackedRefs, packed_refs};
 pub use single::{Ref, common_dir, git_file, is_head, read_ref};
-
-#[cfg(test)]
-mod tests;
+pub use upstream::upstream_of;

@@ -8,6 +8,7 @@ mod finding;
 mod folders;
 mod graph;
 mod listing;
+mod upstream;
 
 use fault::fault_of;
 pub use fault::{Damage, Fault};
@@ -157,20 +158,40 @@ fn read_settings<R: Files + AllocGlobal>(rt: &R, folders: &Folders) -> Result<Se
 where
     R::File: FileExt,
 {
-    let path = joined(rt.alloc(), folders.common.as_str(), "config")?;
-    let mut text = Vec::new(rt.alloc());
-    match gix_files::read(rt, path.as_str(), MOST_TEXT, &mut text) {
-        Ok(_) => {}
-        Err(damage) => return Err(fault_of(path, Damage::File(damage))),
-    }
-    match settings_of(rt.alloc(), text.as_slice()) {
+    let config = read_config(rt, folders)?;
+    match settings_of(rt.alloc(), config.text.as_slice()) {
         Ok(settings) => {
             if has_reftable(rt, folders)? {
-                return Err(fault_of(path, Damage::Config(ConfigFault::Reftable)));
+                return Err(fault_of(config.path, Damage::Config(ConfigFault::Reftable)));
             }
             Ok(settings)
         }
-        Err(fault) => Err(fault_of(path, Damage::Config(fault))),
+        Err(fault) => Err(fault_of(config.path, Damage::Config(fault))),
+    }
+}
+
+/// The file that says a repository's config.
+#[derive(Drop)]
+pub(crate) struct Config {
+    /// Its path.
+    pub path: String,
+    /// Its bytes, which are none where there is no such file.
+    pub text: Vec<u8>,
+}
+
+/// Reads the config of a repository.
+pub(crate) fn read_config<R: Files + AllocGlobal>(
+    rt: &R,
+    folders: &Folders,
+) -> Result<Config, Fault>
+where
+    R::File: FileExt,
+{
+    let path = joined(rt.alloc(), folders.common.as_str(), "config")?;
+    let mut text = Vec::new(rt.alloc());
+    match gix_files::read(rt, path.as_str(), MOST_TEXT, &mut text) {
+        Ok(_) => Ok(Config { path, text }),
+        Err(damage) => Err(fault_of(path, Damage::File(damage))),
     }
 }
 

@@ -4,3 +4,5 @@ pub mod Leads
 pub mod Resolves
 -- Worked examples of what steps lead to.
 pub mod Examples
+-- Revisions behind `--not`.
+pub mod Turned

@@ -22,6 +22,9 @@ pub enum Fault {
     /// No ref has this name, and no object an id that begins so.
     #[error("{0:?}: no ref and no object is called so")]
     Unknown(String),
+    /// The config names no upstream of this branch, or no ref is where its remote's are kept. `HEAD` is the branch that is checked out.
+    #[error("{0:?}: no upstream of this branch is known")]
+    NoUpstream(String),
     /// All refs are asked for, and this one is damaged.
     #[error("broken ref: {0:?}")]
     BrokenRef(String),

@@ -1,11 +1,14 @@
 //! What words mean in a repository.
-ghost use Rattle.std.specs.Prelude.{◌≡◌, ◌+◌, ◌≤◌, ◌<◌, ◌++◌, [], ◌∷◌, length, IfOk, OnOk};
+ghost use Rattle.std.specs.Prelude.{◌≡◌, ◌+◌, ◌≤◌, ◌<◌, ◌++◌, List, [], ◌∷◌, length, IfOk, OnOk};
+ghost use Rattle.gix_revision.specs.declared.meaning.Chosen.TheVariants as chosen;
 ghost use Rattle.gix_revision.specs.declared.parse.Target.TheVariants as target;
-ghost use Rattle.gix_revision.specs.Resolves.{target_of, IsBase, Resolves, IsPushed, IsChosen, Adds, AddsOne, AddsCommits};
+ghost use Rattle.gix_revision.specs.Resolves.{target_of, IsBase, Resolves, IsPushed, IsChosen, IsFor, Excludes, Adds, AddsAll, AddsOne, AddsCommits};
+ghost use Rattle.gix_revision.specs.Leads.{HasLinks};
 
 use crate::fault::{Fault, ambiguous, fault_of_steps, fault_of_word, unknown};
 use crate::parse::{Base, Form, ParseFault, Rev, Revision, Step, Target, parse};
-use crate::steps::{StepFault, follow, peel};
+use crate::steps::{StepFault, follow, peel, read_links};
+use crate::texts::Links;
 use gix_hash::ObjectId;
 use gix_object::Kind;
 use gix_odb::{Front, Odb};
@@ -41,7 +44,7 @@ pub enum Chosen {
 /// A part of a word, and what it means.
 #[derive(Drop, Debug)]
 pub struct Resolved {
-    /// The revision as it was written, without `^`. Of `A...B` it is A.
+    /// The revision as it was written, without `^`. Of `A...B` it is A. Of `A^@`, `A^!` and `A^-n` parent n is `A^n`.
     pub word: String,
     /// What it means.
     pub chosen: Chosen,
@@ -60,8 +63,8 @@ pub enum Set {
     Remotes,
 }
 
-/// Adds what a word means: `A`, `^A`, `A..B` or `A...B`, and where a tree is wanted also `A:path`. Objects of the kind `wanted` are meant:
-/// tags are followed to one, and a commit to its tree.
+/// Adds what a word means: `A`, `^A`, `A..B`, `A...B`, `A^@`, `A^!` or `A^-n`, and where a tree is wanted also `A:path`. Objects of the kind
+/// `wanted` are meant: tags are followed to one, and a commit to its tree. If `is_turned`, `^` means the opposite, as behind `--not`.
 ///
 /// An id that is written whole is this id, whatever refs there are. Else a ref of the name is meant, and else the object whose id begins
 /// with these digits, four at the least. Each object on the way is compared with its id before its text is used.
@@ -73,6 +76,7 @@ pub fn resolve<R>(
     alloc: Global,
     repository: &mut Repository<R>,
     word: &str,
+    is_turned: bool,
     wanted: Kind,
     found: &mut Vec<Resolved>,
 ) -> Result<(), Fault>
@@ -81,10 +85,25 @@ where
     R::File: FileExt,
     ensures { OnOk result (Adds (target_of wanted) found.old.items found.new.items) }
 {
-    match parse(alloc, repository.kind(), word) {
+    match parse_turned(alloc, repository.kind(), word, is_turned) {
         Ok(revision) => { resolve_parsed(alloc, repository, &revision, target_of(wanted), found) }
         Err(fault) => Err(fault_of_word(alloc, word, fault)),
     }
+}
+
+/// What a word asks for, where `^` may mean the opposite.
+fn parse_turned(
+    alloc: Global,
+    kind: gix_hash::Kind,
+    word: &str,
+    is_turned: bool,
+) -> Result<Revision<'_>, ParseFault> {
+    let revision = parse(alloc, kind, word)?;
+    Ok(if is_turned {
+        revision.turned()
+    } else {
+        revision
+    })
 }
 
 /// Adds what a parsed word means.
@@ -107,24 +126,13 @@ where
     match revision {
         Revision::One { rev, is_hidden } => {
             let id = id_of(alloc, repository, rev, wanted)?;
-            let is_hidden = *is_hidden;
-            push(alloc, found, rev.text, Chosen::One { id, is_hidden })?;
-            Ok(())
+            push_one(alloc, found, rev.text, id, *is_hidden)
         }
         Revision::Range { hidden, tip } => {
-            let one = id_of(alloc, repository, hidden, wanted)?;
-            let other = id_of(alloc, repository, tip, wanted)?;
-            let first = Chosen::One {
-                id: one,
-                is_hidden: true,
-            };
-            push(alloc, found, hidden.text, first)?;
-            let second = Chosen::One {
-                id: other,
-                is_hidden: false,
-            };
-            push(alloc, found, tip.text, second)?;
-            Ok(())
+            let first = id_of(alloc, repository, hidden, wanted)?;
+            let second = id_of(alloc, repository, tip, wanted)?;
+            push_one(alloc, found, hidden.text, first, true)?;
+            push_one(alloc, found, tip.text, second, false)
         }
         Revision::Symmetric { one, other } => {
             let word = one.text;
@@ -133,7 +141,134 @@ where
             push(alloc, found, word, Chosen::Symmetric { one, other })?;
             Ok(())
         }
+        Revision::Neither { one, other } => {
+            let first = id_of(alloc, repository, one, wanted)?;
+            let second = id_of(alloc, repository, other, wanted)?;
+            push_one(alloc, found, one.text, first, true)?;
+            push_one(alloc, found, other.text, second, true)
+        }
+        Revision::Parents { rev, are_hidden } => {
+            let commit = commit_of(alloc, repository, rev, wanted)?;
+            push_parents(
+                alloc,
+                found,
+                rev.text,
+                commit.links.parents.as_slice(),
+                *are_hidden,
+            )
+        }
+        Revision::Without {
+            rev,
+            parent,
+            is_hidden,
+        } => {
+            let commit = commit_of(alloc, repository, rev, wanted)?;
+            push_excluded(alloc, found, rev.text, &commit, *parent, !*is_hidden)?;
+            push_one(alloc, found, rev.text, commit.id, *is_hidden)
+        }
     }
+}
+
+/// A commit that was read.
+#[derive(Drop)]
+struct Commit {
+    id: ObjectId,
+    links: Links,
+}
+
+/// The commit that a revision means.
+fn commit_of<R>(
+    alloc: Global,
+    repository: &mut Repository<R>,
+    rev: &Rev<'_>,
+    wanted: Target,
+) -> Result<Commit, Fault>
+where
+    R: Files + AllocGlobal + Clone + Drop,
+    R::File: FileExt,
+    ensures means { IfOk result (λ commit. IsFor target.Commit rev.now commit.id) }
+    ensures links { IfOk result (λ commit. HasLinks commit.id commit.links.tree commit.links.parents.items) }
+{
+    if wanted != Target::Commit {
+        let fault = ParseFault::NotTaken(Form::Range);
+        return Err(fault_of_word(alloc, rev.text, fault));
+    }
+    let id = id_of(alloc, repository, rev, Target::Commit)?;
+    match read_links(alloc, &mut repository.odb, &id) {
+        Ok(links) => Ok(Commit { id, links }),
+        Err(fault) => Err(fault_of_steps(alloc, rev.text, fault)),
+    }
+}
+
+/// Adds the parent of this number of a commit, or all where there is no number.
+fn push_excluded(
+    alloc: Global,
+    found: &mut Vec<Resolved>,
+    text: &str,
+    commit: &Commit,
+    parent: Option<u32>,
+    are_hidden: bool,
+) -> Result<(), Fault>
+    ensures { OnOk result ((named : List ObjectId) × Excludes parent commit.now.links.parents.items named
+        × AddsAll are_hidden named found.old.items found.new.items) }
+{
+    let parents = commit.links.parents.as_slice();
+    let Some(number) = parent else {
+        return push_parents(alloc, found, text, parents, are_hidden);
+    };
+    match parents.get((number as usize).saturating_sub(1)) {
+        Some(id) => push_parent(alloc, found, text, number as usize, *id, are_hidden),
+        None => {
+            let fault = StepFault::NoParent(commit.id, number);
+            Err(fault_of_steps(alloc, text, fault))
+        }
+    }
+}
+
+/// Adds all parents of a commit.
+fn push_parents(
+    alloc: Global,
+    found: &mut Vec<Resolved>,
+    text: &str,
+    parents: &[ObjectId],
+    are_hidden: bool,
+) -> Result<(), Fault>
+    ensures { OnOk result (AddsAll are_hidden parents.now found.old.items found.new.items) }
+{
+    let mut number = 0usize;
+    for id in parents {
+        number = number.saturating_add(1);
+        push_parent(alloc, found, text, number, *id, are_hidden)?;
+    }
+    Ok(())
+}
+
+/// Adds the parent of this number.
+fn push_parent(
+    alloc: Global,
+    found: &mut Vec<Resolved>,
+    text: &str,
+    number: usize,
+    id: ObjectId,
+    is_hidden: bool,
+) -> Result<(), Fault>
+    ensures { OnOk result (IsPushed (chosen.One id is_hidden) found.old.items found.new.items) }
+{
+    let word = format!(in alloc; "{text}^{number}")?;
+    push_one(alloc, found, word.as_str(), id, is_hidden)
+}
+
+/// Adds an object.
+fn push_one(
+    alloc: Global,
+    found: &mut Vec<Resolved>,
+    text: &str,
+    id: ObjectId,
+    is_hidden: bool,
+) -> Result<(), Fault>
+    ensures { OnOk result (IsPushed (chosen.One id is_hidden) found.old.items found.new.items) }
+{
+    push(alloc, found, text, Chosen::One { id, is_hidden })
 }
 
 /// Adds the refs of a set that lead to commits, by rising names, and the HEADs behind them. A ref that leads to an object of another
@@ -273,7 +408,26 @@ where
     match base {
         Base::Id(id) => Ok(id),
         Base::Name(name) => named(alloc, repository, name, wanted),
+        Base::Upstream(branch) => upstream(alloc, repository, branch),
     }
+}
+
+/// The id of the upstream of a branch.
+fn upstream<R>(
+    alloc: Global,
+    repository: &mut Repository<R>,
+    branch: Option<&str>,
+) -> Result<ObjectId, Fault>
+where
+    R: Files + AllocGlobal + Clone + Drop,
+    R::File: FileExt,
+{
+    if let Some(name) = repository.upstream(branch)? {
+        if let Some(id) = repository.find_ref(name.as_str())? {
+            return Ok(id);
+        }
+    }
+    Err(Fault::NoUpstream(String::from_str(alloc, branch.unwrap_or("HEAD"))?))
 }
 
 /// The id of the ref of a name, or the one that begins with these digits.

@@ -1,5 +1,6 @@
 //! The words that name revisions, and what they ask for.
 ghost use Rattle.std.specs.Prelude.{◌≡◌, ◌+◌, ◌≤◌, ◌<◌, length};
+ghost use Rattle.gix_revision.specs.Turned.{turned};
 
 use gix_hash::{Kind, ObjectId};
 use std::alloc::{AllocFailed, Global};
@@ -45,6 +46,8 @@ pub enum Base<'a> {
     Id(ObjectId),
     /// The name of a ref, or the first digits of an id.
     Name(&'a str),
+    /// `BRANCH@{upstream}`: the upstream of this branch, or of the one that HEAD is where none is named.
+    Upstream(Option<&'a str>),
 }
 
 /// One object that is asked for: a name or an id, and the steps from there.
@@ -84,6 +87,81 @@ pub enum Revision<'a> {
         /// B, which is HEAD where nothing is written.
         other: Rev<'a>,
     },
+    /// `A...B` behind `--not`: what neither of the two reaches.
+    Neither {
+        /// A, which is HEAD where nothing is written.
+        one: Rev<'a>,
+        /// B, which is HEAD where nothing is written.
+        other: Rev<'a>,
+    },
+    /// `A^@`: all parents of A, or `^A^@`, where they are hidden.
+    Parents {
+        /// A.
+        rev: Rev<'a>,
+        /// Whether what they reach is left out.
+        are_hidden: bool,
+    },
+    /// `A^!`: A, and hidden all its parents; `A^-n`: A, and hidden its parent n. Behind `^` A is hidden, and the parents aren't.
+    Without {
+        /// A.
+        rev: Rev<'a>,
+        /// The number of the parent, from 1 on. None where all are meant.
+        parent: Option<u32>,
+        /// Whether A is hidden, and not the parents.
+        is_hidden: bool,
+    },
+}
+
+impl<'a> Revision<'a> {
+    /// What the same word means where `^` means the opposite, as behind `--not`: what is hidden isn't, and what isn't is.
+    pub fn turned(self) -> Revision<'a>
+        ensures { result ≡ turned self.entry }
+    {
+        match self {
+            Revision::One { rev, is_hidden } => Revision::One {
+                rev,
+                is_hidden: !is_hidden,
+            },
+            Revision::Range { hidden, tip } => Revision::Range {
+                hidden: tip,
+                tip: hidden,
+            },
+            Revision::Symmetric { one, other } => Revision::Neither { one, other },
+            Revision::Neither { one, other } => Revision::Symmetric { one, other },
+            Revision::Parents { rev, are_hidden } => Revision::Parents {
+                rev,
+                are_hidden: !are_hidden,
+            },
+            Revision::Without {
+                rev,
+                parent,
+                is_hidden,
+            } => Revision::Without {
+                rev,
+                parent,
+                is_hidden: !is_hidden,
+            },
+        }
+    }
+
+    /// The texts of the commits that the word names, with which their ids are given: one or two, and none where only parents are meant.
+    pub fn texts(&self) -> (Option<&'a str>, Option<&'a str>) {
+        match self {
+            Revision::One { rev, .. } | Revision::Without { rev, .. } => (Some(rev.text), None),
+            Revision::Range { hidden, tip } => (Some(hidden.text), Some(tip.text)),
+            Revision::Symmetric { one, .. } => (Some(one.text), None),
+            Revision::Neither { one, other } => (Some(one.text), Some(other.text)),
+            Revision::Parents { .. } => (None, None),
+        }
+    }
+
+    /// The text of the commit whose parents the word means too. Their ids are given with it, `^` and a number.
+    pub fn child(&self) -> Option<&'a str> {
+        match self {
+            Revision::Parents { rev, .. } | Revision::Without { rev, .. } => Some(rev.text),
+            _ => None,
+        }
+    }
 }
 
 /// A form of revisions that git takes and that isn't taken here. Its text says what is taken in its place.
@@ -95,9 +173,9 @@ pub enum Form {
     /// `@{-n}`.
     #[error("the branch that was checked out before (`@{{-n}}`) isn't taken, but its name is")]
     Previous,
-    /// `BRANCH@{upstream}`, also `@{u}` and `@{push}`.
-    #[error("the upstream of a branch (`@{{upstream}}`) isn't taken, but its name is, as `origin/main`")]
-    Upstream,
+    /// `BRANCH@{push}`.
+    #[error("what a branch is pushed to (`@{{push}}`) isn't taken, but its name is, as `origin/main`")]
+    Push,
     /// `:/text` and `REV^{/text}`.
     #[error("a search for a message (`:/text`) isn't taken, but the commit's id is")]
     Message,
@@ -110,22 +188,13 @@ pub enum Form {
     /// `REV:path`, where a commit is wanted.
     #[error("a path (`:path`) isn't taken in place of a commit, but files takes one")]
     Path,
-    /// `REV^@`.
-    #[error("`A^@` isn't taken for all parents of a commit, but `A^1 A^2` is for those of a merge")]
-    Parents,
-    /// `REV^!`.
-    #[error("`A^!` isn't taken for a commit without its parents, but `A ^A^1` is, and `A ^A^1 ^A^2` for a merge")]
-    Alone,
-    /// `REV^-` and `REV^-n`.
-    #[error("`A^-` isn't taken for a commit without one of its parents, but `A^..A` is")]
-    WithoutParent,
     /// Words with `*`, `?` or `[`.
     #[error("a pattern isn't taken, but --branches, --tags, --remotes and --all are")]
     Pattern,
     /// `v1-3-gabc`, as `git describe` writes it.
     #[error("what `git describe` writes isn't taken, but the digits behind its `-g` are")]
     Described,
-    /// `A..B` and `A...B`, where one tree is wanted.
+    /// `A..B`, `A...B`, `A^@`, `A^!` and `A^-`, where one tree is wanted.
     #[error("a range isn't taken in place of a tree")]
     Range,
 }
@@ -178,14 +247,10 @@ pub fn parse(alloc: Global, kind: Kind, word: &str) -> Result<Revision<'_>, Pars
         if range_of(text).is_some() {
             return Err(ParseFault::HiddenRange);
         }
-        let rev = rev_of(alloc, kind, text)?;
-        let is_hidden = true;
-        return Ok(Revision::One { rev, is_hidden });
+        return Ok(without_range(alloc, kind, text)?.turned());
     }
     let Some((before, behind)) = range_of(word) else {
-        let rev = rev_of(alloc, kind, word)?;
-        let is_hidden = false;
-        return Ok(Revision::One { rev, is_hidden });
+        return without_range(alloc, kind, word);
     };
     match behind.strip_prefix('.') {
         Some(behind) => {
@@ -203,7 +268,12 @@ pub fn parse(alloc: Global, kind: Kind, word: &str) -> Result<Revision<'_>, Pars
 
 /// What is before the first `..` and behind it. None where there is none, or a path is in front of it.
 fn range_of(word: &str) -> Option<(&str, &str)> {
-    let (before, behind) = word.split_once("..")?;
+    before_path(word, "..")
+}
+
+/// What is before the first mark of this text and behind it. None where there is none, or a path is in front of it.
+fn before_path<'a>(text: &'a str, mark: &str) -> Option<(&'a str, &'a str)> {
+    let (before, behind) = text.split_once(mark)?;
     if before.contains(':') {
         return None;
     }
@@ -215,10 +285,43 @@ fn or_head(text: &str) -> &str {
     if text.is_empty() { "HEAD" } else { text }
 }
 
-/// The revision that a text without `..` names.
+/// What a text without `..` asks for: a revision, or with `^@`, `^!`, `^-` or `^-n` at its end also parents of it.
+fn without_range(alloc: Global, kind: Kind, text: &str) -> Result<Revision<'_>, ParseFault> {
+    let is_hidden = false;
+    if let Some((text, "")) = before_path(text, "^@") {
+        let rev = rev_of(alloc, kind, text)?;
+        let are_hidden = false;
+        return Ok(Revision::Parents { rev, are_hidden });
+    }
+    let (text, parent) = if let Some((text, "")) = before_path(text, "^!") {
+        (text, None)
+    } else if let Some((text, digits)) = before_path(text, "^-") {
+        (text, Some(parent_at(digits)?))
+    } else {
+        let rev = rev_of(alloc, kind, text)?;
+        return Ok(Revision::One { rev, is_hidden });
+    };
+    let rev = rev_of(alloc, kind, text)?;
+    Ok(Revision::Without {
+        rev,
+        parent,
+        is_hidden,
+    })
+}
+
+/// The number behind `^-`, which is 1 where nothing is written.
+fn parent_at(digits: &str) -> Result<u32, ParseFault> {
+    match number_at(digits)? {
+        (None, "") => Ok(1),
+        (Some(number), "") if number > 0 => Ok(number),
+        _ => Err(ParseFault::Step),
+    }
+}
+
+/// The revision that a text names.
 fn rev_of(alloc: Global, kind: Kind, text: &str) -> Result<Rev<'_>, ParseFault> {
-    let (name, mut rest) = parts_of(text);
-    let base = base_of(kind, name, rest)?;
+    let (name, rest) = parts_of(text);
+    let (base, mut rest) = base_of(kind, name, rest)?;
     let mut steps = Vec::new(alloc);
     let mut has_path = false;
     for _ in 0..=text.len() {
@@ -256,29 +359,51 @@ fn parts_of(text: &str) -> (&str, &str) {
     (text, "")
 }
 
-/// What a name in front of the steps means.
-fn base_of<'a>(kind: Kind, name: &'a str, steps: &str) -> Result<Base<'a>, ParseFault> {
-    if let Some(inner) = steps.strip_prefix("@{") {
-        return Err(ParseFault::NotTaken(log_form(inner)));
+/// What a name means, and the steps behind it.
+fn base_of<'a>(
+    kind: Kind,
+    name: &'a str,
+    behind: &'a str,
+) -> Result<(Base<'a>, &'a str), ParseFault> {
+    if let Some(inner) = behind.strip_prefix("@{") {
+        return match inner.split_once('}') {
+            Some((mark, steps)) if is_upstream(mark) => {
+                Ok((Base::Upstream(branch_of(name)), steps))
+            }
+            _ => Err(ParseFault::NotTaken(log_form(inner))),
+        };
     }
     if name.is_empty() {
-        return match steps.as_bytes() {
+        return match behind.as_bytes() {
             [b':', b'/', ..] => Err(ParseFault::NotTaken(Form::Message)),
             [b':', _, ..] => Err(ParseFault::NotTaken(Form::Index)),
             _ => Err(ParseFault::Empty),
         };
     }
     if name == "@" {
-        return Ok(Base::Name("HEAD"));
+        return Ok((Base::Name("HEAD"), behind));
     }
     for byte in name.as_bytes() {
         if let b'*' | b'?' | b'[' = *byte {
             return Err(ParseFault::NotTaken(Form::Pattern));
         }
     }
-    match ObjectId::from_digits(name.as_bytes(), kind) {
-        Some(id) => Ok(Base::Id(id)),
-        None => Ok(Base::Name(name)),
+    Ok(match ObjectId::from_digits(name.as_bytes(), kind) {
+        Some(id) => (Base::Id(id), behind),
+        None => (Base::Name(name), behind),
+    })
+}
+
+/// Whether `@{..}` with this in it is the upstream of a branch. Capitals are taken too, as by git.
+fn is_upstream(mark: &str) -> bool {
+    mark.eq_ignore_ascii_case("u") || mark.eq_ignore_ascii_case("upstream")
+}
+
+/// The branch that is named before `@{upstream}`. None where it is the one that HEAD is.
+fn branch_of(name: &str) -> Option<&str> {
+    match name {
+        "" | "@" | "HEAD" => None,
+        name => Some(name),
     }
 }
 
@@ -287,10 +412,10 @@ fn log_form(inner: &str) -> Form {
     if inner.starts_with('-') {
         return Form::Previous;
     }
-    match inner.split_once('}') {
-        Some(("u" | "upstream" | "push", _)) => Form::Upstream,
-        _ => Form::Log,
+    if inner.starts_with("push}") {
+        return Form::Push;
     }
+    Form::Log
 }
 
 /// The step at the front of a text that isn't empty, and the text behind it.
@@ -304,9 +429,7 @@ fn step_at(text: &str) -> Result<(Step<'_>, &str), ParseFault> {
     };
     match behind.as_bytes() {
         [b'{', b'/', ..] => Err(ParseFault::NotTaken(Form::Message)),
-        [b'@', ..] => Err(ParseFault::NotTaken(Form::Parents)),
-        [b'!', ..] => Err(ParseFault::NotTaken(Form::Alone)),
-        [b'-', ..] => Err(ParseFault::NotTaken(Form::WithoutParent)),
+        [b'@' | b'!' | b'-', ..] => Err(ParseFault::Step),
         [b'{', ..] => peel_at(behind),
         _ => {
             let (number, behind) = number_at(behind)?;

@@ -287,7 +287,11 @@ where
 }
 
 /// What a commit names.
-fn read_links<R>(alloc: Global, odb: &mut Odb<R>, id: &ObjectId) -> Result<Links, StepFault>
+pub(crate) fn read_links<R>(
+    alloc: Global,
+    odb: &mut Odb<R>,
+    id: &ObjectId,
+) -> Result<Links, StepFault>
 where
     R: Files + AllocGlobal + Clone + Drop,
     R::File: FileExt,

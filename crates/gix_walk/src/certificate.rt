@@ -6,12 +6,13 @@ use gix_certificate::{
     Certificate, Fault, Hashing, Lines, Meaning, Revision, check_new, load, pages, running_program,
     save,
 };
-use gix_hash::Keys;
+use gix_hash::{Keys, Kind};
 use gix_options::{Asked, Asks, Name, Question, Rows, VERSION, read_arguments};
 use gix_questions::{resolve_one, wanted};
 use gix_repository::Repository;
+use gix_revision::parse::parse;
 use gix_revision::{Chosen, Resolved};
-use std::alloc::AllocError;
+use std::alloc::{AllocError, Global};
 use std::env;
 use std::io::{self, Write};
 
@@ -185,7 +186,7 @@ fn question_of(rt: &HostRuntime, kept: &Certificate) -> Result<Question, Failure
     match read_arguments(rt.alloc(), kept.words.as_slice()) {
         Ok(Asks::Question(question))
             if !matches!(question.name, Name::CheckGraph | Name::VerifyCertificate) => {
-            if asks_of_all(&question, kept) {
+            if asks_of_all(rt.alloc(), &question, kept) {
                 Ok(question)
             } else {
                 Err(Failure::Certificate(Fault::Member("revisions")))
@@ -196,13 +197,12 @@ fn question_of(rt: &HostRuntime, kept: &Certificate) -> Result<Question, Failure
 }
 
 /// Whether the revisions of a certificate are those that its words name. Sets of refs and lines of standard input may have any.
-fn asks_of_all(question: &Question, kept: &Certificate) -> bool {
+fn asks_of_all(alloc: Global, question: &Question, kept: &Certificate) -> bool {
     let mut asks_of_others = false;
     for asked in question.asked.iter() {
         match asked {
-            Asked::Word(word) => {
-                let (one, other) = sides(word.as_str());
-                if !has_revision(kept, one) || !has_revision(kept, other) {
+            Asked::Word(word) | Asked::Turned(word) => {
+                if !has_revisions(alloc, kept, word.as_str()) {
                     return false;
                 }
             }
@@ -210,15 +210,29 @@ fn asks_of_all(question: &Question, kept: &Certificate) -> bool {
         }
     }
     for revision in kept.revisions.iter() {
-        if !asks_of_others && !asks_of(question, revision.word.as_str()) {
+        if !asks_of_others && !asks_of(alloc, question, revision.word.as_str()) {
             return false;
         }
     }
     true
 }
 
-/// Whether a certificate has a revision of this name.
-fn has_revision(kept: &Certificate, name: &str) -> bool {
+/// Whether a certificate has the revisions that a word names.
+fn has_revisions(alloc: Global, kept: &Certificate, word: &str) -> bool {
+    match parse(alloc, Kind::Sha1, word) {
+        Ok(revision) => {
+            let (one, other) = revision.texts();
+            has_revision(kept, one) && has_revision(kept, other)
+        }
+        Err(_) => false,
+    }
+}
+
+/// Whether a certificate has a revision of this name, if there is one.
+fn has_revision(kept: &Certificate, name: Option<&str>) -> bool {
+    let Some(name) = name else {
+        return true;
+    };
     for revision in kept.revisions.iter() {
         if revision.word.as_str() == name {
             return true;
@@ -228,11 +242,10 @@ fn has_revision(kept: &Certificate, name: &str) -> bool {
 }
 
 /// Whether a word of a question names this revision.
-fn asks_of(question: &Question, name: &str) -> bool {
+fn asks_of(alloc: Global, question: &Question, name: &str) -> bool {
     for asked in question.asked.iter() {
-        if let Asked::Word(word) = asked {
-            let (one, other) = sides(word.as_str());
-            if one == name || other == name {
+        if let Asked::Word(word) | Asked::Turned(word) = asked {
+            if names(alloc, word.as_str(), name) {
                 return true;
             }
         }
@@ -240,22 +253,21 @@ fn asks_of(question: &Question, name: &str) -> bool {
     false
 }
 
-/// The two sides of a range, or twice the revision that a word is, or the first of `A...B`, whose second has no name in a certificate.
-fn sides(word: &str) -> (&str, &str) {
-    let word = word.strip_prefix('^').unwrap_or(word);
-    if word.contains(':') {
-        return (word, word);
+/// Whether a word names this revision: as one that it has, or as a parent of one whose parents it means.
+fn names(alloc: Global, word: &str, name: &str) -> bool {
+    let Ok(revision) = parse(alloc, Kind::Sha1, word) else {
+        return false;
+    };
+    let (one, other) = revision.texts();
+    if one == Some(name) || other == Some(name) {
+        return true;
     }
-    match word.split_once("..") {
-        Some((one, other)) if other.starts_with('.') => (side(one), side(one)),
-        Some((one, other)) => (side(one), side(other)),
-        None => (side(word), side(word)),
+    match revision.child() {
+        Some(child) => name
+            .strip_prefix(child)
+            .is_some_and(|parent| parent.starts_with('^')),
+        None => false,
     }
-}
-
-/// A side of a range, which is HEAD where nothing is written.
-fn side(word: &str) -> &str {
-    if word.is_empty() { "HEAD" } else { word }
 }
 
 /// What the revisions of a certificate stood for.

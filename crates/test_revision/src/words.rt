@@ -7,23 +7,62 @@ use std::test::Fail;
 
 /// A word as text: its steps one by one, or why it is refused.
 fn show(alloc: Global, word: &str) -> Result<String, AllocError> {
-    let mut text = String::new(alloc);
     match parse(alloc, Kind::Sha1, word) {
-        Ok(Revision::One { rev, is_hidden }) => {
-            text.push_str(if is_hidden { "not " } else { "" })?;
-            show_rev(alloc, &mut text, &rev)?;
+        Ok(revision) => show_revision(alloc, &revision),
+        Err(fault) => format!(in alloc; "{fault}"),
+    }
+}
+
+/// A word behind `--not` as text.
+fn show_turned(alloc: Global, word: &str) -> Result<String, AllocError> {
+    match parse(alloc, Kind::Sha1, word) {
+        Ok(revision) => show_revision(alloc, &revision.turned()),
+        Err(fault) => format!(in alloc; "{fault}"),
+    }
+}
+
+/// What a word asks for, as text.
+fn show_revision(alloc: Global, revision: &Revision<'_>) -> Result<String, AllocError> {
+    let mut text = String::new(alloc);
+    match revision {
+        Revision::One { rev, is_hidden } => {
+            text.push_str(if *is_hidden { "not " } else { "" })?;
+            show_rev(alloc, &mut text, rev)?;
         }
-        Ok(Revision::Range { hidden, tip }) => {
-            show_rev(alloc, &mut text, &tip)?;
+        Revision::Range { hidden, tip } => {
+            show_rev(alloc, &mut text, tip)?;
             text.push_str(" not ")?;
-            show_rev(alloc, &mut text, &hidden)?;
+            show_rev(alloc, &mut text, hidden)?;
         }
-        Ok(Revision::Symmetric { one, other }) => {
-            show_rev(alloc, &mut text, &one)?;
+        Revision::Symmetric { one, other } => {
+            show_rev(alloc, &mut text, one)?;
             text.push_str(" or ")?;
-            show_rev(alloc, &mut text, &other)?;
+            show_rev(alloc, &mut text, other)?;
         }
-        Err(fault) => text.push_str(format!(in alloc; "{fault}")?.as_str())?,
+        Revision::Neither { one, other } => {
+            text.push_str("not ")?;
+            show_rev(alloc, &mut text, one)?;
+            text.push_str(" not ")?;
+            show_rev(alloc, &mut text, other)?;
+        }
+        Revision::Parents { rev, are_hidden } => {
+            text.push_str(if *are_hidden { "not " } else { "" })?;
+            text.push_str("parents of ")?;
+            show_rev(alloc, &mut text, rev)?;
+        }
+        Revision::Without {
+            rev,
+            parent,
+            is_hidden,
+        } => {
+            text.push_str(if *is_hidden { "not " } else { "" })?;
+            show_rev(alloc, &mut text, rev)?;
+            text.push_str(if *is_hidden { " but" } else { " not" })?;
+            match parent {
+                Some(number) => text.push_str(format!(in alloc; " parent {number}")?.as_str())?,
+                None => text.push_str(" parents")?,
+            }
+        }
     }
     Ok(text)
 }
@@ -33,6 +72,10 @@ fn show_rev(alloc: Global, text: &mut String, rev: &Rev<'_>) -> Result<(), Alloc
     match rev.base {
         Base::Id(id) => text.push_str(format!(in alloc; "id {id}")?.as_str())?,
         Base::Name(name) => text.push_str(name)?,
+        Base::Upstream(Some(branch)) => {
+            text.push_str(format!(in alloc; "upstream of {branch}")?.as_str())?;
+        }
+        Base::Upstream(None) => text.push_str("upstream")?,
     }
     for step in rev.steps.iter() {
         text.push_str(" ")?;
@@ -52,6 +95,78 @@ fn check(rt: &(impl Abort + AllocGlobal), table: &[(&str, &str)]) -> Result<(), 
         let shown = show(rt.alloc(), word)?;
         assert_eq!(rt; shown.as_str(), *expected, "{word}");
     }
+    Ok(())
+}
+
+/// Words behind `--not`, as `git rev-parse --not` turns them round.
+const TURNED: &[(&str, &str)] = &[
+    ("A", "not A"),
+    ("^A", "A"),
+    ("A..B", "A not B"),
+    ("A..", "A not HEAD"),
+    ("..B~2", "HEAD not B ~2"),
+    ("A...B", "not A not B"),
+    ("...B^", "not HEAD not B ^1"),
+    ("A^@", "not parents of A"),
+    ("^A^@", "parents of A"),
+    ("A^!", "not A but parents"),
+    ("^A^-2", "A not parent 2"),
+    ("A:b..c", "not A Tree /b..c"),
+    ("..", "`..` is the name of a folder"),
+    ("^A..B", "`^` is in front of a range"),
+];
+
+#[test]
+fn not_turns_words(rt: HostRuntime) -> Result<(), Fail> {
+    for (word, expected) in TURNED {
+        let shown = show_turned(rt.alloc(), word)?;
+        assert_eq!(rt; shown.as_str(), *expected, "{word}");
+    }
+    Ok(())
+}
+
+#[test]
+fn parents_of_words(rt: HostRuntime) -> Result<(), Fail> {
+    check(
+        &rt,
+        &[
+            ("HEAD^@", "parents of HEAD"),
+            ("^HEAD~^@", "not parents of HEAD ~1"),
+            ("v1^{commit}^!", "v1 Commit not parents"),
+            ("^v1^!", "not v1 but parents"),
+            ("main^-", "main not parent 1"),
+            ("main^-02", "main not parent 2"),
+            ("^main~2^-2", "not main ~2 but parent 2"),
+            ("@^!", "HEAD not parents"),
+            ("HEAD:a^@", "HEAD Tree /a^@"),
+            ("main^-0", "it has a step that isn't known"),
+            ("main^-x", "it has a step that isn't known"),
+            ("main^!~1", "it has a step that isn't known"),
+            ("main^@^@", "it has a step that isn't known"),
+            ("main^!..topic", "it has a step that isn't known"),
+            ("^^!", "it names nothing"),
+        ],
+    )?;
+    Ok(())
+}
+
+#[test]
+fn upstreams_of_words(rt: HostRuntime) -> Result<(), Fail> {
+    check(
+        &rt,
+        &[
+            ("@{u}", "upstream"),
+            ("@{Upstream}~2", "upstream ~2"),
+            ("@@{u}", "upstream"),
+            ("HEAD@{U}^{tree}", "upstream Tree"),
+            ("main@{upstream}", "upstream of main"),
+            ("a/b@{u}:c", "upstream of a/b Tree /c"),
+            ("@{u}..", "HEAD not upstream"),
+            ("main@{u}...main", "upstream of main or main"),
+            ("main@{u}^@", "parents of upstream of main"),
+            ("@{u}@{u}", "it has a step that isn't known"),
+        ],
+    )?;
     Ok(())
 }
 
@@ -167,12 +282,8 @@ fn forms_that_are_not_taken(rt: HostRuntime) -> Result<(), Fail> {
                 "the branch that was checked out before (`@{-n}`) isn't taken, but its name is",
             ),
             (
-                "main@{upstream}",
-                "the upstream of a branch (`@{upstream}`) isn't taken, but its name is, as `origin/main`",
-            ),
-            (
-                "@{u}~2",
-                "the upstream of a branch (`@{upstream}`) isn't taken, but its name is, as `origin/main`",
+                "main@{push}",
+                "what a branch is pushed to (`@{push}`) isn't taken, but its name is, as `origin/main`",
             ),
             (
                 ":/text",
@@ -197,18 +308,6 @@ fn forms_that_are_not_taken(rt: HostRuntime) -> Result<(), Fail> {
             (
                 "HEAD:../a",
                 "a path from the current folder (`:./path`) isn't taken, but one from the top is (`:path`)",
-            ),
-            (
-                "HEAD^@",
-                "`A^@` isn't taken for all parents of a commit, but `A^1 A^2` is for those of a merge",
-            ),
-            (
-                "HEAD^!",
-                "`A^!` isn't taken for a commit without its parents, but `A ^A^1` is, and `A ^A^1 ^A^2` for a merge",
-            ),
-            (
-                "HEAD^-2",
-                "`A^-` isn't taken for a commit without one of its parents, but `A^..A` is",
             ),
             (
                 "ma*n",

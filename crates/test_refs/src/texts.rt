@@ -1,5 +1,9 @@
-use super::*;
+//! What texts say, as git reads them.
 use gix_hash::{Kind, ObjectId};
+use gix_refs::{
+    Ref, RefFault, common_dir, git_file, is_name_of_any_level, is_ref_name, packed_refs, read_ref,
+    settings_of, upstream_of,
+};
 use std::alloc::Global;
 use std::test::Fail;
 
@@ -197,5 +201,73 @@ fn paths_end_before_the_end_of_the_line(rt: HostRuntime) -> Result<(), Fail> {
     assert!(rt; git_file(b"gitdir:/a\n") == Err(RefFault::NoRepository));
     assert!(rt; common_dir(b"../..\n") == Ok("../.."));
     assert!(rt; common_dir(b"\n") == Err(RefFault::NoFolder));
+    Ok(())
+}
+
+/// A config with remotes and branches.
+const UPSTREAMS: &str = "\
+[remote \"origin\"]\n\
+\turl = x\n\
+\tfetch = refs/heads/only:refs/remotes/origin/one\n\
+\tfetch = +refs/heads/*:refs/remotes/origin/*\n\
+\tfetch = +refs/*/pull:refs/pulled/*/here\n\
+[remote \"Other\"]\n\
+\tfetch = +refs/heads/x/*:refs/remotes/o/*\n\
+[branch \"main\"]\n\
+\tremote = other\n\
+\tremote = origin\n\
+\tmerge = refs/heads/main\n\
+\tmerge = refs/heads/second\n\
+[branch \"a/B\"]\n\
+\tmerge = refs/heads/only\n\
+\tremote = origin\n\
+[branch \"local\"]\n\
+\tremote = .\n\
+\tmerge = refs/heads/main\n\
+[branch \"pull\"]\n\
+\tremote = origin\n\
+\tmerge = refs/tags/1/pull\n\
+[branch \"x\"]\n\
+\tremote = Other\n\
+\tmerge = refs/heads/x/y\n\
+[branch \"far\"]\n\
+\tremote = Other\n\
+\tmerge = refs/heads/y\n\
+[branch \"half\"]\n\
+\tremote = origin\n\
+\tmerge\n\
+[branch \"lost\"]\n\
+\tremote = none\n\
+\tmerge = refs/heads/main\n";
+
+/// Branches, and what `git rev-parse --symbolic-full-name BRANCH@{upstream}` prints.
+const BRANCHES: &[(&str, &str)] = &[
+    ("main", "refs/remotes/origin/main"),
+    ("a/B", "refs/remotes/origin/one"),
+    ("a/b", ""),
+    ("local", "refs/heads/main"),
+    ("pull", "refs/pulled/tags/1/here"),
+    ("x", "refs/remotes/o/y"),
+    ("far", ""),
+    ("half", ""),
+    ("lost", ""),
+    ("", ""),
+];
+
+#[test]
+fn upstreams_are_those_of_git(rt: HostRuntime) -> Result<(), Fail> {
+    for (branch, wanted) in BRANCHES {
+        let found = match upstream_of(rt.alloc(), UPSTREAMS.as_bytes(), *branch) {
+            Ok(found) => found,
+            Err(fault) => return Err(Fail::new(format_args!("{fault}"))),
+        };
+        let name = match &found {
+            Some(name) => name.as_str(),
+            None => "",
+        };
+        if name != *wanted {
+            return Err(Fail::new(format_args!("{branch}: {name}")));
+        }
+    }
     Ok(())
 }

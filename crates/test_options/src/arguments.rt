@@ -1,4 +1,5 @@
-use super::*;
+//! What arguments ask, and what is said where they are misused.
+use gix_options::{Asked, Asks, Name, Place, Refs, Rows, read_arguments, read_lines};
 use std::alloc::Global;
 use std::test::Fail;
 
@@ -214,6 +215,8 @@ const CASES: &[(&str, &str)] = &[
         "-C . topo --not A...B",
         "topo needs a revision without ^, as HEAD",
     ),
+    ("-C . topo --not A^!", ""),
+    ("-C . topo ^A^-2", ""),
     ("-C . topo --not ^", "a revision is empty"),
     ("-C . topo --not --stdin", ""),
     (
@@ -334,7 +337,7 @@ fn options_may_be_anywhere(rt: HostRuntime) -> Result<(), Fail> {
     let alloc = rt.alloc();
     let words = words_of(
         alloc,
-        "topo --trust-graph A --all -n 3 --border ^B -C a --verbose -C b",
+        "topo --trust-graph A --all -n 3 --border ^B -C a --not C --all --verbose -C b",
     )?;
     let Asks::Question(question) = read_arguments(alloc, words.as_slice())? else {
         return Err(Fail::new("no question"));
@@ -345,53 +348,20 @@ fn options_may_be_anywhere(rt: HostRuntime) -> Result<(), Fail> {
         && question.options.is_verbose
         && matches!(&question.place, Place::Folder(folder) if folder.as_str() == "b")
         && matches!(&question.options.limit, Some(limit) if limit.as_str() == "3");
-    let [Asked::Word(a), Asked::Refs(Refs::All), Asked::Word(b)] = question.asked.as_slice() else {
+    let [
+        Asked::Word(a),
+        Asked::Refs(Refs::All),
+        Asked::Word(b),
+        Asked::Turned(c),
+        Asked::Hidden(Refs::All),
+    ] = question.asked.as_slice()
+    else {
         return Err(Fail::new("other words"));
     };
-    if is_right && a.as_str() == "A" && b.as_str() == "^B" {
+    if is_right && a.as_str() == "A" && b.as_str() == "^B" && c.as_str() == "C" {
         return Ok(());
     }
     Err(Fail::new(format_args!("{question:?}")))
-}
-
-/// Revisions behind `--not`, and what they are without it.
-const TURNED: &[(&str, &str)] = &[
-    ("A", "^A"),
-    ("^A", "A"),
-    ("A..B", "B..A"),
-    ("A..", "..A"),
-    ("..B~2", "B~2.."),
-    ("..", ".."),
-    ("A...B", "^A ^B"),
-    ("...B^", "^HEAD ^B^"),
-    ("^A..B", "^A..B"),
-    ("A:b..c", "^A:b..c"),
-    ("A --not B", "^A B"),
-];
-
-#[test]
-fn not_turns_revisions(rt: HostRuntime) -> Result<(), Fail> {
-    let alloc = rt.alloc();
-    for (text, wanted) in TURNED {
-        let words = words_of(
-            alloc,
-            format!(in alloc; "-C . topo T --not {text}")?.as_str(),
-        )?;
-        let Asks::Question(question) = read_arguments(alloc, words.as_slice())? else {
-            return Err(Fail::new("no question"));
-        };
-        let mut said = String::from_str(alloc, "T")?;
-        for asked in question.asked.iter().skip(1) {
-            if let Asked::Word(word) = asked {
-                said.push(' ')?;
-                said.push_str(word.as_str())?;
-            }
-        }
-        if said.as_str().strip_prefix("T ") != Some(*wanted) {
-            return Err(Fail::new(format_args!("{text}: {said}")));
-        }
-    }
-    Ok(())
 }
 
 #[test]
@@ -457,9 +427,19 @@ const TIMES: &[(&str, Option<u64>)] = &[
 ];
 
 #[test]
-fn times_are_read() -> Result<(), Fail> {
+fn times_are_read(rt: HostRuntime) -> Result<(), Fail> {
+    let alloc = rt.alloc();
     for (text, seconds) in TIMES {
-        if crate::date::seconds_of(text) != *seconds {
+        let mut words = words_of(alloc, "-C . newest HEAD --since")?;
+        words.push(String::from_str(alloc, *text)?)?;
+        let said = match read_arguments(alloc, words.as_slice()) {
+            Ok(Asks::Question(question)) => match &question.options.since {
+                Some(digits) => digits.as_str().parse::<u64>().ok(),
+                None => None,
+            },
+            _ => None,
+        };
+        if said != *seconds {
             return Err(Fail::new(format_args!("{text}")));
         }
     }

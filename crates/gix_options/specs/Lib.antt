@@ -1,2 +1,0 @@
--- Revisions behind `--not`.
-pub mod Turning

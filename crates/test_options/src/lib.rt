@@ -1,0 +1,5 @@
+//! Tests of the program's arguments.
+#![tactic(auto)]
+
+#[cfg(test)]
+mod arguments;
