@@ -23,8 +23,8 @@ pub fn seconds_of(text: &str) -> Option<u64> {
     Some(seconds)
 }
 
-/// The number that digits write.
-fn number(digits: &[u8]) -> Option<u64> {
+/// The number that digits write, or the greatest where it is greater.
+pub(crate) fn number(digits: &[u8]) -> Option<u64> {
     let mut number: u64 = 0;
     for digit in digits {
         if !digit.is_ascii_digit() {
@@ -99,10 +99,7 @@ fn clock(hour: u64, minute: u64) -> Option<u64> {
     if hour > 23 || minute > 59 {
         return None;
     }
-    Some(
-        hour.saturating_mul(3600)
-            .saturating_add(minute.saturating_mul(60)),
-    )
+    Some(hour * 3600 + minute * 60)
 }
 
 /// The seconds in UTC of a time with an offset.

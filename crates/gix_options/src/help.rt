@@ -149,10 +149,11 @@ pub const COMMANDS: &[Command] = &[
 
 /// What the help says behind the commands.
 pub const NOTES: &str = "\
-A revision is an id, the first 4 digits of one or more, a ref by git's rules, HEAD or @, or worktrees/NAME/HEAD or main-worktree/HEAD of
-another worktree; behind it any of ~N, ^N, ^{commit}, ^{tree}, ^{tag} and ^{}; for files also :PATH. In the first five commands ^A
-excludes all commits that A reaches, A..B stands for ^A B, and A...B for A and B without what both reach. For ahead A...B stands for
-A B.
+A revision is an id, the first 4 digits of one or more, a ref by git's rules, HEAD or @, BRANCH@{u} for the branch's upstream, @{u} for
+HEAD's, or worktrees/NAME/HEAD or main-worktree/HEAD of another worktree; behind it any of ~N, ^N, ^{commit}, ^{tree}, ^{tag} and ^{};
+for files also :PATH. In the first five commands ^A excludes all commits that A reaches, A..B stands for ^A B, and A...B for A and B
+without what both reach. A^@ stands for A's parents, A^! for A without what they reach, and A^-N for A without what its parent N
+reaches. For ahead A...B stands for A B.
 
 All objects are compared with their ids. An object that is damaged is a fault, and nothing is listed. Where one is missing, or no commit,
 the first five commands have listed the commits before it, and nothing with --reverse and --count, and the others nothing. newest and

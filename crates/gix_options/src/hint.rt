@@ -14,11 +14,7 @@ pub(crate) fn of_command(word: &str) -> &'static str {
 }
 
 /// What there is in place of an option of git's, behind a colon.
-pub(crate) fn of_option(word: &str) -> &'static str {
-    let option = match word.split_once('=') {
-        Some((option, _)) => option,
-        None => word,
-    };
+pub(crate) fn of_option(option: &str) -> &'static str {
     match option {
         "--branches" | "--tags" | "--remotes" | "--glob" | "--exclude" =>
             ": refs aren't chosen by a pattern, but --branches, --tags, --remotes and --all add refs",

@@ -1,7 +1,7 @@
 //! Arguments that ask something of a repository.
 ghost use Rattle.std.specs.Prelude.{◌≡◌, ◌+◌, ◌≤◌, ◌<◌, length};
 
-use crate::date::seconds_of;
+use crate::date::{number, seconds_of};
 use crate::format::format_fault;
 use crate::hint::{of_command, of_option};
 use crate::lines::{fault_of, misuse_of};
@@ -510,7 +510,8 @@ impl Arguments {
     fn read_word(&mut self, word: &str) -> Result<(), Misuse> {
         if word.starts_with('-') {
             let text = String::from_str(self.alloc, word)?;
-            return Err(Misuse::NoOption(text, of_option(word)));
+            let (option, _) = with_value(word);
+            return Err(Misuse::NoOption(text, of_option(option)));
         }
         if self.name.is_none() {
             if word == "help" {
@@ -773,16 +774,13 @@ fn takes_value(option: &str) -> bool {
 
 /// Whether a word is 1 to so many decimal digits.
 fn is_number(word: &str, most: usize) -> bool {
-    !word.is_empty()
-        && word.len() <= most
-        && word.as_bytes().iter().all(|byte| byte.is_ascii_digit())
+    !word.is_empty() && word.len() <= most && number(word.as_bytes()).is_some()
 }
 
 /// Whether a word is a number below 0 of at most 9 digits.
 fn is_negative(word: &str) -> bool {
     match word.strip_prefix('-') {
-        Some(digits) => is_number(digits, 9)
-            && digits.as_bytes().iter().any(|digit| *digit != b'0'),
+        Some(digits) => is_number(digits, 9) && number(digits.as_bytes()) != Some(0),
         None => false,
     }
 }
