@@ -182,7 +182,8 @@ with a name that is empty or holds a slash.
   --names      writes behind each id of contains and containing a space and the revision as it was given, or the name of
                the ref
   --first-parent
-               goes from each commit to its first parent alone, in breadth, topo and date; what ^A excludes is reached by all parents
+               goes from each commit to its first parent alone, in breadth, topo, date, and newest of one revision without ^; what
+               ^A excludes is reached by all parents
   --since TIME leaves out the commits of an earlier time and what it would meet by them alone, in newest and oldest. The time
                is in seconds since 1970, of 1 to 10 digits, or a date, as 2024-05-01 for its midnight in UTC, or
                2024-05-01T12:00:00 with nothing or Z for UTC behind it or an offset as +02:00. --after TIME, --since=TIME

@@ -63,6 +63,9 @@ pub enum Misuse {
     /// This line of standard input, from 1 on, has this fault.
     #[error("line {0} of standard input: {1}")]
     Line(usize, LineFault),
+    /// `newest` would go through first parents from several revisions.
+    #[error("newest --first-parent takes one revision without ^, and date --first-parent several")]
+    FirstParents,
     /// A list of commits begins nowhere.
     #[error("{0} needs a revision without ^, as HEAD")]
     NoTip(&'static str),
@@ -119,7 +122,7 @@ impl Misuse {
 /// The commands that an option goes with, where these are few.
 fn fitting(option: &str) -> &'static str {
     match option {
-        "--first-parent" => ", only with breadth, topo and date",
+        "--first-parent" => ", only with breadth, newest, topo and date",
         "--since" => ", only with newest and oldest",
         "--names" => ", only with contains and containing",
         "-n" | "-z" => ", only with lists of commits and with files",

@@ -598,9 +598,12 @@ impl Arguments {
             }
         }
         if self.options.by_first_parents
-            && !matches!(name, Name::Breadth | Name::Topo | Name::Date)
+            && !matches!(name, Name::Breadth | Name::Newest | Name::Topo | Name::Date)
         {
             return Err(Misuse::option("--first-parent", name));
+        }
+        if self.options.by_first_parents && self.options.since.is_some() {
+            return Err(Misuse::Misfit("--first-parent", "--since", ""));
         }
         if self.options.since.is_some() && name != Name::Newest && name != Name::Oldest {
             return Err(Misuse::option("--since", name));

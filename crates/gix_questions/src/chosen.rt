@@ -108,6 +108,9 @@ pub fn choose_from(
     }
     chosen.resolved = resolved;
     check_number(question.name, &chosen)?;
+    if question.name == Name::Newest && question.options.by_first_parents && !chosen.has_one_tip() {
+        return Err(Fault::Misuse(Misuse::FirstParents));
+    }
     Ok(chosen)
 }
 
@@ -194,6 +197,12 @@ impl Chosen {
         Ok(())
     }
 
+    /// Whether all tips are the same.
+    fn has_one_tip(&self) -> bool {
+        let tips = self.tips.as_slice();
+        tips.iter().all(|tip| Some(tip) == tips.first())
+    }
+
     /// All ids, of tips and others.
     pub fn all(&self, alloc: Global) -> Result<Vec<ObjectId>, AllocError> {
         let mut ids = Vec::new(alloc);
@@ -203,7 +212,8 @@ impl Chosen {
     }
 
     /// The words of a command that asks for these ids, with the options of the question. Each tip comes once. For `topo` the last tip
-    /// comes first, since of tips of one second the walk begins with the last, and git with the first.
+    /// comes first, since of tips of one second the walk begins with the last, and git with the first. The first parents of one tip are
+    /// in one row, so `newest` lists them as `breadth` does.
     pub fn words(
         &self,
         alloc: Global,
@@ -213,10 +223,10 @@ impl Chosen {
         let mut words = Vec::new(alloc);
         // Whether the second reaches the first is whether it contains it.
         let asks_the_second = question.name == Name::IsAncestor;
-        let name = if asks_the_second {
-            Name::Contains
-        } else {
-            question.name
+        let name = match question.name {
+            Name::IsAncestor => Name::Contains,
+            Name::Newest if question.options.by_first_parents => Name::Breadth,
+            name => name,
         };
         words.push(String::from_str(alloc, name.word())?)?;
         push_options(alloc, &question.options, &mut words)?;

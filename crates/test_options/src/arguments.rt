@@ -94,9 +94,14 @@ const CASES: &[(&str, &str)] = &[
         "--since doesn't go with topo, only with newest and oldest",
     ),
     (
-        "-C . newest HEAD --first-parent",
-        "--first-parent doesn't go with newest, only with breadth, topo and date",
+        "-C . oldest HEAD --first-parent",
+        "--first-parent doesn't go with oldest, only with breadth, newest, topo and date",
     ),
+    (
+        "-C . newest --since 1 HEAD --first-parent",
+        "--first-parent doesn't go with --since",
+    ),
+    ("-C . newest HEAD --first-parent", ""),
     ("-C . topo HEAD --first-parent", ""),
     ("-C . date --first-parent HEAD", ""),
     ("-C . topo -z --parents HEAD --timestamp", ""),
