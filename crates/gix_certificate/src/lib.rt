@@ -19,6 +19,3 @@ pub use hashing::Hashing;
 pub use read::read_certificate;
 pub use record::{Certificate, Lines, Meaning, Page, Program, Revision, Rows};
 pub use statement::{PAGES, pages};
-
-#[cfg(test)]
-mod tests;

@@ -1,4 +1,8 @@
-use super::*;
+//! Certificates as texts, compared with one another, and hashed while lines are written.
+use gix_certificate::{
+    Certificate, Digest, Fault, Hashing, Lines, Meaning, PAGES, Page, Program, Revision, Rows,
+    pages, read_certificate,
+};
 use gix_hash::ObjectId;
 use std::alloc::Global;
 use std::io::{self, ErrorKind, Write};

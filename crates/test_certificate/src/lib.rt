@@ -1,0 +1,5 @@
+//! Tests of certificates.
+#![tactic(auto)]
+
+#[cfg(test)]
+mod texts;
