@@ -1,8 +1,9 @@
 //! Sets and maps of ids. No other module knows which container holds them.
-ghost use Rattle.std.specs.Prelude.{◌≡◌, ◌↔◌, IsTrue, false, not, None, IfOk, OnOk, OnErr, OnSome, IfNone};
+ghost use Rattle.std.specs.Prelude.{◌≡◌, ◌↔◌, IsTrue, false, not, None, is_some, IfOk, OnOk, OnErr, OnSome, IfNone};
 ghost use Rattle.std.specs.Option.{option_copied};
 ghost use Rattle.std.specs.FinSet as set;
 ghost use Rattle.std.specs.FinMap as map;
+ghost use Rattle.gix_hash.specs.Id.{is_among};
 
 use crate::{Keys, ObjectId};
 use std::alloc::{AllocError, Global};
@@ -169,6 +170,21 @@ impl<T> IdMap<T> {
         ensures map { self.new ≡ map.remove self.old id.now }
     {
         self.values.remove(id)
+    }
+
+    /// The ids that have a value, each once, in no order that means anything.
+    ///
+    /// # Errors
+    ///
+    /// `AllocError` when out of memory.
+    pub fn ids(&self, alloc: Global) -> Result<Vec<ObjectId>, AllocError>
+        ensures { IfOk result (λ ids. (i : ObjectId) → is_among i ids.items ≡ is_some (map.get self.now i)) }
+    {
+        let mut ids = Vec::with_capacity(alloc, self.values.len())?;
+        for id in self.values.keys() {
+            ids.push(*id)?;
+        }
+        Ok(ids)
     }
 
     /// How many ids have a value.
