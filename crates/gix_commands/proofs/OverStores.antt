@@ -1,20 +1,14 @@
 -- What a run over a store may answer.
 use Rattle.std.proofs.Common.{◌≡◌, ◌≢◌, ℕ, List, Option, None, Some, Result, Ok, Err, sym, ap, subst, ◌∙◌}
-use Rattle.std.specs.FinMap as map
 use Rattle.gix_commands.proofs.Common.{id_cmp, Objects, GraphRow, Fault, fault_of_disagreement, never_faulty, Request, request_of}
 use Rattle.gix_graph_check.specs.Sound.{AreSound}
 use Rattle.gix_graph_check.specs.declared.Disagreement.{Disagreement}
 use Rattle.gix_graph_check.specs.declared.Disagreement.TheVariants as disagreement
-use Rattle.gix_graph_store.specs.Laws.{StoredAgree}
 use Rattle.gix_graph_store.specs.StoredRows.{StoredDisagrees}
 use Rattle.gix_words.specs.declared.fault.Fault.TheVariants as fault
 use Rattle.gix_commands.specs.StoredRuns.{FailsToAgree, RunsStored, unsound, disagrees, no_memory, without_memory, no_command, not_agreed}
 use Rattle.gix_commands.proofs.MemoryFaults.{failed_so}
 use Rattle.gix_commands.proofs.RunFacts.{err_same}
-
--- rows agree with a store that has no object
-pub none_stored : (rows : List GraphRow) (objects : Objects) → map.len objects ≡ 0 → StoredAgree rows objects
-none_stored rows objects empty row object m there = let no : None ≡ Some object = sym (ap (λ (o : Objects). map.get o row.id) (map.empty_of_len objects empty) ∙ map.get-empty id_cmp row.id) ∙ there in cc
 
 -- what is stored isn't as the rows say
 pub of_disagreement : (rows : List GraphRow) (objects : Objects) (why : Disagreement) → AreSound rows → StoredDisagrees objects (never_faulty objects) rows why → FailsToAgree rows objects (fault_of_disagreement why)

@@ -10,7 +10,7 @@ ghost use Rattle.gix_words.specs.Words.{request_of};
 
 use crate::graph::open;
 use crate::serve;
-use gix_graph_store::check_stored;
+use crate::stored::check_store;
 use gix_hash::Keys;
 use gix_words::{Fault, read_command};
 use std::alloc::Global;
@@ -55,6 +55,6 @@ pub fn run_over<R: Read, W: Write>(
     let graph = open(alloc, layers)?;
     let input = gix_records::read_to_end(alloc, reader, gix_records::READS)?;
     let store = gix_records::records_in(alloc, keys, input.as_slice())?;
-    check_stored(alloc, &graph, &store)?;
+    check_store(alloc, &graph, &store)?;
     serve(alloc, command, &store, Some(&graph), writer)
 }

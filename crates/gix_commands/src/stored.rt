@@ -4,6 +4,7 @@ ghost use Rattle.std.specs.Prelude.{◌≡◌, ◌≢◌, ℕ, List, [], map, No
 ghost use Rattle.gix_commitgraph.specs.Packed.{AreGraphRows};
 ghost use Rattle.gix_graph_check.specs.Sound.{AreSound};
 ghost use Rattle.gix_graph_store.specs.Laws.{StoredAgree};
+ghost use Rattle.gix_graph_store.specs.StoredRows.{StoredDisagrees};
 ghost use Rattle.gix_graph_store.specs.WithRows.{with_rows};
 ghost use Rattle.gix_revwalk.specs.Agreeing.{IsAgreeing, rows_in};
 ghost use Rattle.gix_statement.specs.CommitGraph.{AreLayers};
@@ -14,12 +15,15 @@ ghost use Rattle.gix_commands.specs.StoredRuns.{FailsToAgree, RunsStored};
 
 use crate::serve;
 use gix_commitgraph::Graph;
-use gix_graph_check::first_unsound;
-use gix_graph_store::check_stored;
+use gix_graph_check::{Disagreement, first_unsound};
+use gix_graph_store::{agree_at, check_stored};
 use gix_records::{LentStore, NamedObjects};
 use gix_words::{Fault, read_command};
 use std::alloc::Global;
 use std::io::Write;
+
+/// How many rows there are for each object where objects are few: a row costs less than an object, which is searched for among the rows.
+const FEW: usize = 4;
 
 /// Runs the command that the words are, as [`run`](crate::run) does, over a store, and over the rows of a commit-graph where there is one.
 /// Only commits that have no row need to be in the store, and with `--oneline` or `--format` also those that are listed, since no row has a
@@ -114,9 +118,29 @@ fn check_graph(alloc: Global, store: &LentStore<'_>, graph: &Graph) -> Result<()
     if let Some(id) = first_unsound(graph) {
         return Err(Fault::Row(id));
     }
-    if store.is_empty() {
-        return Ok(());
-    }
-    check_stored(alloc, graph, store)?;
+    check_store(alloc, graph, store)?;
     Ok(())
+}
+
+/// Tests that each object that is stored at the id of a row is the commit that the row says, as [`check_stored`] does. Of few objects each is
+/// looked at, and all rows only if one doesn't agree, since the fault is that of the first row.
+///
+/// # Errors
+/// Those of [`check_stored`].
+pub(crate) fn check_store(
+    alloc: Global,
+    graph: &Graph,
+    store: &LentStore<'_>,
+) -> Result<(), Disagreement>
+    ensures agrees { OnOk result (StoredAgree graph.now store.now) }
+    ensures disagrees { IfErr result (StoredDisagrees store.now (never_faulty store.now) graph.now) }
+{
+    if store.len() < graph.num_commits() as usize / FEW {
+        if let Ok(ids) = store.ids(alloc) {
+            if agree_at(alloc, graph, store, ids.as_slice()) {
+                return Ok(());
+            }
+        }
+    }
+    check_stored(alloc, graph, store)
 }

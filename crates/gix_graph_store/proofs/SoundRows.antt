@@ -41,7 +41,7 @@ module _ (rows : List GraphRow) (graph : AreGraphRows rows) where
       let at : row_at rows n ≡ row = row_at-read rows n row e in
       row_of-found rows row.id n graph.rising (slice_get_within rows n row e) ((Equal-is (id_cmp (row_at rows n).id row.id)).0 (same_from (row_at rows n).id row.id (ap (λ (r : GraphRow). r.id) at))) ∙ ap Some at
 
-  member-own : (row : GraphRow) → Contains rows row → row_of rows row.id ≡ Some row
+  pub member-own : (row : GraphRow) → Contains rows row → row_of rows row.id ≡ Some row
   member-own row m = let at = place_of rows row m in row-own at.0 row at.1
 
   member-among : (row : GraphRow) → Contains rows row → IsRowAmong (kind_of_rows rows) (length rows) row

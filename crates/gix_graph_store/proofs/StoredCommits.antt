@@ -1,14 +1,17 @@
 -- Rows that say what is stored.
-use Rattle.std.proofs.Common.{◌≡◌, ◌≢◌, ℕ, ◌<◌, List, [], ◌∷◌, length, Bool, true, false, Option, Some, None, Ok, MatchBool, refl, sym, ap, subst, ◌∙◌, slice_get, option_map}
+use Rattle.std.proofs.Common.{◌≡◌, ◌≢◌, ℕ, ◌<◌, List, [], ◌∷◌, length, Bool, true, false, Option, Some, None, Ok, MatchBool, refl, sym, ap, subst, ◌∙◌, slice_get, option_map, is_some, ⊎_elim}
+use Rattle.std.proofs.lemmas.Bool.{or_cases}
 use Rattle.std.proofs.lemmas.Option.{slice_get_within}
+use Rattle.std.specs.FinMap.{get}
 use Rattle.gix_hash.specs.declared.ObjectId.{ObjectId}
-use Rattle.gix_hash.specs.Id.{is_same}
+use Rattle.gix_hash.specs.Id.{is_same, is_among}
 use Rattle.gix_hash.proofs.Ids.Membership.{same_is, same_from}
 use Rattle.gix_object.specs.Object.{Objects}
 use Rattle.gix_object.specs.CommitText.{Commit}
 use Rattle.gix_commitgraph.specs.declared.ParentPlace.{ParentPlace}
 use Rattle.gix_commitgraph.specs.declared.Position.{Position}
 use Rattle.gix_commitgraph.specs.Rows.{GraphRow, row_at}
+use Rattle.gix_commitgraph.specs.Packed.{AreGraphRows}
 use Rattle.gix_commitgraph.specs.Parents.{Answer, answers_of}
 use Rattle.gix_revwalk.specs.RowParents.{with_id, ids_at}
 use Rattle.gix_revwalk.proofs.Rows.{answered_ids, answered_at}
@@ -16,7 +19,8 @@ use Rattle.gix_revwalk.proofs.ReadsWhole.{place_of}
 use Rattle.gix_graph_check.proofs.SoundRows.{row_at-read}
 use Rattle.gix_graph_store.specs.Laws.{StoredAgree}
 use Rattle.gix_graph_store.specs.Saying.{Says}
-use Rattle.gix_graph_store.specs.StoredRows.{IsStoredSo}
+use Rattle.gix_graph_store.specs.StoredRows.{IsStoredSo, IsStoredAt}
+use Rattle.gix_graph_store.proofs.SoundRows.{member-own}
 
 -- the ids and places left are one exactly where all are
 pub record IsLeft (rows : List GraphRow) (whole : Option (List ObjectId)) (ids left : List ObjectId) (answers : List Answer) : Type 0 where
@@ -80,3 +84,17 @@ all-stored rows objects each row object m there =
     let so : IsStoredSo rows objects row = subst (IsStoredSo rows objects) (row_at-read rows at.0 row at.1) (each at.0 (slice_get_within rows at.0 row at.1)) in
     let c = so object there in
     c.1 ∙ sym c.2
+
+module _ (rows : List GraphRow) (objects : Objects) where
+  -- what is known of one id more
+  pub next-stored : (x : ObjectId) (left more : List ObjectId) → left ≡ x ∷ more → IsStoredAt rows objects x → ((i : ObjectId) → is_among i more ≡ true → IsStoredAt rows objects i)
+      → (i : ObjectId) → is_among i left ≡ true → IsStoredAt rows objects i
+  next-stored x left more e here rest i among =
+      ⊎_elim (λ s. subst (IsStoredAt rows objects) (sym (same_is i x s)) here) (rest i) (or_cases _ _ (subst (λ ids. is_among i ids ≡ true) e among))
+
+  -- what is known of the ids of all objects is enough
+  pub all-stored-at : AreGraphRows rows → (ids : List ObjectId) → ((i : ObjectId) → is_some (get objects i) ≡ true → is_among i ids ≡ true) → ((i : ObjectId) → is_among i ids ≡ true → IsStoredAt rows objects i)
+      → StoredAgree rows objects
+  all-stored-at graph ids all each row object m there =
+      let c = each row.id (all row.id (ap is_some there)) row (member-own rows graph row m) object there in
+      c.1 ∙ sym c.2

@@ -13,7 +13,7 @@ use gix_commitgraph::Graph;
 use gix_hash::{Keys, ObjectId};
 use gix_object::Kind;
 use gix_object::find::{Error, Find};
-pub use stored::check_stored;
+pub use stored::{agree_at, check_stored};
 
 /// A store that has a commit for each row beside its own objects. Where the store has no object of a row's id, there is a text written
 /// from the row: its tree, its parents and the committer's seconds. A row with a corrupt place has no text.

@@ -1,13 +1,14 @@
 //! Whether what is stored at the ids of rows is what the rows say.
-ghost use Rattle.std.specs.Prelude.{◌≡◌, ◌≢◌, ◌<◌, length, Some, IfOk, IfErr, OnOk, MatchBool, MatchResult};
-ghost use Rattle.gix_hash.specs.Id.{is_same};
+ghost use Rattle.std.specs.Prelude.{◌≡◌, ◌≢◌, ◌<◌, IsTrue, true, is_some, length, Some, IfOk, IfErr, OnOk, MatchBool, MatchResult};
+ghost use Rattle.std.specs.FinMap.{get};
+ghost use Rattle.gix_hash.specs.Id.{is_same, is_among};
 ghost use Rattle.gix_commitgraph.specs.Rows.{row_at};
 ghost use Rattle.gix_commitgraph.specs.GraphCommit.{rows_of_commit, row_of_commit};
 ghost use Rattle.gix_revwalk.specs.RowParents.{ids_at};
 ghost use Rattle.gix_graph_check.specs.StoredCommits.{commit_shown};
 ghost use Rattle.gix_graph_store.specs.Laws.{StoredAgree};
 ghost use Rattle.gix_graph_store.specs.Saying.{Says, IsSaid};
-ghost use Rattle.gix_graph_store.specs.StoredRows.{IsStoredSo, IsNotStoredSo, StoredDisagrees, of_look_up};
+ghost use Rattle.gix_graph_store.specs.StoredRows.{IsStoredSo, IsStoredAt, IsNotStoredSo, StoredDisagrees, of_look_up};
 
 use gix_commitgraph::{Commit, Graph, Position};
 use gix_graph_check::{Disagreement, StoredCommit, read_whole};
@@ -103,9 +104,24 @@ fn check_row<F: Find>(
 ) -> Result<(), Disagreement>
     requires { number < length graph.now }
     ensures { MatchResult result (λ _. IsStoredSo graph.now (F.objects store.now) (row_at graph.now number))
-        (IsNotStoredSo (F.objects store.now) (F.faulty store.now) graph.now number) }
+        (IsNotStoredSo (F.objects store.now) (F.faulty store.now) graph.now (row_at graph.now number)) }
 {
     let commit = graph.commit_at(Position(number));
+    check_commit(alloc, graph, commit, store, text)
+}
+
+/// Tests what is stored at the id of a commit with a row.
+fn check_commit<F: Find>(
+    alloc: Global,
+    graph: &Graph,
+    commit: Commit<'_>,
+    store: &F,
+    text: &mut Vec<u8>,
+) -> Result<(), Disagreement>
+    requires { rows_of_commit commit ≡ graph.now }
+    ensures { MatchResult result (λ _. IsStoredSo graph.now (F.objects store.now) (row_of_commit commit.entry))
+        (IsNotStoredSo (F.objects store.now) (F.faulty store.now) graph.now (row_of_commit commit.entry)) }
+{
     let id = commit.id();
     let kind = match store.find_into(&id, text) {
         Ok(Some(kind)) => kind,
@@ -140,4 +156,38 @@ pub fn check_stored<F: Find>(alloc: Global, graph: &Graph, store: &F) -> Result<
         check_row(alloc, graph, store, number, &mut text)?;
     }
     Ok(())
+}
+
+/// Whether it is known that each object of a store that is at the id of a row is the commit that the row says, from the ids of all objects
+/// of the store. It isn't known where the store fails or memory runs out.
+///
+/// Each id is looked up once, so of a small store this takes less than [`check_stored`], which goes through all rows and says which is the
+/// first that doesn't agree.
+pub fn agree_at<F: Find>(alloc: Global, graph: &Graph, store: &F, ids: &[ObjectId]) -> bool
+    requires { (i : ObjectId) → is_some (get (F.objects store.now) i) ≡ true → is_among i ids.now ≡ true }
+    ensures { IsTrue result → StoredAgree graph.now (F.objects store.now) }
+{
+    let mut text = Vec::new(alloc);
+    for id in ids {
+        if !agrees_at(alloc, graph, store, id, &mut text) {
+            return false;
+        }
+    }
+    true
+}
+
+/// The same of the object of one id.
+fn agrees_at<F: Find>(
+    alloc: Global,
+    graph: &Graph,
+    store: &F,
+    id: &ObjectId,
+    text: &mut Vec<u8>,
+) -> bool
+    ensures { IsTrue result → IsStoredAt graph.now (F.objects store.now) id.now }
+{
+    match graph.commit_by_id(id) {
+        Some(commit) => check_commit(alloc, graph, commit, store, text).is_ok(),
+        None => true,
+    }
 }

@@ -1,7 +1,8 @@
 //! A store over bytes that another has.
-ghost use Rattle.std.specs.Prelude.{◌≡◌, ◌↔◌, IsTrue, length};
+ghost use Rattle.std.specs.Prelude.{◌≡◌, ◌↔◌, IsTrue, length, is_some, IfOk};
 ghost use Rattle.std.specs.FinMap as map;
 ghost use Rattle.std.specs.Option.{option_copied};
+ghost use Rattle.gix_hash.specs.Id.{is_among};
 ghost use Rattle.gix_object.specs.MemoryStore.{objects_at, AreWithin};
 ghost use Rattle.gix_records.specs.Places.{places_of};
 
@@ -10,6 +11,7 @@ use gix_hash::{Keys, ObjectId};
 use gix_object::Kind;
 use gix_object::find::{Error, Find};
 use gix_object::memory::Stored;
+use std::alloc::{AllocError, Global};
 use std::marker::Model;
 
 /// Places of objects: the store's own, or another's.
@@ -77,6 +79,17 @@ impl<'a> LentStore<'a> {
     {
         self.len() == 0
     }
+
+    /// The ids of the objects, each once, in no order that means anything.
+    ///
+    /// # Errors
+    ///
+    /// `AllocError` when out of memory.
+    pub fn ids(&self, alloc: Global) -> Result<Vec<ObjectId>, AllocError>
+        ensures { IfOk result (λ ids. (i : ObjectId) → is_among i ids.items ≡ is_some (map.get self.now i)) }
+    {
+        ids_of(alloc, &self.objects)
+    }
 }
 
 impl Find for LentStore<'_> {
@@ -110,6 +123,16 @@ fn number_of(objects: &Places<'_>) -> usize
     match objects {
         Places::Kept(objects) => objects.len(),
         Places::Lent(objects) => objects.len(),
+    }
+}
+
+/// The ids that have places.
+fn ids_of(alloc: Global, objects: &Places<'_>) -> Result<Vec<ObjectId>, AllocError>
+    ensures { IfOk result (λ ids. (i : ObjectId) → is_among i ids.items ≡ is_some (map.get (places_of objects.now) i)) }
+{
+    match objects {
+        Places::Kept(objects) => objects.ids(alloc),
+        Places::Lent(objects) => objects.ids(alloc),
     }
 }
 

@@ -57,23 +57,23 @@ returns-in_err-store-clause-spelled g c = over_spelled (returns-in_err-store-cla
 pub returns-in_err-store-clause-unread : goal.returns-in_err-store-clause-unread
 returns-in_err-store-clause-unread g c = no_rejection c.in_ok-command.ensures
 
-pub returns-in_err-check_stored-clause-runs : goal.returns-in_err-check_stored-clause-runs
-returns-in_err-check_stored-clause-runs g c =
-    let p = err_from_is_err_and c.from_residual-in_err-check_stored.result c.from_residual-in_err-check_stored.ensures.1 in
-    over_disagreement _ _ _ _ _ c.in_ok-command.ensures _ c.in_ok-graph.ensures.ok _ (read_from _ _ _ _ c.in_ok-input.ensures.whole c.as_slice.ensures.value c.in_ok-store.ensures.read) _ _ _ p.1 p.2 c.in_err-check_stored.ensures.disagrees
+pub returns-in_err-check_store-clause-runs : goal.returns-in_err-check_store-clause-runs
+returns-in_err-check_store-clause-runs g c =
+    let p = err_from_is_err_and c.from_residual-in_err-check_store.result c.from_residual-in_err-check_store.ensures.1 in
+    over_disagreement _ _ _ _ _ c.in_ok-command.ensures _ c.in_ok-graph.ensures.ok _ (read_from _ _ _ _ c.in_ok-input.ensures.whole c.as_slice.ensures.value c.in_ok-store.ensures.read) _ _ _ p.1 p.2 c.in_err-check_store.ensures.disagrees
 
-pub returns-in_err-check_stored-clause-sound : goal.returns-in_err-check_stored-clause-sound
-returns-in_err-check_stored-clause-sound g c = over_sound (returns-in_err-check_stored-clause-runs g c)
+pub returns-in_err-check_store-clause-sound : goal.returns-in_err-check_store-clause-sound
+returns-in_err-check_store-clause-sound g c = over_sound (returns-in_err-check_store-clause-runs g c)
 
-pub returns-in_err-check_stored-clause-spelled : goal.returns-in_err-check_stored-clause-spelled
-returns-in_err-check_stored-clause-spelled g c = over_spelled (returns-in_err-check_stored-clause-runs g c)
+pub returns-in_err-check_store-clause-spelled : goal.returns-in_err-check_store-clause-spelled
+returns-in_err-check_store-clause-spelled g c = over_spelled (returns-in_err-check_store-clause-runs g c)
 
-pub returns-in_err-check_stored-clause-unread : goal.returns-in_err-check_stored-clause-unread
-returns-in_err-check_stored-clause-unread g c = no_rejection c.in_ok-command.ensures
+pub returns-in_err-check_store-clause-unread : goal.returns-in_err-check_store-clause-unread
+returns-in_err-check_store-clause-unread g c = no_rejection c.in_ok-command.ensures
 
 pub returns-clause-runs : goal.returns-clause-runs
 returns-clause-runs g c =
-    over_served _ _ _ _ _ c.in_ok-command.ensures _ c.in_ok-graph.ensures.ok _ (read_from _ _ _ _ c.in_ok-input.ensures.whole c.as_slice.ensures.value c.in_ok-store.ensures.read) _ _ c.in_ok-check_stored.ensures.agrees c.serve.ensures
+    over_served _ _ _ _ _ c.in_ok-command.ensures _ c.in_ok-graph.ensures.ok _ (read_from _ _ _ _ c.in_ok-input.ensures.whole c.as_slice.ensures.value c.in_ok-store.ensures.read) _ _ c.in_ok-check_store.ensures.agrees c.serve.ensures
 
 pub returns-clause-sound : goal.returns-clause-sound
 returns-clause-sound g c = over_sound (returns-clause-runs g c)
@@ -99,8 +99,8 @@ returns-in_err-input-clause-whole g c = over_promises (returns-in_err-input-clau
 pub returns-in_err-store-clause-whole : goal.returns-in_err-store-clause-whole
 returns-in_err-store-clause-whole g c = over_promises (returns-in_err-store-clause-runs g c)
 
-pub returns-in_err-check_stored-clause-whole : goal.returns-in_err-check_stored-clause-whole
-returns-in_err-check_stored-clause-whole g c = over_promises (returns-in_err-check_stored-clause-runs g c)
+pub returns-in_err-check_store-clause-whole : goal.returns-in_err-check_store-clause-whole
+returns-in_err-check_store-clause-whole g c = over_promises (returns-in_err-check_store-clause-runs g c)
 
 pub returns-clause-whole : goal.returns-clause-whole
 returns-clause-whole g c = over_promises (returns-clause-runs g c)
