@@ -1,6 +1,6 @@
 //! The packed bytes that say the same rows.
 ghost use Rattle.std.specs.Prelude.{◌≡◌, ◌+◌, ◌*◌, ◌≤◌, ◌++◌, length, map, IfOk, OnOk};
-ghost use Rattle.std.specs.Int.{w32, to_be_bytes};
+ghost use Rattle.std.specs.Int.{w32, w64, to_be_bytes};
 ghost use Rattle.std.specs.List.{flat_map};
 ghost use Rattle.gix_hash.specs.Id.{id_len};
 ghost use Rattle.gix_commitgraph.specs.PackedReading.{words_of};
@@ -83,11 +83,25 @@ fn push_row(
     let seconds = long % GENERATION;
     out.extend_from_slice(id)?;
     out.extend_from_slice(tree)?;
-    push_word(out, first)?;
-    push_word(out, second)?;
-    push_word(out, generation)?;
-    out.extend_from_slice(&seconds.to_be_bytes())?;
-    Ok(())
+    push_numbers(out, first, second, generation, seconds)
+}
+
+/// Writes the numbers of a row at once, since there are many rows.
+fn push_numbers(
+    out: &mut Vec<u8>,
+    first: u32,
+    second: u32,
+    generation: u32,
+    seconds: u64,
+) -> Result<(), AllocError>
+    ensures { OnOk result (out.new.items ≡ out.old.items
+        ++ (to_be_bytes w32 first ++ (to_be_bytes w32 second ++ (to_be_bytes w32 generation ++ to_be_bytes w64 seconds)))) }
+{
+    let [a, b, c, d] = first.to_be_bytes();
+    let [e, f, g, h] = second.to_be_bytes();
+    let [i, j, k, l] = generation.to_be_bytes();
+    let [m, n, o, p, q, r, s, t] = seconds.to_be_bytes();
+    out.extend_from_slice(&[a, b, c, d, e, f, g, h, i, j, k, l, m, n, o, p, q, r, s, t])
 }
 
 /// Writes the rows.
