@@ -2,6 +2,7 @@
 ghost use Rattle.std.specs.Prelude.{◌≡◌, ◌≢◌, ◌<◌, IsTrue, true, is_some, length, Some, IfOk, IfErr, OnOk, MatchBool, MatchResult};
 ghost use Rattle.std.specs.FinMap.{get};
 ghost use Rattle.gix_hash.specs.Id.{is_same, is_among};
+ghost use Rattle.gix_commitgraph.specs.Packed.{AreGraphRows};
 ghost use Rattle.gix_commitgraph.specs.Rows.{row_at};
 ghost use Rattle.gix_commitgraph.specs.GraphCommit.{rows_of_commit, row_of_commit};
 ghost use Rattle.gix_revwalk.specs.RowParents.{ids_at};
@@ -164,7 +165,9 @@ pub fn check_stored<F: Find>(alloc: Global, graph: &Graph, store: &F) -> Result<
 /// Each id is looked up once, so of a small store this takes less than [`check_stored`], which goes through all rows and says which is the
 /// first that doesn't agree.
 pub fn agree_at<F: Find>(alloc: Global, graph: &Graph, store: &F, ids: &[ObjectId]) -> bool
-    requires { (i : ObjectId) → is_some (get (F.objects store.now) i) ≡ true → is_among i ids.now ≡ true }
+    // Each graph has such rows, as `num_commits` says.
+    requires rows { AreGraphRows graph.now }
+    requires all { (i : ObjectId) → is_some (get (F.objects store.now) i) ≡ true → is_among i ids.now ≡ true }
     ensures { IsTrue result → StoredAgree graph.now (F.objects store.now) }
 {
     let mut text = Vec::new(alloc);
