@@ -5,4 +5,4 @@ pub mod Resolves
 -- Worked examples of what steps lead to.
 pub mod Examples
 -- Revisions behind `--not`.
-pub mod Turned
+pub mod Opposite

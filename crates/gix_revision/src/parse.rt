@@ -1,6 +1,6 @@
 //! The words that name revisions, and what they ask for.
 ghost use Rattle.std.specs.Prelude.{◌≡◌, ◌+◌, ◌≤◌, ◌<◌, length};
-ghost use Rattle.gix_revision.specs.Turned.{turned};
+ghost use Rattle.gix_revision.specs.Opposite.{opposite};
 
 use gix_hash::{Kind, ObjectId};
 use std::alloc::{AllocFailed, Global};
@@ -115,7 +115,7 @@ pub enum Revision<'a> {
 impl<'a> Revision<'a> {
     /// What the same word means where `^` means the opposite, as behind `--not`: what is hidden isn't, and what isn't is.
     pub fn turned(self) -> Revision<'a>
-        ensures { result ≡ turned self.entry }
+        ensures { result ≡ opposite self.entry }
     {
         match self {
             Revision::One { rev, is_hidden } => Revision::One {
