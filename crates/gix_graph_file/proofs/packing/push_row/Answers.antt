@@ -17,5 +17,5 @@ returns c =
     let before = c.in_ok-extend_from_slice-2.ensures.items ∙ ap (λ items. items ++ tree) c.in_ok-extend_from_slice.ensures.items in
     on_ok_weaker c.push_numbers.result
     (λ pushed. pushed ∙ (λ i. before i ++ (to_be_bytes w32 (first i) ++ (to_be_bytes w32 (second i) ++ (to_be_bytes w32 (long i / 2 ^ 34) ++ to_be_bytes w64 (long i % 2 ^ 34)))))
-      ∙ append_assoc (old ++ id) tree _ ∙ append_assoc old id _)
+    ∙ append_assoc (old ++ id) tree _ ∙ append_assoc old id _)
     c.push_numbers.ensures

@@ -11,7 +11,7 @@ returns-in-Some-get c =
     let place = c.in-Some-get.ensures.lookup.3 in
     let there : slice_get c.as_slice-parents.result.now c.saturating_sub.result ≡ Some id = slice_get-get_or _ _ id place.0 ∙ ap Some (sym (place.1 id)) in
     let at : slice_get parents (c.in-Some.number - 1) ≡ Some id = subst (λ n. slice_get parents n ≡ Some id) c.saturating_sub.ensures
-        (subst (λ ids. slice_get ids c.saturating_sub.result ≡ Some id) c.as_slice-parents.ensures.value there) in
+    (subst (λ ids. slice_get ids c.saturating_sub.result ≡ Some id) c.as_slice-parents.ensures.value there) in
     on_ok_weaker c.push_parent.result
     (λ pushed. (id ∷ [], subst (λ p. Excludes p parents (id ∷ [])) (sym c.in-Some.is) (id, at, refl), (c.push_parent.new.found.items, pushed, refl)))
     c.push_parent.ensures
