@@ -431,20 +431,25 @@ const TIMES: &[(&str, Option<u64>)] = &[
     ("", None),
 ];
 
+/// The number that the digits of an option write.
+fn number(digits: Option<&String>) -> Option<u64> {
+    digits?.as_str().parse::<u64>().ok()
+}
+
+/// The seconds that `--since` takes a text for.
+fn since(alloc: Global, text: &str) -> Result<Option<u64>, Fail> {
+    let mut words = words_of(alloc, "-C . newest HEAD --since")?;
+    words.push(String::from_str(alloc, text)?)?;
+    let Ok(Asks::Question(question)) = read_arguments(alloc, words.as_slice()) else {
+        return Ok(None);
+    };
+    Ok(number(question.options.since.as_ref()))
+}
+
 #[test]
 fn times_are_read(rt: HostRuntime) -> Result<(), Fail> {
-    let alloc = rt.alloc();
     for (text, seconds) in TIMES {
-        let mut words = words_of(alloc, "-C . newest HEAD --since")?;
-        words.push(String::from_str(alloc, *text)?)?;
-        let said = match read_arguments(alloc, words.as_slice()) {
-            Ok(Asks::Question(question)) => match &question.options.since {
-                Some(digits) => digits.as_str().parse::<u64>().ok(),
-                None => None,
-            },
-            _ => None,
-        };
-        if said != *seconds {
+        if since(rt.alloc(), text)? != *seconds {
             return Err(Fail::new(format_args!("{text}")));
         }
     }
