@@ -1,6 +1,6 @@
 -- What a run over a store may answer.
-use Rattle.std.proofs.Common.{◌≡◌, ◌≢◌, ℕ, List, Option, None, Some, Result, Ok, Err, sym, ap, subst, ◌∙◌}
-use Rattle.gix_commands.proofs.Common.{id_cmp, Objects, GraphRow, Fault, fault_of_disagreement, never_faulty, Request, request_of}
+use Rattle.std.proofs.Common.{◌≡◌, ◌≢◌, ℕ, List, Option, Result, Ok, Err, sym, subst, ◌∙◌}
+use Rattle.gix_commands.proofs.Common.{Objects, GraphRow, Fault, fault_of_disagreement, never_faulty, Request, request_of}
 use Rattle.gix_graph_check.specs.Sound.{AreSound}
 use Rattle.gix_graph_check.specs.declared.Disagreement.{Disagreement}
 use Rattle.gix_graph_check.specs.declared.Disagreement.TheVariants as disagreement

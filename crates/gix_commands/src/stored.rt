@@ -12,6 +12,7 @@ ghost use Rattle.gix_statement.specs.WholeStatement.{AreNamed, Objects, Promises
 ghost use Rattle.gix_commands.specs.Opening.{AreReadFrom};
 ghost use Rattle.gix_commands.specs.Pages.{page_objects, AreRows};
 ghost use Rattle.gix_commands.specs.StoredRuns.{FailsToAgree, RunsStored};
+ghost use Rattle.gix_commands.specs.Walked.{never_faulty};
 
 use crate::serve;
 use gix_commitgraph::Graph;
