@@ -1,0 +1,6 @@
+-- What a run promises that read a commit-graph by pages.
+pub mod GraphPages
+-- What the bytes of pages say of the rows of their file.
+pub mod PagedRows
+-- A worked file of two rows, whose first page was read and whose second wasn't.
+pub mod PagesExamples

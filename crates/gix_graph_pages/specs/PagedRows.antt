@@ -1,0 +1,79 @@
+-- What the bytes of pages say of the rows of their file.
+use Rattle.std.specs.Prelude.{◌≡◌, ◌≢◌, ◌⊎◌, ℕ, ◌+◌, ◌*◌, ◌≤◌, ◌<◌, codes, List, [], map, slice_get, Option, Some, Ok, All, Contains}
+use Rattle.std.specs.Option.{option_map}
+use Rattle.gix_hash.specs.declared.ObjectId.{ObjectId}
+use Rattle.gix_hash.specs.Id.{id_len}
+use Rattle.gix_commitgraph.specs.Parents.{Answer}
+use Rattle.gix_commitgraph.specs.Rows.{GraphRow, row_at, row_of}
+use Rattle.gix_commitgraph.specs.declared.Position.{Position}
+use Rattle.gix_graph_check.specs.HeadsReach.{ids_of_places}
+use Rattle.gix_statement.specs.WholeStatement.{Row}
+use Rattle.gix_statement.specs.CommitGraph.{AreParents, IsChunk, bytes_at}
+use Rattle.gix_graph_pages.specs.GraphPages.{IsPagedFile, width_of}
+use Rattle.gix_graph_pages.specs.declared.layout.Layout.{Layout}
+use Rattle.gix_graph_pages.specs.declared.rows.FileRow.{FileRow}
+
+abbrev pub Pages : Type 0
+Pages = List (Option (List ℕ))
+
+-- so it is of each file that has these pages
+abbrev pub InEachFile : Pages → ((file : List ℕ) → (rows : List Row) → (generation : ObjectId → ℕ) → Type 0) → Type 0
+InEachFile pages IsSo = (file : List ℕ) (rows : List Row) (generation : ObjectId → ℕ) → IsPagedFile pages file rows generation → IsSo file rows generation
+
+-- where the rows of each file that has these pages are
+pub record IsLayoutOf (pages : Pages) (layout : Layout) : Type 0 where
+  pub width : InEachFile pages (λ file rows generation. width_of file ≡ id_len layout.kind)
+  pub ids : InEachFile pages (λ file rows generation. (bytes : List ℕ) → IsChunk file (codes "OIDL") bytes
+      → bytes ≡ bytes_at layout.ids (id_len layout.kind * layout.rows) file)
+  pub said : InEachFile pages (λ file rows generation. (bytes : List ℕ) → IsChunk file (codes "CDAT") bytes
+      → bytes ≡ bytes_at layout.data ((id_len layout.kind + 16) * layout.rows) file)
+
+-- this row of a file has this id
+abbrev pub HasId : Pages → ℕ → ObjectId → Type 0
+HasId pages number i = InEachFile pages (λ file rows generation. (r : Row) × (slice_get rows number ≡ Some r) × (r.id ≡ i))
+
+-- this row of a file says this
+pub record SaysRow (rows : List Row) (generation : ObjectId → ℕ) (number : ℕ) (read : FileRow) : Type 0 where
+  pub row : Row
+  pub there : slice_get rows number ≡ Some row
+  pub id : row.id ≡ read.id
+  pub tree : row.tree ≡ read.tree
+  pub time : row.time ≡ read.time
+  pub level : generation row.id ≡ read.generation
+  pub edges : List ℕ
+  pub numbers : List ℕ
+  pub parents : AreParents edges read.first read.second numbers
+  pub ids : map Some row.parents ≡ map (λ n. option_map (λ parent. parent.id) (slice_get rows n)) numbers
+
+-- a place of a row of a graph: the row there has the id that the row of this number in a file has
+pub record IsPlaceOf (pages : Pages) (graph : List GraphRow) (number : ℕ) (place : Option Answer) : Type 0 where
+  pub position : Position
+  pub is : place ≡ Some (Ok position)
+  pub id : HasId pages number (row_at graph position.0).id
+
+-- these ids are the parents of each row of a file that has these two words
+abbrev pub AreParentIds : List Row → (one other : ℕ) → List ObjectId → Type 0
+AreParentIds rows one other ids = (edges numbers : List ℕ) → AreParents edges one other numbers
+    → map Some ids ≡ map (λ n. option_map (λ parent. parent.id) (slice_get rows n)) numbers
+
+-- A row of a graph says what a row of the file says. Below a generation it has no parents.
+pub record IsRowOfFile (least : ℕ) (graph : List GraphRow) (rows : List Row) (generation : ObjectId → ℕ) (row : GraphRow) : Type 0 where
+  pub said : Row
+  pub there : Contains rows said
+  pub id : said.id ≡ row.id
+  pub tree : said.tree ≡ row.tree
+  pub time : said.time ≡ row.time
+  pub level : generation said.id ≡ row.generation
+  pub parents : ((least ≤ row.generation) × (ids_of_places graph row.parents ≡ said.parents)) ⊎ ((row.generation < least) × (row.parents ≡ []))
+
+-- all rows of a graph are such rows
+abbrev pub ArePart : Pages → (graph : List GraphRow) → (least : ℕ) → Type 0
+ArePart pages graph least = InEachFile pages (λ file rows generation. (row : GraphRow) → Contains graph row → IsRowOfFile least graph rows generation row)
+
+-- no row has this id
+abbrev pub HasNoRow : Pages → ObjectId → Type 0
+HasNoRow pages i = InEachFile pages (λ file rows generation. All (λ r. r.id ≢ i) rows)
+
+-- the commit has a row in the graph, which isn't below the generation, or no row at all
+abbrev pub IsAbove : Pages → (graph : List GraphRow) → (least : ℕ) → ObjectId → Type 0
+IsAbove pages graph least i = ((row : GraphRow) × (row_of graph i ≡ Some row) × (least ≤ row.generation)) ⊎ HasNoRow pages i

@@ -1,0 +1,189 @@
+//! Whether rows are some of those of a file.
+ghost use Rattle.std.specs.Prelude.{◌≡◌, ◌<◌, IsTrue, IfOk, IfSome, length};
+ghost use Rattle.std.specs.Ordering.{is_lt};
+ghost use Rattle.gix_hash.specs.Id.{id_cmp};
+ghost use Rattle.gix_commitgraph.specs.Packed.{AreGraphRows};
+ghost use Rattle.gix_commitgraph.specs.GraphCommit.{rows_of_commit, row_of_commit};
+ghost use Rattle.gix_commitgraph.specs.Rows.{row_at};
+ghost use Rattle.gix_graph_check.specs.HeadsReach.{ids_of_places};
+ghost use Rattle.gix_graph_pages.specs.PagedRows.{ArePart, AreParentIds, HasNoRow, InEachFile, IsAbove, IsLayoutOf, IsPlaceOf, IsRowOfFile};
+
+use crate::layout::Layout;
+use crate::pages::Pages;
+use crate::rows::{FLAG, FileRow, NO_PARENT, id_at, row_at};
+use crate::search::place_of;
+use gix_commitgraph::{Commit, Graph, ParentFault, Position};
+use gix_hash::ObjectId;
+
+/// Whether each row of a graph says what the row of its number in the file says, or no parents if its generation is below the least one.
+/// `numbers` are those of the graph's rows, in their order. A row of more than two parents that isn't below has none of the file's.
+pub fn is_part<F: Drop>(
+    pages: &Pages<F>,
+    layout: Layout,
+    graph: &Graph,
+    numbers: &[u32],
+    least: u32,
+) -> bool
+    requires { IsLayoutOf pages.now layout }
+    ensures part { IsTrue result → ArePart pages.now graph.now least }
+    ensures rows { AreGraphRows graph.now }
+{
+    let count = graph.num_commits();
+    if numbers.len() != count as usize {
+        return false;
+    }
+    for row in 0..count {
+        if !is_row(pages, layout, graph, row, numbers[row as usize], least) {
+            return false;
+        }
+    }
+    true
+}
+
+/// Whether a row of a graph says what the row of this number in the file says, or no parents if its generation is below the least one.
+fn is_row<F: Drop>(
+    pages: &Pages<F>,
+    layout: Layout,
+    graph: &Graph,
+    row: u32,
+    number: u32,
+    least: u32,
+) -> bool
+    requires layout { IsLayoutOf pages.now layout }
+    requires there { row < length graph.now }
+    ensures { IsTrue result → InEachFile pages.now
+        (λ file rows generation. IsRowOfFile least graph.now rows generation (row_at graph.now row)) }
+{
+    let Some(read) = row_at(pages, layout, number) else {
+        return false;
+    };
+    let commit = graph.commit_at(Position(row));
+    if !is_same(&commit.id(), &read.id)
+        || !is_same(&commit.root_tree_id(), &read.tree)
+        || commit.generation() != read.generation
+        || !has_time(&commit, &read)
+    {
+        return false;
+    }
+    if read.generation < least {
+        commit.iter_parents().next().is_none()
+    } else {
+        has_parents(pages, layout, graph, commit, read)
+    }
+}
+
+/// Whether the parents of a commit, at most two, are at the places that a row of the file names.
+fn has_parents<F: Drop>(
+    pages: &Pages<F>,
+    layout: Layout,
+    graph: &Graph,
+    commit: Commit<'_>,
+    read: FileRow,
+) -> bool
+    requires layout { IsLayoutOf pages.now layout }
+    requires rows { rows_of_commit commit ≡ graph.now }
+    ensures { IsTrue result → InEachFile pages.now (λ file rows generation. AreParentIds rows read.first read.second
+        (ids_of_places graph.now (row_of_commit commit.entry).parents)) }
+{
+    let mut places = commit.iter_parents();
+    if read.first == NO_PARENT {
+        return read.second == NO_PARENT && places.next().is_none();
+    }
+    if read.second >= FLAG || !is_parent(pages, layout, graph, places.next(), read.first) {
+        return false;
+    }
+    if read.second != NO_PARENT && !is_parent(pages, layout, graph, places.next(), read.second) {
+        return false;
+    }
+    places.next().is_none()
+}
+
+/// Whether the row at a place of the graph has the id that the row of this number in the file has.
+fn is_parent<F: Drop>(
+    pages: &Pages<F>,
+    layout: Layout,
+    graph: &Graph,
+    place: Option<Result<Position, ParentFault>>,
+    number: u32,
+) -> bool
+    requires layout { IsLayoutOf pages.now layout }
+    requires within { IfSome place (λ answer. IfOk answer (λ position. position.0 < length graph.now)) }
+    ensures { IsTrue result → IsPlaceOf pages.now graph.now number place }
+{
+    let Some(answer) = place else {
+        return false;
+    };
+    let Ok(position) = answer else {
+        return false;
+    };
+    match id_at(pages, layout, number) {
+        Some(id) => is_same(&graph.commit_at(position).id(), &id),
+        None => false,
+    }
+}
+
+/// Whether a commit has a row in the graph whose generation isn't below the least one, or no row in the file, as far as the pages that were
+/// read show it.
+pub fn is_above<F: Drop>(
+    pages: &Pages<F>,
+    layout: Layout,
+    graph: &Graph,
+    least: u32,
+    id: &ObjectId,
+) -> bool
+    requires { IsLayoutOf pages.now layout }
+    ensures { IsTrue result → IsAbove pages.now graph.now least id.now }
+{
+    match graph.commit_by_id(id) {
+        Some(commit) => commit.generation() >= least,
+        None => match place_of(pages, layout, id) {
+            Ok(place) => has_no_row(pages, layout, id, place),
+            Err(_) => false,
+        },
+    }
+}
+
+/// Whether two ids are one.
+fn is_same(one: &ObjectId, other: &ObjectId) -> bool
+    ensures { IsTrue result → one.now ≡ other.now }
+{
+    one == other
+}
+
+/// Whether a commit has the time of a row.
+fn has_time(commit: &Commit<'_>, read: &FileRow) -> bool
+    ensures { IsTrue result → (row_of_commit commit.now).time ≡ read.now.time }
+{
+    commit.committer_timestamp() == read.time
+}
+
+/// Whether an id comes before another.
+fn is_before(one: &ObjectId, other: &ObjectId) -> bool
+    ensures { result ≡ is_lt (id_cmp one.now other.now) }
+{
+    one.cmp(other).is_lt()
+}
+
+/// Whether an id is between those of the row before `place` and of the row of this number, if there are such.
+fn has_no_row<F: Drop>(pages: &Pages<F>, layout: Layout, id: &ObjectId, place: u32) -> bool
+    requires { IsLayoutOf pages.now layout }
+    ensures { IsTrue result → HasNoRow pages.now id.now }
+{
+    if place > layout.rows {
+        return false;
+    }
+    if place > 0 {
+        match id_at(pages, layout, place - 1) {
+            Some(before) if is_before(&before, id) => {}
+            _ => return false,
+        }
+    }
+    if place < layout.rows {
+        match id_at(pages, layout, place) {
+            Some(behind) => is_before(id, &behind),
+            None => false,
+        }
+    } else {
+        true
+    }
+}

@@ -1,0 +1,92 @@
+//! What a file says of its rows.
+ghost use Rattle.std.specs.Prelude.{◌≡◌, ◌+◌, ◌≤◌, length, IfSome};
+ghost use Rattle.gix_statement.specs.CommitGraph.{number_at};
+ghost use Rattle.gix_graph_pages.specs.PagedRows.{HasId, InEachFile, IsLayoutOf, SaysRow};
+
+use crate::layout::{Layout, long_at};
+use crate::pages::Pages;
+use gix_hash::ObjectId;
+
+/// Where the generation begins in the number that has the seconds in its low 34 bits.
+const GENERATION: u64 = 0x4_0000_0000;
+
+/// The word of a file that names no parent.
+pub(crate) const NO_PARENT: u32 = 0x7000_0000;
+/// From this word on there are more than two parents.
+pub(crate) const FLAG: u32 = 0x8000_0000;
+
+/// A row, as its file has it.
+#[derive(Clone, Copy, Debug)]
+pub struct FileRow {
+    /// The commit's id.
+    pub id: ObjectId,
+    /// The id of the commit's tree.
+    pub tree: ObjectId,
+    /// The number of the first parent's row, or 0x70000000 if there is none.
+    pub first: u32,
+    /// The number of the second parent's row, or 0x70000000 if there is none. From 0x80000000 on there are more than two parents.
+    pub second: u32,
+    /// The generation.
+    pub generation: u32,
+    /// The committer's seconds since 1970-01-01 00:00 UTC.
+    pub time: i64,
+}
+
+impl FileRow {
+    /// The numbers of the parents' rows, in order. None if there are more than two.
+    pub fn parents(&self) -> Option<[Option<u32>; 2]> {
+        if self.second >= FLAG {
+            return None;
+        }
+        Some([number_of(self.first), number_of(self.second)])
+    }
+}
+
+/// The number of a parent's row that a word is.
+fn number_of(word: u32) -> Option<u32> {
+    if word == NO_PARENT { None } else { Some(word) }
+}
+
+/// The number in the four bytes from `at` on.
+pub(crate) fn word_at(bytes: &[u8], at: usize) -> u32
+    requires { at + 4 ≤ length bytes.now }
+    ensures { result ≡ number_at at 4 bytes.now }
+{
+    let (_, rest) = bytes.split_at(at);
+    u32::from_be_bytes([rest[0], rest[1], rest[2], rest[3]])
+}
+
+/// The id of the row of this number, from 0. None if there is no such row, or if the page wasn't read.
+pub fn id_at<F: Drop>(pages: &Pages<F>, layout: Layout, number: u32) -> Option<ObjectId>
+    requires { IsLayoutOf pages.now layout }
+    ensures { IfSome result (HasId pages.now number) }
+{
+    if number >= layout.rows {
+        return None;
+    }
+    let width = layout.kind.len_in_bytes();
+    let place = layout.ids.checked_add(width as u64 * number as u64)?;
+    ObjectId::from_bytes(pages.bytes(place, width)?)
+}
+
+/// What the row of this number says, from 0. None if there is no such row, or if a page wasn't read.
+pub fn row_at<F: Drop>(pages: &Pages<F>, layout: Layout, number: u32) -> Option<FileRow>
+    requires { IsLayoutOf pages.now layout }
+    ensures { IfSome result (λ read. InEachFile pages.now (λ file rows generation. SaysRow rows generation number read)) }
+{
+    let id = id_at(pages, layout, number)?;
+    let width = layout.kind.len_in_bytes();
+    let place = layout
+        .data
+        .checked_add((width as u64 + 16) * number as u64)?;
+    let (tree, numbers) = pages.bytes(place, width + 16)?.split_at(width);
+    let long = long_at(numbers, 8);
+    Some(FileRow {
+        id,
+        tree: ObjectId::from_bytes(tree)?,
+        first: word_at(numbers, 0),
+        second: word_at(numbers, 4),
+        generation: (long / GENERATION) as u32,
+        time: (long % GENERATION) as i64,
+    })
+}
