@@ -16,7 +16,7 @@ length-map [] = refl
 length-map (info ∷ infos) = ap (λ n. suc n) (length-map infos)
 
 -- breadth first through all parents a list is one of what is shown
-plain_list : (objects : Objects) (tips hidden ids : List ObjectId) → IsSimpleBy objects (parents_of objects) mode.All sorting.BreadthFirst tips hidden ids → AreDistinct ids × ((i : ObjectId) → Contains ids i ↔ IsShown objects tips hidden i)
+pub plain_list : (objects : Objects) (tips hidden ids : List ObjectId) → IsSimpleBy objects (parents_of objects) mode.All sorting.BreadthFirst tips hidden ids → AreDistinct ids × ((i : ObjectId) → Contains ids i ↔ IsShown objects tips hidden i)
 plain_list objects tips hidden ids l =
     let k : ListsBy objects (parents_of objects) (parents_of objects) None tips hidden ids =
     transport (λ j. ListsBy objects (parents_of objects) (all_followed objects (parents_of objects) mode.All sorting.BreadthFirst refl j) None (tips_kept objects sorting.BreadthFirst tips refl j) hidden ids) l in

@@ -1,7 +1,7 @@
 mod Common
 pub mod WalkFaults
 pub mod MemoryFaults
-mod OutputFacts
+pub mod OutputFacts
 mod WrittenForms
 mod ChosenFacts
 mod LookedAt
@@ -28,7 +28,7 @@ pub mod CommitRuns
 pub mod TopoRuns
 mod GoesOn
 pub mod SimpleBegins
-mod TopoBegins
+pub mod TopoBegins
 mod NamedTrees
 mod FileRuns
 mod SimpleFaults
@@ -50,32 +50,34 @@ mod FileOrder
 mod SameNumbers
 pub mod SameCommits
 mod SameTexts
-mod SameOrders
-mod SameDescents
+pub mod SameOrders
+pub mod SameDescents
 mod SameTrees
 pub mod SameWords
 mod SameReach
 mod SameContained
 mod SameContaining
 mod SameBases
-mod SameLists
+pub mod SameLists
 pub mod GivenObjects
 mod RightTrees
 mod Right
 pub mod PageCommits
-mod PageTexts
-mod PageLists
-mod OrderNames
+pub mod PageTexts
+pub mod PageLists
+pub mod OrderNames
 pub mod WrittenBytes
 pub mod RightSimple
 pub mod RightTopo
 pub mod RightRuns
-mod ReadableObjects
+pub mod ReadableObjects
 pub mod ReadableTexts
-mod ReachedIsRead
-mod RowsAsTexts
+pub mod ReachedIsRead
+pub mod RowsAsTexts
 pub mod NamedOnes
 mod Promised
 mod PromisedRuns
 mod SortedRows
 mod ServedPromises
+-- What a walk gave and which bases were found is all that the statement means by these.
+pub mod DrawnShown
