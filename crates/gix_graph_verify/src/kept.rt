@@ -122,16 +122,24 @@ where
     }
 }
 
-/// Whether the file of a path has passed.
-fn look_up<R>(rt: &R, cache: &str, path: &str) -> Option<bool>
+/// Whether a file that is open has passed.
+fn look_up<R>(rt: &R, cache: &str, file: &R::File) -> Option<bool>
 where
     R: Files + AllocGlobal + Clone + Drop,
     R::File: FileExt,
 {
-    let file = open(rt, path)?;
     let about = file.metadata().ok()?;
-    let hash = hash_of_file(&file, about.len())?;
+    let hash = hash_of_file(file, about.len())?;
     is_kept_as(rt, cache, &about, hash)
+}
+
+/// The same as [`has_passed`] of a file that is open.
+pub fn has_passed_open<R>(rt: &R, cache: &str, file: &R::File) -> bool
+where
+    R: Files + AllocGlobal + Clone + Drop,
+    R::File: FileExt,
+{
+    look_up(rt, cache, file).unwrap_or(false)
 }
 
 /// Whether it is kept in the folder `cache` that the commit-graph file of a path has passed, and the file hasn't changed since: its
@@ -143,7 +151,10 @@ where
     R: Files + AllocGlobal + Clone + Drop,
     R::File: FileExt,
 {
-    look_up(rt, cache, path).unwrap_or(false)
+    match open(rt, path) {
+        Some(file) => has_passed_open(rt, cache, &file),
+        None => false,
+    }
 }
 
 /// How many nanoseconds `later` was written after `about` was last changed.

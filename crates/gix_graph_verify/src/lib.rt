@@ -11,6 +11,6 @@ mod rows;
 
 pub use difference::{Difference, Fault, MOST_DIFFERENCES};
 pub use files::{Report, verify};
-pub use kept::{KeepFault, has_passed, keep};
+pub use kept::{KeepFault, has_passed, has_passed_open, keep};
 pub use layers::{Layer, LayerFault, count_passed, read_layers};
 pub use objects::{Found, Objects};

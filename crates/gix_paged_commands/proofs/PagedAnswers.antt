@@ -1,0 +1,361 @@
+-- What was decided over the rows of a graph that was read by pages is right of each file that has these pages.
+use Rattle.std.proofs.Common.{inl, ◌≡◌, ◌⊎◌, ℕ, suc, ◌≤◌, ◌||◌, ℤ, List, [], ◌∷◌, ◌++◌, flat_map, length, map, Option, Some, Result, Ok, Err, Bool, true, false, cond, nat_lt, bytes_eq, codes, All, Contains, refl, sym, ap, subst, ◌∙◌, inl, inr, ⊎_elim, arith, le-ltb}
+use Rattle.std.proofs.Math.ListN.{get_or}
+use Rattle.std.proofs.lemmas.List.{length-map}
+use Rattle.std.proofs.lemmas.List.Elements.{Contains-append_cases, Contains-get_or}
+use Rattle.gix_hash.specs.Id.{id_from_hex}
+use Rattle.gix_hash.specs.declared.HexError.{HexError}
+use Rattle.gix_hash.specs.declared.ObjectId.{ObjectId}
+use Rattle.gix_hash.specs.declared.ObjectId.TheVariants.{Sha1, Sha256}
+use Rattle.gix_object.specs.Object.{Objects}
+use Rattle.gix_commitgraph.specs.Packed.{AreGraphRows}
+use Rattle.gix_commitgraph.specs.Rows.{GraphRow}
+use Rattle.gix_graph_check.specs.Sound.{AreSound}
+use Rattle.gix_graph_store.specs.Laws.{StoredAgree}
+use Rattle.gix_graph_store.specs.WithRows.{with_rows}
+use Rattle.gix_revwalk.specs.declared.Info.{Info}
+use Rattle.gix_revwalk.specs.declared.Parents.TheVariants as mode
+use Rattle.gix_simple.specs.declared.Sorting.TheVariants as sorting
+use Rattle.gix_topo.specs.declared.Sorting.{Sorting as TopoSorting}
+use Rattle.gix_topo.specs.declared.Sorting.TheVariants as topo
+use Rattle.gix_words.specs.Words.{Ahead, Bases, Commits, Contained, Containing, Files, Request, Ranked, ahead_from, ahead_of, asked, begins_with_sign, request_of, several_of}
+use Rattle.gix_words.specs.declared.fault.Fault.{Fault}
+use Rattle.gix_words.specs.declared.fault.Fault.TheVariants as fault
+use Rattle.gix_words.specs.declared.words.Merges.{Merges}
+use Rattle.gix_words.specs.declared.words.Order.{Order}
+use Rattle.gix_words.specs.declared.words.Order.TheVariants.{Simple, Topo}
+use Rattle.gix_words.specs.declared.words.Shown.{Shown}
+use Rattle.gix_statement.specs.WholeStatement.{Agree, AreNamed, AreTips, Choice, Chooses, digits_in, Follows, IsBase, InEach, IsHistory, IsShown, Promises, Row, Serves, Spells}
+use Rattle.gix_statement.specs.WholeStatement.{all, at_most, counted, everything, first, merges, no_merges, reversed, since, skip, until, with_format, with_parents, with_subject, with_time, zero_ended}
+use Rattle.gix_statement.proofs.OneAnswer.{choice_once, IsOption, is_option, no_list, spelled_once}
+use Rattle.gix_history_cut.specs.Cut.{BeginsAbove, IsDecided, ShowsAbove}
+use Rattle.gix_history_cut.proofs.CutCarried.{serves_cut}
+use Rattle.gix_graph_pages.specs.GraphPages.{AnswersOver, IsPagedFile}
+use Rattle.gix_graph_pages.specs.PagedRows.{ArePart, IsAbove, Pages}
+use Rattle.gix_commands.specs.Chosen.{kept_of, kept_until, page_choice}
+use Rattle.gix_commands.specs.Pages.{AreRows, page_objects, page_rows}
+use Rattle.gix_commands.specs.Readable.{readable}
+use Rattle.gix_commands.specs.StoredRuns.{RunsStored, served}
+use Rattle.gix_commands.proofs.DrawnShown.{base_found, shown_given}
+use Rattle.gix_commands.proofs.SameDescents.{name_down}
+use Rattle.gix_commands.proofs.SameWords.{are_words, AreWordsOf, IsNameOf, IsOptionOf}
+use Rattle.gix_paged_commands.specs.Decided.{FirstAbove, DecidesWords, DecidesRequest, DrawsAbove}
+use Rattle.gix_paged_commands.proofs.CutHistory.{Below, from_map, is_cut, is_history, known, not_below, there_on}
+use Rattle.gix_paged_commands.proofs.FirstDrawn.{begun_down}
+
+-- WORDS are read in one way.
+is_wide : (i : ObjectId) → (digits_in i ≡ 40) ⊎ (digits_in i ≡ 64)
+is_wide (Sha1 x) = inl refl
+is_wide (Sha256 x) = inr refl
+
+no_id_behind : (word id : List ℕ) (i j : ObjectId) → Spells (digits_in i) word i → word ≡ 94 ∷ id → Spells (digits_in j) id j → ⊥
+no_id_behind word id i j s is t =
+    let l : digits_in i ≡ suc (digits_in j) = sym s.0 ∙ ap length is ∙ ap suc t.0 in
+    ⊎_elim (λ (a : digits_in i ≡ 40). ⊎_elim (λ (b : digits_in j ≡ 40). omega (arith, l, a, b)) (λ (b : digits_in j ≡ 64). omega (arith, l, a, b)) (is_wide j))
+    (λ (a : digits_in i ≡ 64). ⊎_elim (λ (b : digits_in j ≡ 40). omega (arith, l, a, b)) (λ (b : digits_in j ≡ 64). omega (arith, l, a, b)) (is_wide j)) (is_wide i)
+
+tips_once : (words : List (List ℕ)) (tips hidden others below : List ObjectId) → AreTips words tips hidden → AreTips words others below → (tips ≡ others) × (hidden ≡ below)
+tips_once [] tips hidden others below a b = (a.0 ∙ sym b.0, a.1 ∙ sym b.1)
+tips_once (word ∷ words) tips hidden others below (inl (i, more, is, s, a)) (inl (j, rest, same, t, b)) =
+    let h = tips_once words more hidden rest below a b in
+    let e = spelled_once word i j s t in
+    (is ∙ (λ k. e k ∷ h.0 k) ∙ sym same, h.1)
+tips_once (word ∷ words) tips hidden others below (inl (i, more, is, s, a)) (inr (j, rest, same, id, w, t, b)) = absurd (no_id_behind word id i j s w t)
+tips_once (word ∷ words) tips hidden others below (inr (j, rest, same, id, w, t, b)) (inl (i, more, is, s, a)) = absurd (no_id_behind word id i j s w t)
+tips_once (word ∷ words) tips hidden others below (inr (i, more, is, id, v, s, a)) (inr (j, rest, same, id2, w, t, b)) =
+    let h = tips_once words tips more others rest a b in
+    let both : 94 ∷ id ≡ 94 ∷ id2 = sym v ∙ w in
+    let one : id ≡ id2 = cc in
+    let e = spelled_once id i j s (subst (λ x. Spells (digits_in j) x j) (sym one) t) in
+    (h.0, is ∙ (λ k. e k ∷ h.1 k) ∙ sym same)
+
+-- a word of tips is long
+long_word : (word : List ℕ) (words : List (List ℕ)) (tips hidden : List ObjectId) → AreTips (word ∷ words) tips hidden → 40 ≤ length word
+long_word word words tips hidden (inl (i, more, is, s, a)) = ⊎_elim (λ (e : digits_in i ≡ 40). omega (arith, e, s.0)) (λ (e : digits_in i ≡ 64). omega (arith, e, s.0)) (is_wide i)
+long_word word words tips hidden (inr (i, more, is, id, w, s, a)) =
+    let l : length word ≡ suc (length id) = ap length w in
+    ⊎_elim (λ (e : digits_in i ≡ 40). omega (arith, e, s.0, l)) (λ (e : digits_in i ≡ 64). omega (arith, e, s.0, l)) (is_wide i)
+
+-- an option that a number or a format is behind
+abbrev has_value : List ℕ → Bool
+has_value word = bytes_eq word (codes "--since") || bytes_eq word (codes "--until") || bytes_eq word (codes "--skip") || bytes_eq word (codes "-n") || bytes_eq word (codes "--format")
+
+-- what is behind options, the value of the first of which may have to come
+abbrev ids_in : (value : Bool) → List (List ℕ) → List (List ℕ)
+ids_in value [] = []
+ids_in true (word ∷ words) = ids_in false words
+ids_in false (word ∷ words) = cond (nat_lt (length word) 40) (ids_in (has_value word) words) (word ∷ words)
+
+all_ids : (tips hidden : List ObjectId) (words : List (List ℕ)) → AreTips words tips hidden → AreTips (ids_in false words) tips hidden
+all_ids tips hidden [] t = t
+all_ids tips hidden (word ∷ words) t =
+    subst (λ short. AreTips (cond short (ids_in (has_value word) words) (word ∷ words)) tips hidden) (sym (le-ltb (length word) 40 (long_word word words tips hidden t))) t
+
+-- the ids behind the options of a choice
+ids_chosen : {tips hidden : List ObjectId} {p : ℕ} (words : List (List ℕ)) (c : Choice) → Chooses tips hidden p words c → AreTips (ids_in false words) tips hidden
+ids_chosen {tips} {hidden} words c (everything t) = all_ids tips hidden words t
+ids_chosen words c (until n is late x) = ids_chosen _ _ x
+ids_chosen words c (merges late x) = ids_chosen _ _ x
+ids_chosen words c (no_merges late x) = ids_chosen _ _ x
+ids_chosen words c (skip n is late x) = ids_chosen _ _ x
+ids_chosen words c (at_most n is late x) = ids_chosen _ _ x
+ids_chosen words c (counted late x) = ids_chosen _ _ x
+ids_chosen words c (reversed late x) = ids_chosen _ _ x
+ids_chosen words c (with_format is short late x) = ids_chosen _ _ x
+ids_chosen words c (with_time late x) = ids_chosen _ _ x
+ids_chosen words c (with_parents late x) = ids_chosen _ _ x
+ids_chosen words c (with_subject late x) = ids_chosen _ _ x
+ids_chosen words c (zero_ended late x) = ids_chosen _ _ x
+
+-- and behind the option of an order
+ids_optional : (option rest : List (List ℕ)) → IsOption option → ids_in false (option ++ rest) ≡ ids_in false rest
+ids_optional option rest (inl e) = ap (λ o. ids_in false (o ++ rest)) e
+ids_optional option rest (inr (inl e)) = ap (λ o. ids_in false (o ++ rest)) e
+ids_optional option rest (inr (inr (number, e))) = ap (λ o. ids_in false (o ++ rest)) e
+
+order_option : (option : List (List ℕ)) (by : Order) → IsOptionOf option by → IsOption option
+order_option option (Simple mode.All sorting.BreadthFirst) e = inl e
+order_option option (Simple mode.First sorting.BreadthFirst) e = inr (inl e)
+order_option option (Simple mode.All (sorting.ByCommitTime order)) e = inl e
+order_option option (Simple mode.All (sorting.ByCommitTimeCutoff order seconds)) (number, n, is, same, e) = inr (inr (number, e))
+order_option option (Simple mode.First (sorting.ByCommitTime order)) e = absurd e
+order_option option (Simple mode.First (sorting.ByCommitTimeCutoff order seconds)) e = absurd e
+order_option option (Topo mode.All by) e = inl e
+order_option option (Topo mode.First by) e = inr (inl e)
+
+-- two readings of the words of a list have the same ids
+chosen_ids : {tips hidden others below : List ObjectId} {p q : ℕ} (by name : List ℕ) (option another rest more : List (List ℕ)) (c d : Choice) → IsOption option → IsOption another
+    → Chooses tips hidden p rest c → Chooses others below q more d → by ∷ (option ++ rest) ≡ name ∷ (another ++ more) → (tips ≡ others) × (hidden ≡ below)
+chosen_ids {tips} {hidden} {others} {below} by name option another rest more c d a b chooses picks is =
+    let both : option ++ rest ≡ another ++ more = cc in
+    let same : ids_in false rest ≡ ids_in false more = sym (ids_optional option rest a) ∙ ap (ids_in false) both ∙ ids_optional another more b in
+    tips_once (ids_in false more) tips hidden others below (subst (λ ids. AreTips ids tips hidden) same (ids_chosen rest c chooses)) (ids_chosen more d picks)
+
+-- a name of `topo` or `date`
+name_is : (name : List ℕ) (by : TopoSorting) → IsNameOf name (Topo mode.All by) → name ≡ name_down by
+name_is name topo.TopoOrder e = e
+name_is name topo.DateOrder e = e
+
+-- no choice begins with an option of an order
+not_first : {tips hidden : List ObjectId} {p : ℕ} {c : Choice} (words : List (List ℕ)) → Chooses tips hidden p (codes "--first-parent" ∷ words) c → ⊥
+not_first {tips} {hidden} words (everything t) = omega (arith, long_word (codes "--first-parent") words tips hidden t)
+
+not_since : {tips hidden : List ObjectId} {p : ℕ} {c : Choice} (words : List (List ℕ)) → Chooses tips hidden p (codes "--since" ∷ words) c → ⊥
+not_since {tips} {hidden} words (everything t) = omega (arith, long_word (codes "--since") words tips hidden t)
+
+-- so words that can be read without one follow all parents
+plain : {parents : ObjectId → List ObjectId} {time : ObjectId → ℤ} {followed : ObjectId → List ObjectId} {tips starts others below : List ObjectId} {by : List ℕ} {p : ℕ} {c : Choice} (option rest more : List (List ℕ))
+    → option ++ rest ≡ more → Chooses others below p more c → Follows parents time tips by option followed starts → (followed ≡ parents) × (starts ≡ tips)
+plain option rest more is picks all = (refl, refl)
+plain {others = others} {below = below} {p = p} {c = c} option rest more is picks (first named) =
+    absurd (not_first rest (subst (λ ws. Chooses others below p ws c) (sym is) picks))
+plain {others = others} {below = below} {p = p} {c = c} option rest more is picks (since {number = number} n named counts) =
+    absurd (not_since (number ∷ rest) (subst (λ ws. Chooses others below p ws c) (sym is) picks))
+
+-- WHICH COMMAND words are of
+abbrev number_of : Request → ℕ
+number_of (Commits by shown tips hidden) = 0
+number_of (Ahead one other) = 1
+number_of (Contained tip ids) = 2
+number_of (Containing target tips) = 3
+number_of (Bases one others) = 4
+number_of (Files shown tree) = 5
+
+abbrev IsOf : ℕ → Result Request Fault → Type 0
+IsOf n (Ok request) = number_of request ≡ n
+IsOf n (Err e) = Unit {0}
+
+is_ahead : (rest : List (List ℕ)) → IsOf 1 (ahead_of rest)
+is_ahead [] = tt
+is_ahead (a ∷ []) = tt
+is_ahead (a ∷ b ∷ next ∷ rest) = tt
+is_ahead (a ∷ b ∷ []) = go (begins_with_sign a || begins_with_sign b)
+  where
+    from : (r s : Result ObjectId HexError) → IsOf 1 (ahead_from r s)
+    from (Ok i) (Ok j) = refl
+    from (Ok i) (Err why) = tt
+    from (Err why) s = tt
+
+    go : (t : Bool) → IsOf 1 (cond t (Err fault.Usage) (ahead_from (id_from_hex a) (id_from_hex b)))
+    go true = tt
+    go false = from (id_from_hex a) (id_from_hex b)
+
+is_asked : (n : ℕ) (asks : ObjectId → List ObjectId → Request) → ((i : ObjectId) (ids : List ObjectId) → number_of (asks i ids) ≡ n) → (r : Result Ranked Fault) → IsOf n (asked asks r)
+is_asked n asks is (Ok ids) = is ids.0 ids.1
+is_asked n asks is (Err e) = tt
+
+is_contained : (rest : List (List ℕ)) → IsOf 2 (request_of (codes "contains" ∷ rest))
+is_contained rest = is_asked 2 Contained (λ i ids. refl) (several_of rest)
+
+is_containing : (rest : List (List ℕ)) → IsOf 3 (request_of (codes "containing" ∷ rest))
+is_containing rest = is_asked 3 Containing (λ i ids. refl) (several_of rest)
+
+is_bases : (rest : List (List ℕ)) → IsOf 4 (request_of (codes "merge-base" ∷ rest))
+is_bases rest = is_asked 4 Bases (λ i ids. refl) (several_of rest)
+
+abbrev names : List (List ℕ)
+names = codes "breadth" ∷ codes "newest" ∷ codes "oldest" ∷ codes "topo" ∷ codes "date" ∷ []
+
+-- words of another command aren't those of a list
+unlisted : (words : List (List ℕ)) (by name : List ℕ) (rest more : List (List ℕ)) → (length name ≡ 5) ⊎ (8 ≤ length name) → words ≡ by ∷ rest → words ≡ name ∷ more → Contains names by → ⊥
+unlisted words by name rest more long is same named = let e : by ≡ name = cc in no_list name long (subst (Contains names) e named)
+
+module _ (words : List (List ℕ)) (stored : Objects) (pages : Pages) (graph : List GraphRow) (least : ℕ)
+    (graph_rows : AreGraphRows graph) (part : ArePart pages graph least) (sound : AreSound graph) (stored_agree : StoredAgree graph stored) (agree : Agree (page_objects stored) (page_rows graph))
+    (file : List ℕ) (rows : List Row) (generation : ObjectId → ℕ) (read : IsPagedFile pages file rows generation) (consistent : Agree (page_objects stored) rows)
+    (parents : ObjectId → List ObjectId) (time : ObjectId → ℤ) (history : IsHistory (page_objects stored) rows parents time) where
+  abbrev Low : ObjectId → Type 0
+  Low = Below rows generation least
+
+  abbrev Above : ObjectId → Type 0
+  Above = IsAbove pages graph least
+
+  abbrev every : Objects
+  every = readable false (with_rows graph stored)
+
+  abbrev so_far : ObjectId → List ObjectId
+  so_far = known graph least parents
+
+  over : IsHistory (page_objects stored) (page_rows graph) so_far time
+  over = is_history pages graph least graph_rows part file rows generation read (page_objects stored) consistent agree parents time history
+
+  not_low : (i : ObjectId) → Above i → Low i → ⊥
+  not_low = not_below pages graph least graph_rows part file rows generation read (page_objects stored) consistent agree parents time history
+
+  -- all that a walk shows that was drawn to its end
+  drawn : (tips hidden : List ObjectId) → DrawsAbove Above every graph tips hidden → ShowsAbove Low so_far time tips hidden
+  drawn tips hidden d i shown =
+      let m = shown_given stored graph graph_rows sound stored_agree so_far time over tips hidden d.some_tips d.some_hidden d.walk d.starts d.infos d.ends i shown in
+      let n = from_map (λ (info : Info). info.id) d.infos i m in
+      not_low i (subst Above n.2 (d.above n.0 n.1))
+
+  -- likewise with other names of its tips
+  drawn_as : (tips hidden others below : List ObjectId) → DrawsAbove Above every graph others below → tips ≡ others → hidden ≡ below → ShowsAbove Low so_far time tips hidden
+  drawn_as tips hidden others below d e f i shown = drawn others below d i (subst (λ (T : Type 0). T) (λ k. IsShown so_far so_far time (e k) (f k) i) shown)
+
+  -- a walk that gave as many as are skipped and listed
+  begun : (by : TopoSorting) (shown : Shown) (tips hidden : List ObjectId) → FirstAbove Above every graph by shown tips hidden → BeginsAbove Low so_far so_far time tips hidden (name_down by) (page_choice shown)
+  begun by shown tips hidden d =
+      let b = begun_down stored graph graph_rows sound stored_agree so_far time over by tips hidden d.some_tips d.walk d.built d.infos d.last d.gave in
+      record {
+        all = λ n s. ap (λ (u : Option ℤ). kept_until u s (kept_of shown.merges n true)) d.always ∙ ap (λ (m : Merges). kept_of m n true) d.any;
+        most = d.most;
+        limit = d.limit;
+        ids = map (λ (info : Info). info.id) d.infos;
+        begins = b.0;
+        enough = length-map d.infos (λ (info : Info). info.id) ∙ d.number;
+        above = λ i m. not_low i (⊎_elim (d.tips_above i) (λ f. let n = b.1 i f in d.parents_above n.0 n.1 i n.2)
+            (Contains-append_cases tips (flat_map so_far (map (λ (info : Info). info.id) d.infos)) i m));
+      }
+
+  listed_above : (request : Request) → AreWordsOf words (Ok request) → DecidesRequest Above every graph request
+      → {by : List ℕ} {place : ℕ} {option rest : List (List ℕ)} {c : Choice} {tips hidden starts : List ObjectId} {followed : ObjectId → List ObjectId}
+      → words ≡ by ∷ (option ++ rest) → Contains names by
+      → Chooses tips hidden place rest c → Follows so_far time tips by option followed starts
+      → ShowsAbove Low so_far time tips hidden ⊎ BeginsAbove Low so_far followed time starts hidden by c
+  listed_above (Commits order shown others below) (name, another, more, same, called, picked, place, picks, some) (inl d) {by = by} {option = option} {rest = rest} {c = c} {tips = tips} {hidden = hidden} is named chooses follows =
+      let t = chosen_ids by name option another rest more c (page_choice shown) (is_option so_far time option follows) (order_option another order picked) chooses picks (sym is ∙ same) in
+      inl (drawn_as tips hidden others below d t.0 t.1)
+  listed_above (Commits (Topo mode.All sort) shown others below) (name, another, more, same, called, picked, place, picks, some) (inr d) {by = by} {option = option} {rest = rest} {c = c} is named chooses follows =
+      let a = is_option so_far time option follows in
+      let b = order_option another (Topo mode.All sort) picked in
+      let t = chosen_ids by name option another rest more c (page_choice shown) a b chooses picks (sym is ∙ same) in
+      let choice : c ≡ page_choice shown = choice_once by name option another rest more c (page_choice shown) a b chooses picks (sym is ∙ same) in
+      let both : option ++ rest ≡ another ++ more = cc in
+      let p = plain option rest more (both ∙ ap (λ o. o ++ more) picked) picks follows in
+      let first_word : by ≡ name = cc in
+      let starts_are = p.1 ∙ t.0 in
+      let by_name = first_word ∙ name_is name sort called in
+      inr (subst (λ (T : Type 0). T) (λ k. BeginsAbove Low so_far (sym p.0 k) time (sym starts_are k) (sym t.1 k) (sym by_name k) (sym choice k)) (begun sort shown others below d))
+  listed_above (Commits (Topo mode.First sort) shown others below) are (inr d) is named chooses follows = absurd d
+  listed_above (Commits (Simple m sort) shown others below) are (inr d) is named chooses follows = absurd d
+  listed_above (Ahead one other) (a, b, same, s, t) d {by = by} is named chooses follows =
+      absurd (unlisted words by (codes "ahead") _ _ (inl refl) is same named)
+  listed_above (Contained tip ids) (more, same, tips, some) d {by = by} is named chooses follows =
+      absurd (unlisted words by (codes "contains") _ _ (inr (omega arith)) is same named)
+  listed_above (Containing target tips) (more, same, are, some) d {by = by} is named chooses follows =
+      absurd (unlisted words by (codes "containing") _ _ (inr (omega arith)) is same named)
+  listed_above (Bases one others) (more, same, tips, some) d {by = by} is named chooses follows =
+      absurd (unlisted words by (codes "merge-base") _ _ (inr (omega arith)) is same named)
+  listed_above (Files shown tree) are d is named chooses follows = absurd d
+
+  ahead_above : (request : Request) → AreWordsOf words (Ok request) → DecidesRequest Above every graph request → number_of request ≡ 1
+      → {a b : List ℕ} {one other : ObjectId} → words ≡ codes "ahead" ∷ a ∷ b ∷ [] → Spells (digits_in one) a one → Spells (digits_in other) b other
+      → ShowsAbove Low so_far time (one ∷ []) (other ∷ []) × ShowsAbove Low so_far time (other ∷ []) (one ∷ [])
+  ahead_above (Ahead left right) (x, y, same, u, v) d n {a = a} {b = b} {one = one} {other = other} is s t =
+      let e : x ≡ a = cc in
+      let f : y ≡ b = cc in
+      let g : one ∷ [] ≡ left ∷ [] = ap (λ i. i ∷ []) (spelled_once a one left s (subst (λ w. Spells (digits_in left) w left) e u)) in
+      let h : other ∷ [] ≡ right ∷ [] = ap (λ i. i ∷ []) (spelled_once b other right t (subst (λ w. Spells (digits_in right) w right) f v)) in
+      (drawn_as (one ∷ []) (other ∷ []) (left ∷ []) (right ∷ []) d.0 g h, drawn_as (other ∷ []) (one ∷ []) (right ∷ []) (left ∷ []) d.1 h g)
+  ahead_above request are d n is s t = absurd (omega (arith, n))
+
+  contained_above : (request : Request) → AreWordsOf words (Ok request) → DecidesRequest Above every graph request → number_of request ≡ 2
+      → {rest : List (List ℕ)} (tip : ObjectId) (ids : List ObjectId) → words ≡ codes "contains" ∷ rest → AreTips rest (tip ∷ ids) [] → All (λ i. Low i → ⊥) ids
+  contained_above (Contained top others) (more, same, tips, some) d n {rest = rest} tip ids is are =
+      let e : more ≡ rest = cc in
+      let t = (tips_once rest (tip ∷ ids) [] (top ∷ others) [] are (subst (λ ws. AreTips ws (top ∷ others) []) e tips)).0 in
+      let f : ids ≡ others = cc in
+      λ k i below. not_low _ (d _ (subst (λ xs. Contains xs (get_or ids k i)) f (Contains-get_or ids k i below)))
+  contained_above request are d n tip ids is tips = absurd (omega (arith, n))
+
+  containing_above : (request : Request) → AreWordsOf words (Ok request) → DecidesRequest Above every graph request → number_of request ≡ 3
+      → {rest : List (List ℕ)} (target : ObjectId) (tips : List ObjectId) → words ≡ codes "containing" ∷ rest → AreTips rest (target ∷ tips) [] → Low target → ⊥
+  containing_above (Containing goal others) (more, same, tips, some) d n {rest = rest} target ids is are =
+      let e : more ≡ rest = cc in
+      let t = (tips_once rest (target ∷ ids) [] (goal ∷ others) [] are (subst (λ ws. AreTips ws (goal ∷ others) []) e tips)).0 in
+      let f : goal ≡ target = cc in
+      not_low target (subst Above f d)
+  containing_above request are d n target ids is tips = absurd (omega (arith, n))
+
+  bases_above : (request : Request) → AreWordsOf words (Ok request) → DecidesRequest Above every graph request → number_of request ≡ 4
+      → {rest : List (List ℕ)} (one : ObjectId) (others : List ObjectId) → words ≡ codes "merge-base" ∷ rest → AreTips rest (one ∷ others) []
+      → ShowsAbove Low so_far time (one ∷ []) others × ((i : ObjectId) → IsBase so_far one others i → Low i → ⊥)
+  bases_above (Bases left those) (more, same, tips, some) (d, (bases, found, above)) n {rest = rest} one others is are =
+      let e : more ≡ rest = cc in
+      let t = (tips_once rest (one ∷ others) [] (left ∷ those) [] are (subst (λ ws. AreTips ws (left ∷ those) []) e tips)).0 in
+      let f : one ≡ left = cc in
+      let g : others ≡ those = cc in (
+        drawn_as (one ∷ []) others (left ∷ []) those d (ap (λ i. i ∷ []) f) g,
+        λ i base. not_low i (above i (base_found stored graph graph_rows sound stored_agree so_far time over left those bases d.some_hidden found i (subst (λ (T : Type 0). T) (λ k. IsBase so_far (f k) (g k) i) base))),
+      )
+  bases_above request are d n one others is tips = absurd (omega (arith, n))
+
+  decided : DecidesWords Above every graph words → IsDecided Low so_far time words
+  decided (request, is_asked, d) = record {
+    lists = λ is named chooses follows. listed_above request are d is named chooses follows;
+    ahead = λ is s t. ahead_above request are d (is_of 1 (codes "ahead") is_ahead _ is) is s t;
+    contains = λ tip ids is tips. contained_above request are d (is_of 2 (codes "contains") is_contained _ is) tip ids is tips;
+    containing = λ target tips is ids. containing_above request are d (is_of 3 (codes "containing") is_containing _ is) target tips is ids;
+    bases = λ one others is tips. bases_above request are d (is_of 4 (codes "merge-base") is_bases _ is) one others is tips;
+  }
+    where
+      are : AreWordsOf words (Ok request)
+      are = subst (AreWordsOf words) is_asked (are_words words)
+
+      is_of : (n : ℕ) (name : List ℕ) → ((rest : List (List ℕ)) → IsOf n (request_of (name ∷ rest))) → (rest : List (List ℕ)) → words ≡ name ∷ rest → number_of request ≡ n
+      is_of n name each rest is = subst (IsOf n) (ap request_of (sym is) ∙ is_asked) (each rest)
+
+  right : (lines : List ℕ) → DecidesWords Above every graph words → Serves (page_objects stored) (page_rows graph) so_far time (Some []) (Some lines) words
+      → Serves (page_objects stored) rows parents time (Some []) (Some lines) words
+  right lines d s = serves_cut (page_objects stored) rows (page_rows graph)
+      (there_on pages graph least graph_rows part file rows generation read (page_objects stored) consistent agree parents time history)
+      Low parents so_far time (is_cut pages graph least graph_rows part file rows generation read (page_objects stored) consistent agree parents time history)
+      (Some []) (Some lines) words (decided d) s
+
+pub answers_over : (words : List (List ℕ)) (stored : Objects) (pages : Pages) (graph : List GraphRow) (least : ℕ) (lines : List ℕ)
+    → AreGraphRows graph → ArePart pages graph least
+    → RunsStored words stored graph (Some []) (Ok tt) (Some lines)
+    → Promises fault.Write words (λ given rows. AreNamed given × (given ≡ page_objects stored) × AreRows graph rows) (Some []) (Ok tt) (Some lines)
+    → DecidesWords (IsAbove pages graph least) (readable false (with_rows graph stored)) graph words
+    → AnswersOver words pages lines
+answers_over words stored pages graph least lines graph_rows part (served request is sound stored_agree s) (given, told, (named, same, (whole, told_is)), agree, each) d =
+    let agreed : Agree (page_objects stored) (page_rows graph) = subst (λ (T : Type 0). T) (λ k. Agree (same k) (told_is k)) agree in
+    let serve : InEach (page_objects stored) (page_rows graph) (λ parents time. Serves (page_objects stored) (page_rows graph) parents time (Some []) (Some lines) words) =
+    subst (λ (T : Type 0). T) (λ k. InEach (same k) (told_is k) (λ parents time. Serves (same k) (told_is k) parents time (Some []) (Some lines) words)) each in (
+      page_objects stored,
+      subst AreNamed same named,
+      λ file rows generation read consistent parents time history.
+          right words stored pages graph least graph_rows part sound stored_agree agreed file rows generation read consistent parents time history lines d
+          (serve (known graph least parents) time (is_history pages graph least graph_rows part file rows generation read (page_objects stored) consistent agreed parents time history)),
+    )
