@@ -18,6 +18,10 @@ pub const PAGES: &[(&str, &str)] = &[
         "crates/gix_statement/specs/CommitGraph.antt",
         "3e873d360d65b69c6b03472ab80fc42e650c37e3c1a2b74e1d3fa7a54de3a78c",
     ),
+    (
+        "crates/gix_graph_pages/specs/GraphPages.antt",
+        "75136f4694d6a578042b26f7c265ac6665cdaa84324096adcebe94bbbfa01d97",
+    ),
 ];
 
 /// The pages of this program.

@@ -2,6 +2,7 @@
 use crate::failure::Failure;
 use crate::graph::{check, rows, rows_of, warn};
 use crate::named::write_named;
+use crate::paged::Paged;
 use crate::progress::Progress;
 use gix_certificate::Rows;
 use gix_commands::{Fault, run_named};
@@ -9,7 +10,7 @@ use gix_commitgraph::Graph;
 use gix_gather::{Gathering, Order};
 use gix_hash::Keys;
 use gix_hash::hashtable::IdSet;
-use gix_odb::Front;
+use gix_odb::{Front, Odb};
 use gix_options::{Asked, Name, Options, Place, Question, read_lines};
 use gix_questions::{Chosen, choose_from, resolve_words};
 use gix_records::{NamedObjects, READS, read_to_end};
@@ -24,6 +25,8 @@ use std::io::Write;
 const NOT_ALL: u8 = 3;
 /// How many digits stand for an object whose id begins so, at the least.
 const FEWEST_DIGITS: usize = 4;
+/// Of how many pairs the common ancestors are looked for by pages.
+const MOST_PAIRS: usize = 16;
 /// How many lines are few: the commits that they need are read in less time than the rows of a long history.
 const FEW_LINES: usize = 1000;
 
@@ -303,6 +306,9 @@ impl Asking<'_> {
         if let Some(status) = self.few_lines(repository, output)? {
             return Ok(status);
         }
+        if let Some(status) = self.by_pages(repository, output)? {
+            return Ok(status);
+        }
         let known = rows(
             self.rt,
             repository,
@@ -329,10 +335,13 @@ impl Asking<'_> {
         graph: &Graph,
         output: &mut W,
     ) -> Result<u8, Failure> {
+        let hidden = self.chosen.hidden.len();
         let answered = self.over(repository, Some(graph), output);
         match &answered {
             Err(failure) if is_refusal(failure) => {
                 warn(self.rt, failure);
+                // What these rows say of pairs isn't used either.
+                self.chosen.hidden.truncate(hidden);
                 self.over(repository, None, output)
             }
             _ => answered,
@@ -396,6 +405,76 @@ impl Asking<'_> {
             }
             Err(_) => Ok(None),
         }
+    }
+
+    /// Answers a question that may need few rows of a commit-graph from these, which are read by pages. None if they aren't enough: then
+    /// nothing is written.
+    fn by_pages<W: Write>(
+        &mut self,
+        repository: &mut Repository<HostRuntime>,
+        output: &mut W,
+    ) -> Result<Option<u8>, Failure> {
+        let options = &self.question.options;
+        if options.takes_border || !self.needs_few_rows() {
+            return Ok(None);
+        }
+        let Some(mut paged) = Paged::open(self.rt, self.keys, repository, options)? else {
+            return Ok(None);
+        };
+        let hidden = self.chosen.hidden.len();
+        let lines = self.lines_by_pages(&mut repository.odb, &mut paged)?;
+        let Some(lines) = lines else {
+            self.chosen.hidden.truncate(hidden);
+            return Ok(None);
+        };
+        self.chosen.pairs.clear();
+        self.rows = rows_of(&self.question.options);
+        if self.question.name == Name::Resolve {
+            return Ok(Some(self.write_ids(output)?));
+        }
+        self.write_lines(lines.as_slice(), output)?;
+        Ok(Some(self.status(lines.as_slice())))
+    }
+
+    /// Whether few rows may be enough: something is hidden, two commits or more are compared, or an order by generations has a limit.
+    fn needs_few_rows(&self) -> bool {
+        match self.question.name {
+            Name::Ahead | Name::Contains | Name::Containing | Name::MergeBase | Name::IsAncestor =>
+                { true }
+            Name::Resolve => !self.chosen.pairs.is_empty(),
+            name => {
+                !self.chosen.hidden.is_empty()
+                    || !self.chosen.pairs.is_empty()
+                    || matches!(name, Name::Topo | Name::Date)
+                        && self.question.options.limit.is_some()
+            }
+        }
+    }
+
+    /// The lines that few rows show, where the best common ancestors of each pair are hidden: none of `resolve`.
+    fn lines_by_pages(
+        &mut self,
+        odb: &mut Odb<HostRuntime>,
+        paged: &mut Paged<'_>,
+    ) -> Result<Option<Vec<u8>>, Failure> {
+        let alloc = self.rt.alloc();
+        let options = &self.question.options;
+        if self.question.name != Name::Ahead {
+            if self.chosen.pairs.len() > MOST_PAIRS {
+                return Ok(None);
+            }
+            for pair in self.chosen.pairs.iter() {
+                if !paged.add_common(odb, pair, options, &mut self.chosen.hidden)? {
+                    return Ok(None);
+                }
+            }
+        }
+        if self.question.name == Name::Resolve {
+            return Ok(Some(Vec::new(alloc)));
+        }
+        let words = self.chosen.words(alloc, self.keys, self.question)?;
+        let ids = self.chosen.all(alloc)?;
+        paged.lines(odb, words.as_slice(), ids.as_slice(), options)
     }
 
     /// Whether the question is which revisions a revision reaches.

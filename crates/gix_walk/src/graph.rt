@@ -4,7 +4,9 @@ use gix_commands::{Fault, read_graph};
 use gix_commitgraph::{Graph, ParentPlaces, Row};
 use gix_gather::read_named;
 use gix_graph_check::read_whole;
-use gix_graph_verify::{Layer, count_passed, has_passed, keep, read_layers, verify};
+use gix_graph_verify::{
+    Layer, count_passed, has_passed, has_passed_open, keep, read_layers, verify,
+};
 use gix_hash::ObjectId;
 use gix_object::Kind;
 use gix_object::commit::CommitRefIter;
@@ -13,6 +15,7 @@ use gix_options::{Options, Rows};
 use gix_repository::Repository;
 use std::alloc::AllocError;
 use std::env;
+use std::fs::Files;
 use std::io::Write;
 
 /// The generation of a row that has no parents.
@@ -131,6 +134,40 @@ fn rows_of_layers(rt: &HostRuntime, layers: Vec<Layer>) -> Result<Known, Fault> 
 fn keep_blocks(rt: &HostRuntime) {
     let block: Result<Vec<u8>, _> = Vec::with_capacity(rt.alloc(), KEPT_BLOCK);
     drop(block);
+}
+
+/// The path of the commit-graph, if it is one file and these options take one.
+pub(crate) fn single_file(
+    repository: &mut Repository<HostRuntime>,
+    options: &Options,
+) -> Result<Option<String>, Failure> {
+    if options.rows == Rows::Unused {
+        return Ok(None);
+    }
+    let mut paths = repository.graph_layers()?;
+    if paths.len() > 1 {
+        return Ok(None);
+    }
+    Ok(paths.pop())
+}
+
+/// Whether these options take a file that is open: it has passed, or is trusted.
+pub(crate) fn is_taken(
+    rt: &HostRuntime,
+    options: &Options,
+    file: &<HostRuntime as Files>::File,
+) -> Result<bool, Failure> {
+    match options.rows {
+        Rows::Unused => Ok(false),
+        Rows::Trusted => Ok(true),
+        Rows::Checked => {
+            let cache = cache_folder(rt)?;
+            match folder_of(cache.as_ref()) {
+                Some(cache) => Ok(has_passed_open(rt, cache, file)),
+                None => Ok(false),
+            }
+        }
+    }
 }
 
 /// Says that the rows aren't used, and why.

@@ -9,6 +9,7 @@ mod graph;
 mod help;
 mod named;
 mod output;
+mod paged;
 mod progress;
 mod records;
 

@@ -1,0 +1,129 @@
+//! Answers from few rows of a commit-graph.
+use crate::failure::Failure;
+use crate::graph::{is_taken, single_file};
+use gix_gather::{Gathering, Order};
+use gix_graph_pages::Pages;
+use gix_hash::hashtable::IdSet;
+use gix_hash::{Keys, ObjectId};
+use gix_odb::Odb;
+use gix_options::Options;
+use gix_paged_commands::{Rows, choose, run_paged};
+use gix_questions::Pair;
+use gix_repository::Repository;
+use gix_repository_commands::{Part, Silent};
+use std::fs::Files;
+
+/// How many bytes a file has at the most that is read by pages.
+const MOST_BYTES: u64 = 1 << 32;
+
+/// How many rows are gone through first for each line of a list with a limit, and then, as long as these aren't enough.
+const TIMES: &[u64] = &[2, 8, 32];
+
+/// The file of a commit-graph that may be used, and the pages of it that were read.
+#[derive(Drop)]
+pub(crate) struct Paged<'a> {
+    rt: &'a HostRuntime,
+    keys: Keys,
+    pages: Pages<<HostRuntime as Files>::File>,
+}
+
+impl<'a> Paged<'a> {
+    /// Opens the file of the commit-graph that these options take. None if it isn't one file that may be used.
+    pub fn open(
+        rt: &'a HostRuntime,
+        keys: Keys,
+        repository: &mut Repository<HostRuntime>,
+        options: &Options,
+    ) -> Result<Option<Paged<'a>>, Failure> {
+        let Some(path) = single_file(repository, options)? else {
+            return Ok(None);
+        };
+        let Ok(Some(opened)) = gix_files::open(rt, path.as_str()) else {
+            return Ok(None);
+        };
+        if opened.len > MOST_BYTES || !is_taken(rt, options, &opened.file)? {
+            return Ok(None);
+        }
+        let pages = Pages::new(rt.alloc(), opened.file, opened.len)?;
+        Ok(Some(Paged { rt, keys, pages }))
+    }
+
+    /// The lines of a command that asks about these ids. None if few rows don't show them, or if the file was changed.
+    pub fn lines(
+        &mut self,
+        odb: &mut Odb<HostRuntime>,
+        words: &[String],
+        ids: &[ObjectId],
+        options: &Options,
+    ) -> Result<Option<Vec<u8>>, Failure> {
+        let alloc = self.rt.alloc();
+        for times in TIMES {
+            let rows = choose(alloc, self.keys, words, &mut self.pages, odb, *times)?;
+            let Some(rows) = rows else {
+                break;
+            };
+            let lines = self.lines_of(odb, words, ids, options, &rows)?;
+            if lines.is_some() || !rows.may_grow {
+                return Ok(lines);
+            }
+        }
+        Ok(None)
+    }
+
+    /// The lines that these rows show.
+    fn lines_of(
+        &mut self,
+        odb: &mut Odb<HostRuntime>,
+        words: &[String],
+        ids: &[ObjectId],
+        options: &Options,
+        rows: &Rows,
+    ) -> Result<Option<Vec<u8>>, Failure> {
+        let alloc = self.rt.alloc();
+        let border = IdSet::new(alloc, self.keys);
+        let gathering = Gathering::commits(alloc, ids, Order::Met, border)?;
+        let mut part = Part::of(alloc, gathering, None);
+        let graph = Some(&rows.graph);
+        if part.read_all(odb, graph, &mut Silent).is_err()
+            || options.give_text() && part.read_listed(words, odb, graph).is_err()
+        {
+            return Ok(None);
+        }
+        let objects = part.gathering.objects();
+        let Ok(Some(lines)) = run_paged(alloc, words, objects, &self.pages, rows) else {
+            return Ok(None);
+        };
+        if is_taken(self.rt, options, self.pages.file())? {
+            Ok(Some(lines))
+        } else {
+            Ok(None)
+        }
+    }
+
+    /// Adds the best common ancestors of a pair. Whether few rows show them: otherwise some of them may have been added.
+    pub fn add_common(
+        &mut self,
+        odb: &mut Odb<HostRuntime>,
+        pair: &Pair,
+        options: &Options,
+        ids: &mut Vec<ObjectId>,
+    ) -> Result<bool, Failure> {
+        let alloc = self.rt.alloc();
+        let Pair { one, other } = *pair;
+        let mut words = Vec::new(alloc);
+        words.push(String::from_str(alloc, "merge-base")?)?;
+        words.push(format!(in alloc; "{one}")?)?;
+        words.push(format!(in alloc; "{other}")?)?;
+        let Some(lines) = self.lines(odb, words.as_slice(), &[one, other], options)? else {
+            return Ok(false);
+        };
+        for line in lines.as_slice().split(|byte| *byte == b'\n') {
+            match ObjectId::from_hex(line) {
+                Ok(id) => ids.push(id)?,
+                Err(_) if line.is_empty() => {}
+                Err(_) => return Ok(false),
+            }
+        }
+        Ok(true)
+    }
+}
