@@ -18,8 +18,8 @@ page_seen f pages items seen k found page are view within read is =
     let there : slice_get pages k ≡ Some found = slice_get_read pages (length pages) k found refl within read in
     ap (λ s. slice_get s k) (sym view ∙ ap (map (option_map f)) (sym are)) ∙ viewed (option_map f) pages k found there ∙ ap (λ o. Some (option_map f o)) is
 
-pub page_part : (pages : List (Option (List ℕ))) (place count : ℕ) (page : List ℕ) → slice_get pages (place / 16384) ≡ Some (Some page) → (place % 16384) + count ≤ length page
-    → (file : List ℕ) → HavePages file pages → bytes_at place count file ≡ take count (drop (place % 16384) page)
+pub page_part : (pages : List (Option (List ℕ))) (place count : ℕ) (page : List ℕ) → slice_get pages (place / 4096) ≡ Some (Some page) → (place % 4096) + count ≤ length page
+    → (file : List ℕ) → HavePages file pages → bytes_at place count file ≡ take count (drop (place % 4096) page)
 page_part pages place count page there fits file has =
-    let at : place ≡ 16384 * (place / 16384) + place % 16384 = omega arith in
-    sym (part_of (16384 * (place / 16384)) (length page) (place % 16384) count place file fits at) ∙ ap (λ bytes. bytes_at (place % 16384) count bytes) (has (place / 16384) page there)
+    let at : place ≡ 4096 * (place / 4096) + place % 4096 = omega arith in
+    sym (part_of (4096 * (place / 4096)) (length page) (place % 4096) count place file fits at) ∙ ap (λ bytes. bytes_at (place % 4096) count bytes) (has (place / 4096) page there)

@@ -1,5 +1,5 @@
 -- The rows of a file whose pages were read, by its bytes.
-use Rattle.std.proofs.Common.{◌≡◌, ◌==◌, ◌⊎◌, if◌then◌else◌, ℕ, zero, suc, ◌+◌, ◌*◌, ◌/◌, ◌%◌, ◌^◌, ◌<◌, ◌≤◌, pos, to_z, w64, List, [], ◌∷◌, length, take, drop, slice_get, slice_index, Option, Some, None, IfSome, refl, sym, ap, subst, ◌∙◌, arith, ⊎_elim, inl, inr, drop-drop, length-take}
+use Rattle.std.proofs.Common.{◌≡◌, ◌==◌, ◌⊎◌, if◌then◌else◌, ℕ, zero, suc, ◌+◌, ◌*◌, ◌/◌, ◌%◌, ◌^◌, ◌<◌, ◌≤◌, pos, to_z, w64, List, [], ◌∷◌, length, take, drop, slice_get, slice_index, Option, Some, None, IfSome, codes, refl, sym, ap, subst, ◌∙◌, arith, ⊎_elim, inl, inr, drop-drop, length-take}
 use Rattle.std.proofs.Math.Nat.{mul-le-mul_left}
 use Rattle.std.proofs.lemmas.Option.{slice_get_within}
 use Rattle.std.proofs.lemmas.Int.{to_z_pos}
@@ -9,10 +9,11 @@ use Rattle.gix_hash.specs.declared.Kind.TheVariants as kind
 use Rattle.gix_hash.specs.declared.ObjectId.{ObjectId}
 use Rattle.gix_hash.specs.declared.ObjectId.TheVariants.{Sha1, Sha256}
 use Rattle.gix_statement.proofs.HaveHistory.{below}
-use Rattle.gix_statement.specs.CommitGraph.{AreLayers, AreParents, IsLayer, IsRow, bytes_at, number_at, number_from}
+use Rattle.gix_statement.specs.CommitGraph.{AreLayers, AreParents, IsChunk, IsLayer, IsRow, bytes_at, number_at, number_from}
 use Rattle.gix_statement.specs.WholeStatement.{Row, bytes_in, digits_in}
 use Rattle.gix_graph_pages.specs.GraphPages.{IsPagedFile, width_of}
-use Rattle.gix_graph_pages.specs.PagedRows.{IsLayoutOf, Pages, SaysRow}
+use Rattle.gix_graph_pages.specs.PagedRows.{InEachFile, IsEdge, IsLayoutOf, Pages, SaysRow}
+use Rattle.gix_graph_pages.specs.declared.layout.Chunk.{Chunk}
 use Rattle.gix_graph_pages.specs.declared.layout.Layout.{Layout}
 use Rattle.gix_graph_pages.proofs.Takes.{part_of, number_of, within}
 
@@ -126,11 +127,19 @@ module _ (pages : Pages) (layout : Layout) (is : IsLayoutOf pages layout) (file 
       let row = row_is number there.0 there.1 in
       (there.0, there.1, id_read there.0.id i bytes w full e row.1 (row.2 ∙ so))
 
+  -- a word of those that say further parents
+  pub edge_is : (chunk : Chunk) (number place : ℕ) (word_bytes : List ℕ) (word : ℕ) → layout.edges ≡ Some chunk → 4 * number + 4 ≤ chunk.len → place ≡ chunk.from + 4 * number
+      → bytes_at place 4 file ≡ word_bytes → word ≡ number_at 0 4 word_bytes → IsEdge file number word
+  edge_is chunk number place word_bytes word some fits at here one edges found =
+      let are : edges ≡ bytes_at chunk.from chunk.len file = subst (λ o. IfSome o (λ c. InEachFile pages (λ file rows generation. (bytes : List ℕ) → IsChunk file (codes "EDGE") bytes → bytes ≡ bytes_at c.from c.len file))) some is.further file rows generation read edges found in
+      ap (number_at (4 * number) 4) are ∙ number_of chunk.from chunk.len (4 * number) 4 place file fits at
+      ∙ sym (number_of place 4 0 4 place file (omega arith) (omega arith)) ∙ ap (number_at 0 4) here ∙ sym one
+
   -- what else a row says
   pub says_row : (number place : ℕ) (whole tree_bytes numbers : List ℕ) (id tree : ObjectId) (first second seconds : ℕ) → place ≡ layout.data + (w + 16) * number → length whole ≡ w + 16 → bytes_at place (w + 16) file ≡ whole
       → tree_bytes ≡ take w whole → numbers ≡ drop w whole → id_from_bytes tree_bytes ≡ Some tree → first ≡ number_at 0 4 numbers → second ≡ number_at 4 4 numbers → seconds ≡ number_at 8 8 numbers
       → (r : Row) × (slice_get rows number ≡ Some r) × (r.id ≡ id)
-      → SaysRow rows generation number (record { id = id; tree = tree; first = first; second = second; generation = seconds / 17179869184; time = to_z w64 (seconds % 17179869184) })
+      → SaysRow file rows generation number (record { id = id; tree = tree; first = first; second = second; generation = seconds / 17179869184; time = to_z w64 (seconds % 17179869184) })
   says_row number place whole tree_bytes numbers id tree first second seconds at full here tree_is numbers_are e one two three (r, there, named) =
       let few : number < layout.rows = omega (arith, few_rows, slice_get_within rows number r there) in
       let row = row_is number r there in
@@ -158,6 +167,7 @@ module _ (pages : Pages) (layout : Layout) (is : IsLayoutOf pages layout) (file 
             ∙ (λ i. number_at ((wide i + 16) * number + (wide i + 8)) 8 (data_are i) / 2 ^ 34)
             ∙ ap (λ n. n / 2 ^ 34) (ap (λ k. number_at k 8 data_of) level_at ∙ long_is);
         edges = layer.3;
+        chunk = layer.11;
         numbers = row.0;
         parents = subst (λ (T : Type 0). T) (λ i. AreParents layer.3 (first_is i) (second_is i) row.0) row.5;
         ids = row.6;

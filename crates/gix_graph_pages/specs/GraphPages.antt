@@ -6,9 +6,9 @@ use Rattle.gix_hash.specs.declared.ObjectId.{ObjectId}
 use Rattle.gix_statement.specs.WholeStatement.{Agree, AreNamed, InEach, Objects, Row, Serves, by_bytes}
 use Rattle.gix_statement.specs.CommitGraph.{AreLayers, IsChunk, bytes_at, number_at}
 
--- PAGES: for each 16384 bytes of the file, what it has from there on, as far as that was read. Pages may lap over.
+-- PAGES: for each 4096 bytes of the file, what it has from there on, as far as that was read. Pages may lap over.
 abbrev pub HavePages : (file : List ℕ) → List (Option (List ℕ)) → Type 0
-HavePages file pages = (k : ℕ) (bytes : List ℕ) → slice_get pages k ≡ Some (Some bytes) → bytes_at (16384 * k) (length bytes) file ≡ bytes
+HavePages file pages = (k : ℕ) (bytes : List ℕ) → slice_get pages k ≡ Some (Some bytes) → bytes_at (4096 * k) (length bytes) file ≡ bytes
 
 -- how many bytes an id has
 abbrev pub width_of : (file : List ℕ) → ℕ

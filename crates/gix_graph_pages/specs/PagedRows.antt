@@ -1,5 +1,5 @@
 -- What the bytes of pages say of the rows of their file.
-use Rattle.std.specs.Prelude.{◌≡◌, ◌≢◌, ◌⊎◌, ℕ, ◌+◌, ◌*◌, ◌≤◌, ◌<◌, codes, List, [], map, slice_get, Option, Some, Ok, All, Contains}
+use Rattle.std.specs.Prelude.{◌≡◌, ◌≢◌, ◌⊎◌, ℕ, ◌+◌, ◌*◌, ◌≤◌, ◌<◌, codes, List, [], ◌∷◌, map, slice_get, Option, Some, IfSome, Ok, Err, All, Contains}
 use Rattle.std.specs.Option.{option_map}
 use Rattle.gix_hash.specs.declared.ObjectId.{ObjectId}
 use Rattle.gix_hash.specs.Id.{id_len}
@@ -8,7 +8,7 @@ use Rattle.gix_commitgraph.specs.Rows.{GraphRow, row_at, row_of}
 use Rattle.gix_commitgraph.specs.declared.Position.{Position}
 use Rattle.gix_graph_check.specs.HeadsReach.{ids_of_places}
 use Rattle.gix_statement.specs.WholeStatement.{Row}
-use Rattle.gix_statement.specs.CommitGraph.{AreParents, IsChunk, bytes_at}
+use Rattle.gix_statement.specs.CommitGraph.{AreFurther, AreParents, IsChunk, bytes_at, number_at}
 use Rattle.gix_graph_pages.specs.GraphPages.{IsPagedFile, width_of}
 use Rattle.gix_graph_pages.specs.declared.layout.Layout.{Layout}
 use Rattle.gix_graph_pages.specs.declared.rows.FileRow.{FileRow}
@@ -27,13 +27,27 @@ pub record IsLayoutOf (pages : Pages) (layout : Layout) : Type 0 where
       → bytes ≡ bytes_at layout.ids (id_len layout.kind * layout.rows) file)
   pub said : InEachFile pages (λ file rows generation. (bytes : List ℕ) → IsChunk file (codes "CDAT") bytes
       → bytes ≡ bytes_at layout.data ((id_len layout.kind + 16) * layout.rows) file)
+  pub further : IfSome layout.edges (λ chunk. InEachFile pages (λ file rows generation. (bytes : List ℕ) → IsChunk file (codes "EDGE") bytes
+      → bytes ≡ bytes_at chunk.from chunk.len file))
 
 -- this row of a file has this id
 abbrev pub HasId : Pages → ℕ → ObjectId → Type 0
 HasId pages number i = InEachFile pages (λ file rows generation. (r : Row) × (slice_get rows number ≡ Some r) × (r.id ≡ i))
 
+-- these bytes are those that say further parents in a file, which may have none
+abbrev pub AreEdges : (file edges : List ℕ) → Type 0
+AreEdges file edges = IsChunk file (codes "EDGE") edges ⊎ (edges ≡ [])
+
+-- the word of this number of those that say further parents
+abbrev pub IsEdge : (file : List ℕ) → (number word : ℕ) → Type 0
+IsEdge file number word = (edges : List ℕ) → IsChunk file (codes "EDGE") edges → number_at (4 * number) 4 edges ≡ word
+
+-- these ids are those of the rows that have these numbers
+abbrev pub AreIdsOf : List Row → (numbers : List ℕ) → List ObjectId → Type 0
+AreIdsOf rows numbers ids = map Some ids ≡ map (λ n. option_map (λ parent. parent.id) (slice_get rows n)) numbers
+
 -- this row of a file says this
-pub record SaysRow (rows : List Row) (generation : ObjectId → ℕ) (number : ℕ) (read : FileRow) : Type 0 where
+pub record SaysRow (file : List ℕ) (rows : List Row) (generation : ObjectId → ℕ) (number : ℕ) (read : FileRow) : Type 0 where
   pub row : Row
   pub there : slice_get rows number ≡ Some row
   pub id : row.id ≡ read.id
@@ -41,9 +55,10 @@ pub record SaysRow (rows : List Row) (generation : ObjectId → ℕ) (number : �
   pub time : row.time ≡ read.time
   pub level : generation row.id ≡ read.generation
   pub edges : List ℕ
+  pub chunk : AreEdges file edges
   pub numbers : List ℕ
   pub parents : AreParents edges read.first read.second numbers
-  pub ids : map Some row.parents ≡ map (λ n. option_map (λ parent. parent.id) (slice_get rows n)) numbers
+  pub ids : AreIdsOf rows numbers row.parents
 
 -- a place of a row of a graph: the row there has the id that the row of this number in a file has
 pub record IsPlaceOf (pages : Pages) (graph : List GraphRow) (number : ℕ) (place : Option Answer) : Type 0 where
@@ -52,9 +67,18 @@ pub record IsPlaceOf (pages : Pages) (graph : List GraphRow) (number : ℕ) (pla
   pub id : HasId pages number (row_at graph position.0).id
 
 -- these ids are the parents of each row of a file that has these two words
-abbrev pub AreParentIds : List Row → (one other : ℕ) → List ObjectId → Type 0
-AreParentIds rows one other ids = (edges numbers : List ℕ) → AreParents edges one other numbers
-    → map Some ids ≡ map (λ n. option_map (λ parent. parent.id) (slice_get rows n)) numbers
+abbrev pub AreParentIds : (file : List ℕ) → List Row → (one other : ℕ) → List ObjectId → Type 0
+AreParentIds file rows one other ids = (edges numbers : List ℕ) → AreEdges file edges → AreParents edges one other numbers → AreIdsOf rows numbers ids
+
+-- these ids are the further parents that a file's words say from one word on
+abbrev pub AreFurtherIds : (file : List ℕ) → List Row → (from : ℕ) → List ObjectId → Type 0
+AreFurtherIds file rows from ids = (edges numbers : List ℕ) → AreEdges file edges → AreFurther edges from numbers → AreIdsOf rows numbers ids
+
+-- the ids at places of a graph that are given one by one; at a corrupt one there is none
+abbrev pub ids_of_answers : List GraphRow → List Answer → List ObjectId
+ids_of_answers graph [] = []
+ids_of_answers graph (Ok position ∷ answers) = (row_at graph position.0).id ∷ ids_of_answers graph answers
+ids_of_answers graph (Err fault ∷ answers) = ids_of_answers graph answers
 
 -- A row of a graph says what a row of the file says. Below a generation it has no parents.
 pub record IsRowOfFile (least : ℕ) (graph : List GraphRow) (rows : List Row) (generation : ObjectId → ℕ) (row : GraphRow) : Type 0 where

@@ -21,13 +21,17 @@ pub struct Layout {
     pub data: u64,
     /// Where it begins how many rows have ids up to each first byte.
     pub fan_out: u64,
+    /// The words that say the further parents of commits with more than two. None if there are none, or if the first page doesn't say it.
+    pub edges: Option<Chunk>,
 }
 
 /// A part of a file.
-#[derive(Clone, Copy)]
-struct Chunk {
-    from: u64,
-    len: u64,
+#[derive(Clone, Copy, Debug)]
+pub struct Chunk {
+    /// Where it begins.
+    pub from: u64,
+    /// How many bytes it has.
+    pub len: u64,
 }
 
 /// The number in the eight bytes from `at` on.
@@ -88,5 +92,6 @@ pub fn layout_of<F: Drop>(pages: &Pages<F>) -> Option<Layout>
         ids: ids.from,
         data: data.from,
         fan_out: fan_out.from,
+        edges: chunk_of(pages, count, b"EDGE"),
     })
 }

@@ -5,12 +5,14 @@
 
 mod layout;
 mod pages;
+mod parents;
 mod part;
 mod rows;
 mod search;
 
-pub use layout::{Layout, layout_of};
+pub use layout::{Chunk, Layout, layout_of};
 pub use pages::Pages;
+pub use parents::{Unlisted, parents_of};
 pub use part::{is_above, is_part};
 pub use rows::{FileRow, id_at, row_at};
 pub use search::{Unread, load_row, place_of};

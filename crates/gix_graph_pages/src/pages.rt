@@ -9,9 +9,9 @@ use std::marker::Model;
 use std::os::unix::fs::FileExt;
 
 /// How many bytes lie between the beginnings of two pages.
-const STEP: u64 = 16384;
+const STEP: u64 = 4096;
 /// How many bytes a page has: those of the next one with which what begins in it ends.
-const LEN: usize = 16384 + 64;
+const LEN: usize = 4096 + 64;
 
 /// A file, and the pages of it that were read. The model of it is what they have.
 #[derive(Drop)]

@@ -1,22 +1,23 @@
 //! Whether rows are some of those of a file.
-ghost use Rattle.std.specs.Prelude.{◌≡◌, ◌<◌, IsTrue, IfOk, IfSome, length};
+ghost use Rattle.std.specs.Prelude.{◌≡◌, ◌<◌, All, IsTrue, IfOk, IfSome, length};
 ghost use Rattle.std.specs.Ordering.{is_lt};
 ghost use Rattle.gix_hash.specs.Id.{id_cmp};
 ghost use Rattle.gix_commitgraph.specs.Packed.{AreGraphRows};
 ghost use Rattle.gix_commitgraph.specs.GraphCommit.{rows_of_commit, row_of_commit};
 ghost use Rattle.gix_commitgraph.specs.Rows.{row_at};
 ghost use Rattle.gix_graph_check.specs.HeadsReach.{ids_of_places};
-ghost use Rattle.gix_graph_pages.specs.PagedRows.{ArePart, AreParentIds, HasNoRow, InEachFile, IsAbove, IsLayoutOf, IsPlaceOf, IsRowOfFile};
+ghost use Rattle.gix_graph_pages.specs.PagedRows.{AreFurtherIds, ArePart, AreParentIds, HasNoRow, InEachFile, IsAbove, IsLayoutOf, IsPlaceOf, IsRowOfFile, ids_of_answers};
 
 use crate::layout::Layout;
 use crate::pages::Pages;
+use crate::parents::edge_at;
 use crate::rows::{FLAG, FileRow, NO_PARENT, id_at, row_at};
 use crate::search::place_of;
-use gix_commitgraph::{Commit, Graph, ParentFault, Position};
+use gix_commitgraph::{Commit, Graph, ParentFault, Parents, Position};
 use gix_hash::ObjectId;
 
 /// Whether each row of a graph says what the row of its number in the file says, or no parents if its generation is below the least one.
-/// `numbers` are those of the graph's rows, in their order. A row of more than two parents that isn't below has none of the file's.
+/// `numbers` are those of the graph's rows, in their order.
 pub fn is_part<F: Drop>(
     pages: &Pages<F>,
     layout: Layout,
@@ -72,7 +73,7 @@ fn is_row<F: Drop>(
     }
 }
 
-/// Whether the parents of a commit, at most two, are at the places that a row of the file names.
+/// Whether the parents of a commit are those that a row of the file names.
 fn has_parents<F: Drop>(
     pages: &Pages<F>,
     layout: Layout,
@@ -82,20 +83,52 @@ fn has_parents<F: Drop>(
 ) -> bool
     requires layout { IsLayoutOf pages.now layout }
     requires rows { rows_of_commit commit ≡ graph.now }
-    ensures { IsTrue result → InEachFile pages.now (λ file rows generation. AreParentIds rows read.first read.second
+    ensures { IsTrue result → InEachFile pages.now (λ file rows generation. AreParentIds file rows read.first read.second
         (ids_of_places graph.now (row_of_commit commit.entry).parents)) }
 {
     let mut places = commit.iter_parents();
     if read.first == NO_PARENT {
         return read.second == NO_PARENT && places.next().is_none();
     }
-    if read.second >= FLAG || !is_parent(pages, layout, graph, places.next(), read.first) {
+    if !is_parent(pages, layout, graph, places.next(), read.first) {
         return false;
+    }
+    if read.second >= FLAG {
+        return are_further(pages, layout, graph, places, read.second - FLAG);
     }
     if read.second != NO_PARENT && !is_parent(pages, layout, graph, places.next(), read.second) {
         return false;
     }
     places.next().is_none()
+}
+
+/// Whether the rows at these places of the graph are those that the file's words name from one word on, up to the one with the flag.
+fn are_further<F: Drop>(
+    pages: &Pages<F>,
+    layout: Layout,
+    graph: &Graph,
+    mut places: Parents<'_>,
+    from: u32,
+) -> bool
+    requires layout { IsLayoutOf pages.now layout }
+    requires within { All (λ answer. IfOk answer (λ position. position.0 < length graph.now)) places }
+    ensures { IsTrue result → InEachFile pages.now (λ file rows generation. AreFurtherIds file rows from (ids_of_answers graph.now places.entry)) }
+{
+    for number in from..u32::MAX {
+        let Some(Ok(word)) = edge_at(pages, layout, number) else {
+            return false;
+        };
+        if word >= FLAG {
+            if !is_parent(pages, layout, graph, places.next(), word - FLAG) {
+                return false;
+            }
+            return places.next().is_none();
+        }
+        if !is_parent(pages, layout, graph, places.next(), word) {
+            return false;
+        }
+    }
+    false
 }
 
 /// Whether the row at a place of the graph has the id that the row of this number in the file has.

@@ -12,7 +12,7 @@ const GENERATION: u64 = 0x4_0000_0000;
 
 /// The word of a file that names no parent.
 pub(crate) const NO_PARENT: u32 = 0x7000_0000;
-/// From this word on there are more than two parents.
+/// What a second word has besides a number if there are more than two parents, and the word of the last one too.
 pub(crate) const FLAG: u32 = 0x8000_0000;
 
 /// A row, as its file has it.
@@ -24,27 +24,13 @@ pub struct FileRow {
     pub tree: ObjectId,
     /// The number of the first parent's row, or 0x70000000 if there is none.
     pub first: u32,
-    /// The number of the second parent's row, or 0x70000000 if there is none. From 0x80000000 on there are more than two parents.
+    /// The number of the second parent's row, or 0x70000000 if there is none. From 0x80000000 on there are more than two parents: the number
+    /// above that is the one of the word that names the second.
     pub second: u32,
     /// The generation.
     pub generation: u32,
     /// The committer's seconds since 1970-01-01 00:00 UTC.
     pub time: i64,
-}
-
-impl FileRow {
-    /// The numbers of the parents' rows, in order. None if there are more than two.
-    pub fn parents(&self) -> Option<[Option<u32>; 2]> {
-        if self.second >= FLAG {
-            return None;
-        }
-        Some([number_of(self.first), number_of(self.second)])
-    }
-}
-
-/// The number of a parent's row that a word is.
-fn number_of(word: u32) -> Option<u32> {
-    if word == NO_PARENT { None } else { Some(word) }
 }
 
 /// The number in the four bytes from `at` on.
@@ -72,7 +58,7 @@ pub fn id_at<F: Drop>(pages: &Pages<F>, layout: Layout, number: u32) -> Option<O
 /// What the row of this number says, from 0. None if there is no such row, or if a page wasn't read.
 pub fn row_at<F: Drop>(pages: &Pages<F>, layout: Layout, number: u32) -> Option<FileRow>
     requires { IsLayoutOf pages.now layout }
-    ensures { IfSome result (λ read. InEachFile pages.now (λ file rows generation. SaysRow rows generation number read)) }
+    ensures { IfSome result (λ read. InEachFile pages.now (λ file rows generation. SaysRow file rows generation number read)) }
 {
     let id = id_at(pages, layout, number)?;
     let width = layout.kind.len_in_bytes();

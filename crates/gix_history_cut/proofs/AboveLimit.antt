@@ -5,9 +5,9 @@ use Rattle.std.proofs.lemmas.List.Elements.{All-contains, Contains-append_cases,
 use Rattle.gix_hash.proofs.Ids.Membership.{Contains-cons_cases, no_member}
 use Rattle.gix_hash.specs.declared.ObjectId.{ObjectId}
 use Rattle.gix_statement.specs.WholeStatement.{Allows, Begins, Choice, chosen, IsNext, IsPending, IsReady, IsShown, start, parent, breadth, newest, oldest, date, topo}
-use Rattle.gix_history_cut.specs.Cut.{BeginsAbove, IsCut}
+use Rattle.gix_history_cut.specs.Cut.{BeginsAbove}
 use Rattle.gix_history_cut.proofs.AlikeSides.{AlikeFor, begins_for, named, reach_more}
-use Rattle.gix_history_cut.proofs.BelowLine.{AreFollowed, down, down_by, known_same, option_within, up}
+use Rattle.gix_history_cut.proofs.BelowLine.{AreFollowed, IsCut, down, down_by, known_same, option_within, up}
 use Rattle.gix_history_cut.proofs.NextOnce.{is_front}
 
 split : {I : Type 0} (ys : List I) (x : I) → Contains ys x → (before after : List I) × (ys ≡ before ++ x ∷ after)

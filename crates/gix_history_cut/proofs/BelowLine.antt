@@ -5,8 +5,13 @@ use Rattle.gix_hash.proofs.Ids.Membership.{Contains-cons_cases, Contains-here, n
 use Rattle.gix_hash.specs.declared.ObjectId.{ObjectId}
 use Rattle.gix_statement.specs.WholeStatement.{all, first, since, Follows, IsBase, IsShown, Keeps, Reaches, start, parent}
 use Rattle.gix_statement.proofs.EachHistory.{filter_in, is_young}
-use Rattle.gix_history_cut.specs.Cut.{ShowsAbove, IsBelow, IsCut}
+use Rattle.gix_history_cut.specs.Cut.{ShowsAbove, IsBelow}
 use Rattle.gix_history_cut.proofs.AlikeSides.{Alike, kept_same, reach_more}
+
+-- The parents of a commit are known, or the commit is below a line. What is below reaches only what is below.
+pub record IsCut (Below : ObjectId → Type 0) (parents known : ObjectId → List ObjectId) : Type 0 where
+  pub down : (i p : ObjectId) → Below i → Contains (parents i) p → Below p
+  pub same : (i : ObjectId) → (known i ≡ parents i) ⊎ ((known i ≡ []) × Below i)
 
 take_in : {I : Type 0} (xs : List I) (i : I) → Contains (take 1 xs) i → Contains xs i
 take_in [] i m = m

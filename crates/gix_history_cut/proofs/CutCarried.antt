@@ -5,10 +5,10 @@ use Rattle.gix_hash.specs.declared.ObjectId.{ObjectId}
 use Rattle.gix_statement.specs.WholeStatement.{Allows, Begins, Choice, chosen, commit_line, IsShown, IsThere, IsWhole, Lists, lists, Objects, Row, Serves, commits, ahead, contains, containing, bases, files, written}
 use Rattle.gix_statement.proofs.EachHistory.{filter_same}
 use Rattle.gix_statement.proofs.SameLines.{chosen_in, same_line, written_same}
-use Rattle.gix_history_cut.specs.Cut.{BeginsAbove, CutCarries, IsBelow, IsCut, IsDecided, ShowsAbove}
+use Rattle.gix_history_cut.specs.Cut.{BeginsAbove, CutCarries, IsBelow, IsDecided, ShowsAbove}
 use Rattle.gix_history_cut.proofs.AboveLimit.{limit_above, limit_begins, limit_goes_on}
 use Rattle.gix_history_cut.proofs.AlikeSides.{begins_alike, counted_alike, whole_alike}
-use Rattle.gix_history_cut.proofs.BelowLine.{AreFollowed, base_back, base_there, contains_cut, containing_cut, followed_all, known_same, least_cut, option_above, option_alike, option_within, plain_alike}
+use Rattle.gix_history_cut.proofs.BelowLine.{AreFollowed, IsCut, base_back, base_there, contains_cut, containing_cut, followed_all, known_same, least_cut, option_above, option_alike, option_within, plain_alike}
 
 -- what is chosen, and what is written of it, goes by the parents of what is listed
 chosen_same : (parents known : ObjectId → List ObjectId) (time : ObjectId → ℤ) (c : Choice) (ids : List ObjectId) → ((i : ObjectId) → Contains ids i → known i ≡ parents i)

@@ -4,11 +4,6 @@ use Rattle.gix_hash.specs.declared.ObjectId.{ObjectId}
 use Rattle.gix_statement.specs.WholeStatement.{AreTips, Begins, Choice, Chooses, Follows, IsBase, IsShown, IsThere, Objects, Reaches, Row, Serves, Spells}
 use Rattle.gix_statement.specs.WholeStatement.{digits_in}
 
--- The parents of a commit are known, or the commit is below a line. What is below reaches only what is below.
-pub record IsCut (Below : ObjectId → Type 0) (parents known : ObjectId → List ObjectId) : Type 0 where
-  pub down : (i p : ObjectId) → Below i → Contains (parents i) p → Below p
-  pub same : (i : ObjectId) → (known i ≡ parents i) ⊎ ((known i ≡ []) × Below i)
-
 -- nothing is below the line of what these reach and the hidden ones don't
 abbrev pub ShowsAbove : (Below : ObjectId → Type 0) → (known : ObjectId → List ObjectId) → (time : ObjectId → ℤ) → (tips hidden : List ObjectId) → Type 0
 ShowsAbove Below known time tips hidden = (i : ObjectId) → IsShown known known time tips hidden i → Below i → ⊥

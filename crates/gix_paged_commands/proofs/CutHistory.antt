@@ -1,9 +1,8 @@
 -- The rows of a graph that were read by pages have a history, which is cut below a generation.
-use Rattle.std.proofs.Common.{◌≡◌, ◌≢◌, ◌⊎◌, ℕ, ◌<◌, ℤ, List, [], ◌∷◌, map, Option, Some, None, if◌then◌else◌, nat_lt, Bool, true, false, Contains, slice_get, option_map, refl, sym, ap, subst, ◌∙◌, inl, inr, ⊎_elim, arith, ltb-true, le-ltb, lt-ltb}
+use Rattle.std.proofs.Common.{◌≡◌, ◌≢◌, ◌⊎◌, ℕ, ◌<◌, ℤ, List, [], Option, Some, None, if◌then◌else◌, nat_lt, Bool, true, false, Contains, slice_get, option_map, refl, sym, ap, subst, ◌∙◌, inl, inr, ⊎_elim, arith, ltb-true, le-ltb, lt-ltb}
 use Rattle.std.proofs.lemmas.List.Elements.{All-contains}
 use Rattle.std.proofs.lemmas.Option.{none-some, same_Some, slice_get_within, get_or_from_slice_get}
 use Rattle.gix_hash.specs.declared.ObjectId.{ObjectId}
-use Rattle.gix_hash.proofs.Ids.Membership.{Contains-cons_cases, Contains-here, Contains-there, no_member}
 use Rattle.gix_commitgraph.specs.Packed.{AreGraphRows}
 use Rattle.gix_commitgraph.specs.Rows.{GraphRow, row_of}
 use Rattle.gix_revwalk.proofs.ReadsWhole.{place_of, row_stands}
@@ -11,10 +10,11 @@ use Rattle.gix_graph_check.specs.HeadsReach.{ids_of_places}
 use Rattle.gix_graph_store.proofs.SoundRows.{member-own}
 use Rattle.gix_statement.specs.WholeStatement.{Agree, IsCommit, IsHistory, IsThere, Object, Objects, Row}
 use Rattle.gix_statement.proofs.OneCommit.{one_commit}
-use Rattle.gix_history_cut.specs.Cut.{IsCut}
+use Rattle.gix_history_cut.proofs.BelowLine.{IsCut}
 use Rattle.gix_graph_pages.specs.GraphPages.{IsPagedFile}
 use Rattle.gix_graph_pages.specs.PagedRows.{ArePart, IsAbove, IsRowOfFile, Pages}
 use Rattle.gix_commands.specs.Pages.{page_row, page_rows}
+use Rattle.gix_commands.proofs.RowsAsTexts.{from_map, into_map}
 
 -- it has a row of a lesser generation
 abbrev pub Below : (rows : List Row) → (generation : ObjectId → ℕ) → (least : ℕ) → ObjectId → Type 0
@@ -27,17 +27,6 @@ known_of least (Some row) ids = if nat_lt row.generation least then [] else ids
 -- the parents, but of rows of a lesser generation
 abbrev pub known : (graph : List GraphRow) → (least : ℕ) → (parents : ObjectId → List ObjectId) → ObjectId → List ObjectId
 known graph least parents i = known_of least (row_of graph i) (parents i)
-
--- what is in a list that was mapped
-pub from_map : {X Y : Type 0} (f : X → Y) (xs : List X) (y : Y) → Contains (map f xs) y → (x : X) × Contains xs x × (f x ≡ y)
-from_map f [] y c = absurd (no_member y c)
-from_map f (x ∷ xs) y c =
-    ⊎_elim (λ e. (x, Contains-here x xs, e)) (λ t. let m = from_map f xs y t in (m.0, Contains-there m.0 x xs m.1, m.2)) (Contains-cons_cases y (f x) (map f xs) c)
-
-into_map : {X Y : Type 0} (f : X → Y) (xs : List X) (x : X) → Contains xs x → Contains (map f xs) (f x)
-into_map f [] x c = absurd (no_member x c)
-into_map f (y ∷ xs) x c =
-    ⊎_elim (λ e. subst (λ z. Contains (f y ∷ map f xs) (f z)) e (Contains-here (f y) (map f xs))) (λ t. Contains-there (f x) (f y) (map f xs) (into_map f xs x t)) (Contains-cons_cases x y xs c)
 
 -- a row's commit is there
 row_there : (objects : Objects) (rows : List Row) → Agree objects rows → (r : Row) → Contains rows r → IsCommit objects rows r

@@ -37,10 +37,11 @@ use Rattle.gix_commands.specs.Pages.{AreRows, page_objects, page_rows}
 use Rattle.gix_commands.specs.Readable.{readable}
 use Rattle.gix_commands.specs.StoredRuns.{RunsStored, served}
 use Rattle.gix_commands.proofs.DrawnShown.{base_found, shown_given}
+use Rattle.gix_commands.proofs.RowsAsTexts.{from_map}
 use Rattle.gix_commands.proofs.SameDescents.{name_down}
 use Rattle.gix_commands.proofs.SameWords.{are_words, AreWordsOf, IsNameOf, IsOptionOf}
 use Rattle.gix_paged_commands.specs.Decided.{FirstAbove, DecidesWords, DecidesRequest, DrawsAbove}
-use Rattle.gix_paged_commands.proofs.CutHistory.{Below, from_map, is_cut, is_history, known, not_below, there_on}
+use Rattle.gix_paged_commands.proofs.CutHistory.{Below, is_cut, is_history, known, not_below, there_on}
 use Rattle.gix_paged_commands.proofs.FirstDrawn.{begun_down}
 
 -- WORDS are read in one way.

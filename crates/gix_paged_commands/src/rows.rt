@@ -1,6 +1,6 @@
 //! The rows that an answer needs.
 use crate::asking::{Asking, Until};
-use crate::scout::{Found, Scout, Stop};
+use crate::scout::{Found, Scout, Stop, numbers_of_parents};
 use gix_commitgraph::{Graph, GraphError, ParentPlace, ParentPlaces, Row};
 use gix_graph_pages::{FileRow, Pages, layout_of};
 use gix_hash::Keys;
@@ -58,25 +58,32 @@ where
     };
     let count = asking.count.saturating_mul(times);
     let scout = Scout::new(alloc, keys, layout, asking.until, count);
-    match scout.find(pages, odb, &asking) {
-        Ok(found) => rows_of(alloc, &found, asking.until == Until::Count),
+    let may_grow = asking.until == Until::Count;
+    let chosen = match scout.find(pages, odb, &asking) {
+        Ok(found) => rows_of(alloc, pages, &found, may_grow),
+        Err(stop) => Err(stop),
+    };
+    match chosen {
+        Ok(rows) => Ok(Some(rows)),
         Err(Stop::Unfit) => Ok(None),
         Err(Stop::Memory) => Err(AllocError),
     }
 }
 
 /// The rows as a graph.
-fn rows_of(alloc: Global, found: &Found, may_grow: bool) -> Result<Option<Rows>, AllocError> {
+fn rows_of<F: FileExt + Drop>(
+    alloc: Global,
+    pages: &mut Pages<F>,
+    found: &Found,
+    may_grow: bool,
+) -> Result<Rows, Stop> {
     let mut rows = Vec::new(alloc);
     let mut numbers = Vec::new(alloc);
     for (number, row) in found.rows.iter() {
         let mut parents = ParentPlaces::new(alloc);
         if row.generation >= found.least {
-            for parent in row.parents().unwrap_or_default() {
-                if let Some(parent) = parent {
-                    let place = place_in(found.rows.as_slice(), parent);
-                    parents.push(place).map_err(AllocError::from)?;
-                }
+            for parent in numbers_of_parents(alloc, pages, row)?.iter() {
+                parents.push(place_in(found.rows.as_slice(), *parent))?;
             }
         }
         let kept = Row {
@@ -86,18 +93,18 @@ fn rows_of(alloc: Global, found: &Found, may_grow: bool) -> Result<Option<Rows>,
             generation: row.generation,
             time: row.time,
         };
-        rows.push(kept).map_err(AllocError::from)?;
-        numbers.push(*number).map_err(AllocError::from)?;
+        rows.push(kept)?;
+        numbers.push(*number)?;
     }
     match Graph::new(alloc, rows) {
-        Ok(graph) => Ok(Some(Rows {
+        Ok(graph) => Ok(Rows {
             graph,
             numbers,
             least: found.least,
             may_grow,
-        })),
-        Err(GraphError::Memory) => Err(AllocError),
-        Err(_) => Ok(None),
+        }),
+        Err(GraphError::Memory) => Err(Stop::Memory),
+        Err(_) => Err(Stop::Unfit),
     }
 }
 

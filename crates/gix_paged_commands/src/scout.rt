@@ -3,7 +3,9 @@ use crate::asking::{Asking, ONE, OTHER, STALE, Until};
 use gix_files::Damage;
 use gix_gather::read_named;
 use gix_graph_check::read_whole;
-use gix_graph_pages::{FileRow, Layout, Pages, Unread, layout_of, load_row, place_of, row_at};
+use gix_graph_pages::{
+    FileRow, Layout, Pages, Unlisted, Unread, layout_of, load_row, parents_of, place_of, row_at,
+};
 use gix_hash::hashtable::IdMap;
 use gix_hash::{Keys, ObjectId};
 use gix_object::Kind;
@@ -21,7 +23,9 @@ const MOST_NEW: usize = 1000;
 const SHARE: u32 = 64;
 /// How many rows may be read in any case.
 const FEW: usize = 64;
-/// How many pages may be read to find one id.
+/// How many parents the rows that are gone through may have, for each row that may be.
+const PARENTS: usize = 16;
+/// How many pages may be read to find one id, or the parents of one row.
 const MOST_PROBES: usize = 64;
 
 /// Why no rows were chosen.
@@ -71,6 +75,8 @@ pub(crate) struct Scout {
     open: usize,
     /// How many rows' parents were met.
     done: usize,
+    /// How many parents these rows have.
+    named: usize,
     /// How many rows are gone through at the least.
     count: u64,
     /// The lowest generation that is asked about.
@@ -99,6 +105,7 @@ impl Scout {
             waiting: BinaryHeap::new(alloc),
             open: 0,
             done: 0,
+            named: 0,
             count,
             asked: u32::MAX,
             new: IdMap::new(alloc, keys),
@@ -156,8 +163,9 @@ impl Scout {
         pages: &mut Pages<F>,
         number: u32,
     ) -> Result<(), Stop> {
+        let most = FEW.max((self.layout.rows / SHARE) as usize);
         self.done = self.done.saturating_add(1);
-        if self.done > FEW.max((self.layout.rows / SHARE) as usize) {
+        if self.done > most {
             return Err(Stop::Unfit);
         }
         let Some(met) = self.met.get_mut(&number) else {
@@ -168,18 +176,19 @@ impl Scout {
         if self.until.goes_through(sides) {
             self.open = self.open.saturating_sub(1);
         }
-        let Some(parents) = row.parents() else {
+        let parents = numbers_of_parents(self.alloc, pages, &row)?;
+        // In a file that isn't right many rows may name one long list.
+        self.named = self.named.saturating_add(parents.len());
+        if self.named > most.saturating_mul(PARENTS) {
             return Err(Stop::Unfit);
-        };
+        }
         let given = if sides & (ONE | OTHER) == ONE | OTHER {
             sides | STALE
         } else {
             sides
         };
-        for parent in parents {
-            if let Some(parent) = parent {
-                self.meet(pages, parent, given)?;
-            }
+        for parent in parents.iter() {
+            self.meet(pages, *parent, given)?;
         }
         Ok(())
     }
@@ -278,6 +287,32 @@ impl Scout {
 fn row_of<F: Drop>(pages: &Pages<F>, number: u32) -> Option<FileRow> {
     let layout = layout_of(pages)?;
     row_at(pages, layout, number)
+}
+
+/// The numbers of the rows of a row's parents, in order. Reads the pages that list them.
+pub(crate) fn numbers_of_parents<F: FileExt + Drop>(
+    alloc: Global,
+    pages: &mut Pages<F>,
+    row: &FileRow,
+) -> Result<Vec<u32>, Stop> {
+    for _ in 0..MOST_PROBES {
+        match listed(alloc, pages, row) {
+            Some(Ok(numbers)) => return Ok(numbers),
+            Some(Err(Unlisted::Unread(Unread(place)))) => pages.load(place)?,
+            Some(Err(Unlisted::Memory)) => return Err(Stop::Memory),
+            _ => break,
+        }
+    }
+    Err(Stop::Unfit)
+}
+
+/// The numbers of the rows of a row's parents, by the pages that were read.
+fn listed<F: Drop>(
+    alloc: Global,
+    pages: &Pages<F>,
+    row: &FileRow,
+) -> Option<Result<Vec<u32>, Unlisted>> {
+    Some(parents_of(alloc, pages, layout_of(pages)?, row))
 }
 
 /// The number of the row of an id, and None if it has none. Reads what the search needs, and the ids next to its place.

@@ -1,4 +1,5 @@
 use Rattle.std.proofs.Common.{◌≡◌, ◌*◌, ◌+◌, ℕ, List, length, inl, inr, refl, sym, ap, ◌∙◌, arith}
+use Rattle.std.proofs.lemmas.Option.{IfSome_then}
 use Rattle.gix_hash.specs.Id.{id_len}
 use Rattle.gix_statement.specs.CommitGraph.{bytes_at}
 use Rattle.gix_graph_pages.specs.GraphPages.{HavePages}
@@ -23,4 +24,5 @@ returns g c =
       ];
       ids = λ file rows generation read bytes chunk. c.in_ok-ids.ensures file read.has (sym (head_byte file head 6 (omega arith) long (begins file read.has))) bytes chunk ∙ ap (λ len. bytes_at c.in_ok-ids.ids.from len file) ids_long;
       said = λ file rows generation read bytes chunk. c.in_ok-data.ensures file read.has (sym (head_byte file head 6 (omega arith) long (begins file read.has))) bytes chunk ∙ ap (λ len. bytes_at c.in_ok-data.data.from len file) data_long;
+      further = IfSome_then c.chunk_of-4.result c.chunk_of-4.ensures (λ chunk found file rows generation read bytes is. found file read.has (sym (head_byte file head 6 (omega arith) long (begins file read.has))) bytes is);
     }

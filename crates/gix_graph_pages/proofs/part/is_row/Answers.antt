@@ -17,7 +17,7 @@ returns-then-read-least g c t file rows generation read =
     let below : row.generation < c.args.least = subst (λ n. n < c.args.least) (sym level) c.if-read-least.true in
     let empty : answers_of row.parents ≡ [] = sym c.iter_parents.ensures.places ∙ none_left c.iter_parents.result c.next.new.self c.next.result c.is_none.result c.next.ensures.steps c.is_none.ensures t in
     subst (IsRowOfFile c.args.least graph rows generation) (sym is)
-    (row_is c.args.least c.args.number graph rows generation row said (c.in-Some.ensures file rows generation read) (sym c.id.ensures ∙ c.is_same.ensures c.if-not-is_same.false)
+    (row_is file c.args.least c.args.number graph rows generation row said (c.in-Some.ensures file rows generation read) (sym c.id.ensures ∙ c.is_same.ensures c.if-not-is_same.false)
     (sym c.root_tree_id.ensures ∙ c.is_same-else-not-is_same.ensures c.if-not-is_same-2.false) level (c.has_time.ensures c.if-not-has_time.false) (inr (below, no_places row.parents empty)))
 
 pub returns-else-read-least : goal.returns-else-read-least
@@ -29,5 +29,5 @@ returns-else-read-least g c t file rows generation read =
     let level : row.generation ≡ said.generation = sym c.generation.ensures ∙ c.if-generation-read.false in
     let above : c.args.least ≤ row.generation = subst (λ n. c.args.least ≤ n) (sym level) c.if-read-least.false in
     subst (IsRowOfFile c.args.least graph rows generation) (sym is)
-    (row_is c.args.least c.args.number graph rows generation row said (c.in-Some.ensures file rows generation read) (sym c.id.ensures ∙ c.is_same.ensures c.if-not-is_same.false)
+    (row_is file c.args.least c.args.number graph rows generation row said (c.in-Some.ensures file rows generation read) (sym c.id.ensures ∙ c.is_same.ensures c.if-not-is_same.false)
     (sym c.root_tree_id.ensures ∙ c.is_same-else-not-is_same.ensures c.if-not-is_same-2.false) level (c.has_time.ensures c.if-not-has_time.false) (inl (above, c.has_parents.ensures t file rows generation read)))
