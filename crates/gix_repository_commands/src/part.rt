@@ -13,7 +13,7 @@ use std::fs::Files;
 use std::os::unix::fs::FileExt;
 
 /// How many commits are read at first where a part of them may be enough, with those that are asked for.
-const FIRST_COMMITS: usize = 1000;
+const FIRST_COMMITS: usize = 100;
 /// How many objects are read until it is said how many there are.
 const STEP: usize = 8192;
 
