@@ -20,7 +20,7 @@ pub const PAGES: &[(&str, &str)] = &[
     ),
     (
         "crates/gix_graph_pages/specs/GraphPages.antt",
-        "75136f4694d6a578042b26f7c265ac6665cdaa84324096adcebe94bbbfa01d97",
+        "7ddb096955001a08b53351642a59f41845eb85c6e6bb6258e642ada2afba9d6f",
     ),
 ];
 

@@ -149,11 +149,13 @@ fn folder_words(alloc: Global, words: &[u8], files: &[NamedFile<'_>]) -> Result<
     Ok(joined(alloc, words.as_slice())?)
 }
 
-/// Whether a question asks for what only the program has: standard input, the border of a shallow clone, names in the lines, or a check of
-/// the commit-graph.
+/// Whether a question asks for what only the program has: standard input, the border of a shallow clone, names in the lines, another form
+/// of them, or a check of the commit-graph.
 fn asks_for_more(question: &Question) -> bool {
     question.options.takes_border
         || question.options.gives_names
+        || question.options.as_json
+        || question.options.ends_in_zero && !question.name.takes_limit()
         || question.name == Name::CheckGraph
         || question
             .asked

@@ -188,7 +188,12 @@ with a name that is empty or holds a slash.
                is in seconds since 1970, of 1 to 10 digits, or a date, as 2024-05-01 for its midnight in UTC, or
                2024-05-01T12:00:00 with nothing or Z for UTC behind it or an offset as +02:00. --after TIME, --since=TIME
                and --after=TIME are the same
-  -z           ends each line in a byte 0 and not in a newline, in the first five commands and in files: a path may have a newline
+  --json       writes each line as a JSON object, and whether is-ancestor finds that the first is reached. A commit has id, tree,
+               parents, time, author, email and subject, an entry mode, id and path; others have id, revision, excluded, ahead,
+               behind, count or is_ancestor. A text that isn't UTF-8 is an object with the member hex, its bytes. Not with
+               check-graph, verify-certificate and options that say what a line has, and in lists not with --border
+  -z           ends each line in a byte 0 and not in a newline, which a path may have. The number of --count stays a line. Not with
+               --json, is-ancestor, check-graph and verify-certificate
   --all        adds all refs and HEAD to the revisions, and none in merge-base; --branches adds all branches, --tags all tags, and
                --remotes all remote branches
   --not        turns ^ round for the revisions behind it, up to the next --not: A --not B --tags is A ^B and ^ before each tag
@@ -205,7 +210,8 @@ with a name that is empty or holds a slash.
 
 The status is 0 where everything was listed, or the commit-graph is right, 1 after a fault, 2 where the words are no such command, and
 3 where contains found that some revisions aren't contained, containing that some don't reach the first, is-ancestor that the first
-isn't reached, or verify-certificate that other lines are written. A line on standard error says why.
+isn't reached, or verify-certificate that other lines are written. A line on standard error says why. On a terminal, bytes of lines that it
+would take as commands, if it reads UTF-8, are written as a backslash and three octal digits.
 ";
 
 /// What the help says of a command.

@@ -125,8 +125,8 @@ fn fitting(option: &str) -> &'static str {
         "--first-parent" => ", only with breadth, newest, topo and date",
         "--since" => ", only with newest and oldest",
         "--names" => ", only with contains and containing",
-        "-n" | "-z" => ", only with lists of commits and with files",
-        "--certificate" => "",
+        "-n" => ", only with lists of commits and with files",
+        "--certificate" | "-z" => "",
         _ => ", only with lists of commits",
     }
 }

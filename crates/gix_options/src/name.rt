@@ -82,4 +82,9 @@ impl Name {
             Name::Breadth | Name::Newest | Name::Oldest | Name::Topo | Name::Date
         )
     }
+
+    /// Whether it writes a list of commits or entries, of which `-n` may take the first.
+    pub fn takes_limit(self) -> bool {
+        self.is_list() || self == Name::Files
+    }
 }

@@ -9,6 +9,9 @@ use crate::{Misuse, Name};
 use std::alloc::{AllocError, Global};
 use std::mem;
 
+/// What a line of a list of commits says with `--json`, by `--format`: of its lines each but the last is a member of the object.
+const JSON_FORMAT: &str = "%H%n%T%n%P%n%ct%n%an%n%ae%n%s";
+
 /// Where the repository is.
 #[derive(Drop, Debug)]
 pub enum Place {
@@ -92,6 +95,8 @@ pub struct Options {
     pub gives_parents: bool,
     /// Whether a line ends with the commit's subject.
     pub gives_subject: bool,
+    /// Whether each line is an object of JSON.
+    pub as_json: bool,
     /// Whether a byte 0 ends each line.
     pub ends_in_zero: bool,
     /// Whether each line says how its revision was called.
@@ -120,6 +125,7 @@ impl Drop for Options {
             gives_time: _,
             gives_parents: _,
             gives_subject: _,
+            as_json: _,
             ends_in_zero: _,
             gives_names: _,
             certificate: _,
@@ -147,6 +153,7 @@ impl Options {
             gives_time: false,
             gives_parents: false,
             gives_subject: false,
+            as_json: false,
             ends_in_zero: false,
             gives_names: false,
             certificate: None,
@@ -168,6 +175,7 @@ impl Options {
             "--timestamp" => self.gives_time = true,
             "--parents" => self.gives_parents = true,
             "--oneline" => self.gives_subject = true,
+            "--json" => self.as_json = true,
             "--no-graph" => self.rows = Rows::Unused,
             "--trust-graph" => self.rows = Rows::Trusted,
             "--border" => self.takes_border = true,
@@ -214,21 +222,44 @@ impl Options {
         None
     }
 
-    /// An option that doesn't go with `--format`, if there is one.
-    fn against_format(&self) -> Option<&'static str> {
-        if self.gives_subject {
-            return Some("--oneline");
+    /// The option that says all of what a line has, if there is one.
+    fn whole_line(&self) -> Option<&'static str> {
+        if self.as_json {
+            Some("--json")
+        } else if self.format.is_some() {
+            Some("--format")
+        } else {
+            None
         }
-        if self.gives_parents {
-            return Some("--parents");
-        }
-        if self.gives_time {
-            return Some("--timestamp");
-        }
-        if self.takes_border {
-            return Some("--border");
+    }
+
+    /// An option that doesn't go with one that says all of what a line has, if there is one.
+    fn against_whole_line(&self) -> Option<&'static str> {
+        let given = [
+            (self.as_json && self.format.is_some(), "--format"),
+            (self.gives_subject, "--oneline"),
+            (self.gives_parents, "--parents"),
+            (self.gives_time, "--timestamp"),
+            (self.as_json && self.ends_in_zero, "-z"),
+        ];
+        for (is_given, option) in given {
+            if is_given {
+                return Some(option);
+            }
         }
         None
+    }
+
+    /// Has the lines of a command say what their objects have, each up to a byte 0, which no text that a format writes has, and no path.
+    fn take_json(&mut self, alloc: Global, name: Name) -> Result<(), AllocError> {
+        if name.is_list() && !self.counts {
+            self.format = Some(String::from_str(alloc, JSON_FORMAT)?);
+            self.ends_in_zero = true;
+        }
+        if name == Name::Files {
+            self.ends_in_zero = true;
+        }
+        Ok(())
     }
 }
 
@@ -548,6 +579,9 @@ impl Arguments {
         self.take_as_git(name);
         self.check_options(name)?;
         self.check_number(name)?;
+        if self.options.as_json {
+            self.options.take_json(self.alloc, name)?;
+        }
         match self.place.take() {
             Some(place) => Ok(Asks::Question(self.question(place, name))),
             None => Err(Misuse::NoFolder("-C")),
@@ -577,8 +611,7 @@ impl Arguments {
 
     /// Whether each option goes with the command.
     fn check_options(&self, name: Name) -> Result<(), Misuse> {
-        let is_list = name.is_list() || name == Name::Files;
-        if self.options.limit.is_some() && !is_list {
+        if self.options.limit.is_some() && !name.takes_limit() {
             return Err(Misuse::option("-n", name));
         }
         if !name.is_list() {
@@ -589,13 +622,16 @@ impl Arguments {
         if self.options.merges && self.options.no_merges {
             return Err(Misuse::Merges);
         }
+        if let Some(form) = self.options.whole_line() {
+            if let Some(option) = self.options.against_whole_line() {
+                return Err(Misuse::Misfit(form, option, ""));
+            }
+            if self.options.takes_border && name.is_list() {
+                return Err(Misuse::Misfit(form, "--border", ""));
+            }
+        }
         if self.options.gives_subject && self.options.takes_border {
             return Err(Misuse::Misfit("--oneline", "--border", ""));
-        }
-        if self.options.format.is_some() {
-            if let Some(option) = self.options.against_format() {
-                return Err(Misuse::Misfit("--format", option, ""));
-            }
         }
         if self.options.by_first_parents
             && !matches!(name, Name::Breadth | Name::Newest | Name::Topo | Name::Date)
@@ -608,7 +644,7 @@ impl Arguments {
         if self.options.since.is_some() && name != Name::Newest && name != Name::Oldest {
             return Err(Misuse::option("--since", name));
         }
-        if self.options.ends_in_zero && !is_list {
+        if self.options.ends_in_zero && name == Name::IsAncestor {
             return Err(Misuse::option("-z", name));
         }
         if self.options.gives_names && !matches!(name, Name::Contains | Name::Containing) {
@@ -619,6 +655,8 @@ impl Arguments {
         }
         if name == Name::VerifyCertificate
             && (self.options.certificate.is_some()
+                || self.options.as_json
+                || self.options.ends_in_zero
                 || self.is_turned
                 || self.options.takes_border
                 || self.options.rows == Rows::Trusted)
@@ -628,6 +666,8 @@ impl Arguments {
         if name == Name::CheckGraph
             && (!self.asked.is_empty()
                 || self.options.takes_border
+                || self.options.as_json
+                || self.options.ends_in_zero
                 || self.options.rows != Rows::Checked)
         {
             return Err(Misuse::CheckGraph);

@@ -3,7 +3,7 @@ use crate::fault::Fault;
 use gix_hash::hashtable::IdSet;
 use gix_hash::{Keys, ObjectId};
 use gix_object::Kind;
-use gix_options::{Asked, Misuse, Name, Options, Question, Refs};
+use gix_options::{Asked, Misuse, Name, Question, Refs};
 use gix_repository::Repository;
 use gix_revision::{Resolved, Set, resolve, resolve_all};
 use std::alloc::{AllocError, Global};
@@ -229,7 +229,7 @@ impl Chosen {
             name => name,
         };
         words.push(String::from_str(alloc, name.word())?)?;
-        push_options(alloc, &question.options, &mut words)?;
+        push_options(alloc, question, &mut words)?;
         let mut tips = if question.name.is_list() {
             once(alloc, keys, self.tips.as_slice())?
         } else {
@@ -251,9 +251,11 @@ impl Chosen {
 /// Adds the words of the options, in the order in which a command takes them.
 fn push_options(
     alloc: Global,
-    options: &Options,
+    question: &Question,
     words: &mut Vec<String>,
 ) -> Result<(), AllocError> {
+    let options = &question.options;
+    let ends_in_zero = options.ends_in_zero && question.name.takes_limit();
     push_flag(alloc, options.by_first_parents, "--first-parent", words)?;
     push_value(alloc, "--since", &options.since, words)?;
     push_value(alloc, "--until", &options.until, words)?;
@@ -267,7 +269,7 @@ fn push_options(
     push_flag(alloc, options.gives_time, "--timestamp", words)?;
     push_flag(alloc, options.gives_parents, "--parents", words)?;
     push_flag(alloc, options.gives_subject, "--oneline", words)?;
-    push_flag(alloc, options.ends_in_zero, "-z", words)
+    push_flag(alloc, ends_in_zero, "-z", words)
 }
 
 /// Adds an option if it is given.

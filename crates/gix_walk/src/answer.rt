@@ -1,7 +1,8 @@
 //! Answers to questions about a repository.
 use crate::failure::Failure;
 use crate::graph::{check, rows, rows_of, warn};
-use crate::named::write_named;
+use crate::named::named;
+use crate::output::Lines;
 use crate::paged::Paged;
 use crate::progress::Progress;
 use gix_certificate::Rows;
@@ -12,12 +13,14 @@ use gix_hash::Keys;
 use gix_hash::hashtable::IdSet;
 use gix_odb::{Front, Odb};
 use gix_options::{Asked, Name, Options, Place, Question, read_lines};
+use gix_output::{Shape, json_line};
 use gix_questions::{Chosen, choose_from, resolve_words};
 use gix_records::{NamedObjects, READS, read_to_end};
 use gix_repository::Repository;
 use gix_repository_commands::{Part, answer as answer_from_part};
 use gix_revision::Resolved;
 use gix_revision::steps::StepFault;
+use std::alloc::AllocError;
 use std::io::Write;
 
 /// The status where `contains` found that some revisions aren't contained, `containing` that some don't reach the first, or `is-ancestor` that
@@ -97,13 +100,14 @@ pub(crate) fn answer_from<W: Write>(
     output: &mut W,
 ) -> Result<Answered, Failure> {
     let chosen = choose_from(rt.alloc(), question, resolved)?;
+    let mut lines = Lines::new(rt.alloc(), output, question);
     let asks_of_others = matches!(
         question.name,
         Name::Contains | Name::Containing | Name::MergeBase
     );
     if chosen.tips.is_empty() || asks_of_others && chosen.tips.len() < 2 {
         if question.options.counts {
-            write(output, b"0\n")?;
+            write(&mut lines, b"0\n")?;
         }
         return Ok(Answered {
             status: 0,
@@ -119,14 +123,16 @@ pub(crate) fn answer_from<W: Write>(
         rows: Rows::Unused,
     };
     let answered = match question.name {
-        Name::Files => asking.files(repository, output),
-        _ => asking.commits(repository, output),
+        Name::Files => asking.files(repository, &mut lines),
+        _ => asking.commits(repository, &mut lines),
     };
     match answered {
         Ok(status) => Ok(Answered {
             status,
             rows: asking.rows,
         }),
+        // A line that there is no memory for isn't written.
+        Err(_) if lines.ran_out() => Err(Failure::Command(Fault::Memory)),
         Err(failure) => Err(missing_of_clone(repository, &question.options, failure)),
     }
 }
@@ -530,20 +536,63 @@ impl Asking<'_> {
         let words = self.chosen.words(alloc, self.keys, self.question)?;
         let odb = &mut repository.odb;
         let answered = answer_from_part(words.as_slice(), part, odb, graph, &mut self.progress)?;
-        self.write_lines(answered.lines.as_slice(), output)?;
-        in_memory(answered.ended)?;
+        let ended = in_memory(answered.ended);
+        if ended.is_ok() || self.question.name.takes_limit() {
+            self.write_lines(answered.lines.as_slice(), output)?;
+        }
+        ended?;
         Ok(answered.lines)
     }
 
     /// Writes the lines of the command, as the question asks for them: with `--names` each with its word, and those of `is-ancestor` not at all.
     fn write_lines<W: Write>(&self, lines: &[u8], output: &mut W) -> Result<(), Fault> {
-        if self.question.name == Name::IsAncestor {
-            return Ok(());
+        let options = &self.question.options;
+        let is_plain = !options.as_json && !options.ends_in_zero && !options.gives_names;
+        match self.question.name {
+            Name::IsAncestor if !options.as_json => Ok(()),
+            Name::IsAncestor => {
+                let is_reached = !lines.is_empty();
+                let text = format!(in self.rt.alloc(); "{{\"is_ancestor\":{is_reached}}}\n")?;
+                write(output, text.as_bytes())
+            }
+            name if name.takes_limit() || is_plain => write(output, lines),
+            _ => self.write_short(lines, output),
         }
-        if self.question.options.gives_names {
-            return write_named(self.rt.alloc(), &self.chosen, lines, output);
+    }
+
+    /// Writes the lines of a short answer in another form than that of the command.
+    fn write_short<W: Write>(&self, lines: &[u8], output: &mut W) -> Result<(), Fault> {
+        let alloc = self.rt.alloc();
+        let options = &self.question.options;
+        let has_names = matches!(self.question.name, Name::Contains | Name::Containing);
+        let mut text = Vec::new(alloc);
+        if has_names && (options.gives_names || options.as_json) {
+            for line in named(alloc, &self.chosen, lines)?.iter() {
+                self.add_line(&mut text, Shape::Revision, line.as_bytes())?;
+            }
+        } else {
+            let shape = match self.question.name {
+                Name::Ahead => Shape::Ahead,
+                _ => Shape::Id,
+            };
+            for line in lines.split(|byte| *byte == b'\n') {
+                if !line.is_empty() {
+                    self.add_line(&mut text, shape, line)?;
+                }
+            }
         }
-        write(output, lines)
+        write(output, text.as_slice())
+    }
+
+    /// Adds a line of a short answer, as JSON or with its end.
+    fn add_line(&self, text: &mut Vec<u8>, shape: Shape, line: &[u8]) -> Result<(), AllocError> {
+        let options = &self.question.options;
+        if options.as_json {
+            let line = json_line(self.rt.alloc(), shape, line)?;
+            return text.extend_from_slice(line.as_bytes());
+        }
+        text.extend_from_slice(line)?;
+        Ok(text.push(if options.ends_in_zero { 0 } else { b'\n' })?)
     }
 
     /// The status of an answer of these lines.
@@ -559,13 +608,13 @@ impl Asking<'_> {
 
     /// Writes the id of each revision, those that are excluded with `^` and behind the others.
     fn write_ids<W: Write>(&self, output: &mut W) -> Result<u8, Fault> {
-        let words = self
-            .chosen
-            .words(self.rt.alloc(), self.keys, self.question)?;
+        let alloc = self.rt.alloc();
+        let words = self.chosen.words(alloc, self.keys, self.question)?;
+        let mut text = Vec::new(alloc);
         for word in words.iter().skip(1) {
-            write(output, word.as_bytes())?;
-            write(output, b"\n")?;
+            self.add_line(&mut text, Shape::Resolved, word.as_bytes())?;
         }
+        write(output, text.as_slice())?;
         Ok(0)
     }
 
@@ -602,7 +651,7 @@ impl Asking<'_> {
         output: &mut W,
     ) -> Result<u8, Fault> {
         let alloc = self.rt.alloc();
-        if self.question.name != Name::Containing {
+        if self.question.name.takes_limit() {
             run_named(alloc, words.as_slice(), objects, graph, output)?;
             return Ok(0);
         }

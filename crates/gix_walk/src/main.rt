@@ -19,14 +19,16 @@ use gix_hash::Keys;
 use gix_options::{Asks, Misuse, read_arguments};
 use output::Output;
 use std::env::{self, Env};
-use std::io::{self, ErrorKind};
+use std::io::{self, ErrorKind, IsTerminal};
 use std::process::ExitCode;
 
 /// The status of a run over a repository whose words ask nothing.
 const MISUSED: u8 = 2;
 
 fn main(rt: HostRuntime) -> ExitCode {
-    let mut output = Output::new(rt.stdout());
+    let stdout = rt.stdout();
+    let is_terminal = stdout.is_terminal();
+    let mut output = Output::new(rt.alloc(), stdout, is_terminal);
     match run(&rt, &mut output) {
         Ok(status) => ExitCode::from(status),
         Err(failure) => {

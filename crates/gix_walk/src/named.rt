@@ -1,18 +1,15 @@
 //! Lines that say how revisions were called.
-use crate::answer::write;
-use gix_commands::Fault;
 use gix_questions::Chosen;
-use std::alloc::Global;
-use std::io::Write;
+use std::alloc::{AllocError, Global};
 
-/// Writes the lines of `contains` or `containing`, each with a space behind its id and the revision as it was given. The lines are those of
-/// some of the revisions behind the first, in order and with repeats, so each is that of the next revision of its id.
-pub(crate) fn write_named<W: Write>(
+/// The lines of `contains` or `containing`, each with a space behind its id and the revision as it was given, and without a newline. The
+/// lines are those of some of the revisions behind the first, in order and with repeats, so each is that of the next revision of its id.
+pub(crate) fn named(
     alloc: Global,
     chosen: &Chosen,
     lines: &[u8],
-    output: &mut W,
-) -> Result<(), Fault> {
+) -> Result<Vec<String>, AllocError> {
+    let mut named = Vec::new(alloc);
     let mut left = lines;
     for (id, resolved) in chosen.tips.iter().zip(chosen.resolved.iter()).skip(1) {
         let name = resolved.word.as_str();
@@ -21,8 +18,7 @@ pub(crate) fn write_named<W: Write>(
             continue;
         };
         left = behind;
-        let line = format!(in alloc; "{id} {name}\n")?;
-        write(output, line.as_bytes())?;
+        named.push(format!(in alloc; "{id} {name}")?)?;
     }
-    Ok(())
+    Ok(named)
 }

@@ -106,10 +106,6 @@ const CASES: &[(&str, &str)] = &[
     ("-C . date --first-parent HEAD", ""),
     ("-C . topo -z --parents HEAD --timestamp", ""),
     (
-        "-C . ahead -z a b",
-        "-z doesn't go with ahead, only with lists of commits and with files",
-    ),
-    (
         "-C . contains --timestamp a b",
         "--timestamp doesn't go with contains, only with lists of commits",
     ),
@@ -321,10 +317,50 @@ fn words_of(alloc: Global, text: &str) -> Result<Vec<String>, Fail> {
     Ok(words)
 }
 
+/// The same of options that say what a line has.
+const FORMS: &[(&str, &str)] = &[
+    ("-C . ahead -z a b", ""),
+    ("-C . resolve --json a", ""),
+    ("-C . topo --json --count HEAD", ""),
+    ("-C . ahead --json --border a b", ""),
+    ("-C . contains --json --names a b", ""),
+    ("-C . is-ancestor -z a b", "-z doesn't go with is-ancestor"),
+    ("-C . files --json -z a", "--json doesn't go with -z"),
+    (
+        "-C . topo --json --format %H HEAD",
+        "--json doesn't go with --format",
+    ),
+    (
+        "-C . newest --parents --json HEAD",
+        "--json doesn't go with --parents",
+    ),
+    (
+        "-C . newest --border --json HEAD",
+        "--json doesn't go with --border",
+    ),
+    (
+        "-C . check-graph --json",
+        "check-graph takes no revisions, and no option but -C",
+    ),
+    (
+        "-C . verify-certificate --json x",
+        "verify-certificate takes one file, and no option but -C and --no-graph",
+    ),
+];
+
 #[test]
 fn misuse_has_a_name(rt: HostRuntime) -> Result<(), Fail> {
-    let alloc = rt.alloc();
-    for (text, wanted) in CASES {
+    compare(rt.alloc(), CASES)
+}
+
+#[test]
+fn forms_of_lines_go_alone(rt: HostRuntime) -> Result<(), Fail> {
+    compare(rt.alloc(), FORMS)
+}
+
+/// Compares what is said of words with what is wanted.
+fn compare(alloc: Global, cases: &[(&str, &str)]) -> Result<(), Fail> {
+    for (text, wanted) in cases {
         let words = words_of(alloc, *text)?;
         let said = match read_arguments(alloc, words.as_slice()) {
             Ok(_) => String::new(alloc),
