@@ -1,7 +1,8 @@
 -- The layers that the reader takes have the rows that the page says.
-use Rattle.std.proofs.Common.{◌≡◌, ◌⊎◌, ℕ, zero, suc, ◌+◌, ◌-◌, ◌*◌, ◌<◌, ◌≤◌, true, not, List, [], ◌∷◌, ◌++◌, drop, length, map, slice_get, codes, bytes_eq, Option, Some, None, option_map, Result, Ok, Err, All, refl, sym, ap, subst, ◌∙◌, arith, w32, ⊎_elim, inl, inr, length-append, length-drop, append_assoc}
+use Rattle.std.proofs.Common.{◌≡◌, ◌⊎◌, ℕ, zero, suc, ◌+◌, ◌-◌, ◌*◌, ◌/◌, ◌^◌, ◌<◌, ◌≤◌, true, not, List, [], ◌∷◌, ◌++◌, drop, length, map, slice_get, codes, bytes_eq, Option, Some, None, option_map, Result, Ok, Err, All, refl, sym, ap, subst, ◌∙◌, arith, w32, ⊎_elim, inl, inr, length-append, length-drop, append_assoc}
 use Rattle.std.specs.Cmp.Lexicographic.{same_text}
 use Rattle.std.specs.List.{AllByRecursion, flat_map}
+use Rattle.std.specs.List.Sorted.{IsStrictlySortedBy}
 use Rattle.std.specs.Option.{unwrap_or}
 use Rattle.std.specs.Int.{from_be_bytes, to_be_bytes}
 use Rattle.std.proofs.lemmas.Bool.{false≢true}
@@ -10,9 +11,9 @@ use Rattle.std.proofs.lemmas.List.Elements.{All-nil, All-push, All-head, All-tai
 use Rattle.gix_hash.specs.declared.Kind.{Kind}
 use Rattle.gix_hash.specs.declared.Kind.TheVariants as kind
 use Rattle.gix_hash.specs.declared.ObjectId.{ObjectId}
-use Rattle.gix_hash.specs.Id.{id_len, id_of}
+use Rattle.gix_hash.specs.Id.{id_cmp, id_len, id_of}
 use Rattle.gix_commitgraph.specs.declared.ParentPlace.TheVariants.{At}
-use Rattle.gix_commitgraph.specs.Packed.{AreBytes}
+use Rattle.gix_commitgraph.specs.Packed.{AreBytes, ids_of_rows}
 use Rattle.gix_commitgraph.specs.PackedReading.{words_of}
 use Rattle.gix_commitgraph.specs.Rows.{GraphRow, row_at}
 use Rattle.gix_graph_check.specs.HeadsReach.{ids_of_places}
@@ -30,7 +31,7 @@ use Rattle.gix_commands.specs.Pages.{page_row, page_rows}
 use Rattle.gix_commands.proofs.FileNumbers.{byte_is}
 use Rattle.gix_commands.proofs.FileChunks.{chunk_found}
 use Rattle.gix_commands.proofs.FileParents.{NoFault}
-use Rattle.gix_commands.proofs.FileRows.{IsRead, AreRead, rows_say}
+use Rattle.gix_commands.proofs.FileRows.{IsRead, AreRead, rows_rise, rows_say}
 use Rattle.gix_commands.proofs.FileHeads.{ok_is, then_is, passed, true_is, version, IsHead, HasChunks, chunk_of, parts_are}
 
 abbrev pub NoFaults : List GraphRow → Type 0
@@ -262,3 +263,35 @@ chain_is number lower under (file ∷ files) all numbered below small e sound =
 -- the rows that the reader finds are those of the page, where no place is corrupt
 pub layers_are : (files : List (List ℕ)) (rows : List GraphRow) → All AreBytes files → read_chain files ≡ Ok rows → NoFaults rows → AreLayers [] files [] (page_rows rows)
 layers_are files rows small e sound = chain_is 0 nothing [] files rows refl (record { kinds = λ k same. All-nil _; hashes = λ k same. refl; some = inl refl }) small e sound
+
+-- ---- one file with none below
+
+-- the generations of its rows, by the chunk that has their data, and the order of their ids
+pub record IsReadAlone (file : List ℕ) (rows : List GraphRow) : Type 0 where
+  pub width : ℕ
+  pub width_is : ((number_at 5 1 file ≡ 1) × (width ≡ 20)) ⊎ ((number_at 5 1 file ≡ 2) × (width ≡ 32))
+  pub data_of : List ℕ
+  pub chunk : IsChunk file (codes "CDAT") data_of
+  pub generation : (k : ℕ) (row : GraphRow) → slice_get rows k ≡ Some row → row.generation ≡ number_at ((width + 16) * k + width + 8) 8 data_of / 2 ^ 34
+  pub rising : IsStrictlySortedBy id_cmp (ids_of_rows rows)
+
+pub read_alone : (file : List ℕ) (rows : List GraphRow) → AreBytes file → read_chain (file ∷ []) ≡ Ok rows → NoFaults rows → IsReadAlone file rows
+unfolding with_layer
+read_alone file rows small e sound =
+    let a = first_layer 0 nothing file [] rows e in
+    let b = then_is (read_layer 0 file) _ a.0 a.1 in
+    let p = b.0 in
+    let h = parts_are 0 file p b.1 in
+    let has = has_rows nothing file p a.0 b.2 in
+    let below : IsBelow nothing [] = record { kinds = λ k same. All-nil _; hashes = λ k same. refl; some = inl refl } in
+    let same : has.rows ≡ rows = ap (λ (x : Lower). x.rows) has.next_is ∙ sym (last_rows 1 a.0 rows a.2) in
+    let read = read_rows [] nothing file a.0 p small below h.0 h.1 has (subst NoFaults (sym same) sound) in
+    subst (IsReadAlone file) same
+    (record {
+      width = id_len p.kind;
+      width_is = widths p.kind (number_at 5 1 file) h.0.version_is;
+      data_of = p.commits;
+      chunk = chunk_is [] nothing file a.0 p small below h.0 h.1 has chunk.Data (codes "CDAT") p.commits refl refl h.1.data_of;
+      generation = λ k row is. let at : 0 + k ≡ k = omega arith in subst (λ j. row.generation ≡ number_at ((id_len p.kind + 16) * j + id_len p.kind + 8) 8 p.commits / 2 ^ 34) at (read.1 k row is).generation;
+      rising = (rows_rise p.kind (length nothing.rows + p.count) (length (words_of p.edges)) p.count 0 None p.ids p.commits (words_of p.edges) has.rows has.read).1;
+    })

@@ -32,7 +32,7 @@ got_at {X} [] n x e = absurd (let no : ◌≡◌ {A = Option X} None (Some x) = 
 got_at (y ∷ xs) zero x e = (omega arith, λ d. cc)
 got_at (y ∷ xs) (suc n) x e = let more = got_at xs n x e in (omega (arith, more.0), more.1)
 
-got_in : {X Y : Type 0} (f : X → Y) (xs : List X) (n : ℕ) (y : Y) → slice_get (map f xs) n ≡ Some y → (x : X) × (slice_get xs n ≡ Some x) × (f x ≡ y)
+pub got_in : {X Y : Type 0} (f : X → Y) (xs : List X) (n : ℕ) (y : Y) → slice_get (map f xs) n ≡ Some y → (x : X) × (slice_get xs n ≡ Some x) × (f x ≡ y)
 got_in {Y = Y} f [] n y e = absurd (let no : ◌≡◌ {A = Option Y} None (Some y) = e in cc)
 got_in f (x ∷ xs) zero y e = (x, refl, cc)
 got_in f (x ∷ xs) (suc n) y e = got_in f xs n y e
@@ -45,7 +45,7 @@ put_in f (y ∷ xs) (suc n) x e = put_in f xs n x e
 contains_at : {X : Type 0} (xs : List X) (x : X) → Contains xs x → (n : ℕ) × (slice_get xs n ≡ Some x)
 contains_at xs x h = (h.0, there_at xs h.0 x h.1 ∙ ap (λ y. Some y) h.2)
 
-at_contains : {X : Type 0} (xs : List X) (x : X) (n : ℕ) → slice_get xs n ≡ Some x → Contains xs x
+pub at_contains : {X : Type 0} (xs : List X) (x : X) (n : ℕ) → slice_get xs n ≡ Some x → Contains xs x
 at_contains xs x n e = let g = got_at xs n x e in (n, g.0, g.1 x)
 
 all_from : {X : Type 0} (P : X → Type 0) (xs : List X) → ((n : ℕ) (x : X) → slice_get xs n ≡ Some x → P x) → AllByRecursion P xs
@@ -129,7 +129,7 @@ onto (suc n) f into once q l = from_less n f into once (onto n (g n f into once)
 -- ---- the same rows by other numbers
 
 module _ (rows graph : List GraphRow) (same : HasSameRows rows graph) where
-  moved_row : (n : ℕ) (row : GraphRow) → slice_get rows n ≡ Some row → slice_get graph (same.number n) ≡ Some (renumbered same.number row)
+  pub moved_row : (n : ℕ) (row : GraphRow) → slice_get rows n ≡ Some row → slice_get graph (same.number n) ≡ Some (renumbered same.number row)
   moved_row n row e = same.same n (got_at rows n row e).0 ∙ ap (option_map (renumbered same.number)) e
 
   moved_id : (n : ℕ) → n < length rows → (row_at graph (same.number n)).id ≡ (row_at rows n).id
@@ -180,7 +180,7 @@ module _ (rows graph : List GraphRow) (same : HasSameRows rows graph) where
   no_fault generation (At n ∷ places) h = (tt, no_fault generation places h.1)
   no_fault generation (Fault ∷ places) h = absurd h.0
 
-  no_faults : AreSound graph → NoFaults rows
+  pub no_faults : AreSound graph → NoFaults rows
   no_faults sound = all_from (λ (row : GraphRow). NoFault row.parents) rows (λ n row e.
       let g = got_at graph (same.number n) (renumbered same.number row) (moved_row n row e) in
       no_fault row.generation row.parents (subst (λ (x : GraphRow). AllByRecursion (IsSoundPlace graph x.generation) x.parents) (g.1 no_row) (sound (same.number n) no_row g.0).parents))

@@ -1,15 +1,19 @@
 -- The rows that the reader finds in a file are those of the page, by the bytes of the file's chunks.
-use Rattle.std.proofs.Common.{◌≡◌, ℕ, zero, suc, ◌+◌, ◌-◌, ◌*◌, ◌%◌, ◌^◌, ◌<◌, ◌≤◌, eqb, List, [], ◌∷◌, take, drop, length, map, slice_get, pos, Option, Some, None, Result, Ok, Err, refl, sym, ap, subst, ◌∙◌, arith, w32, w64, ⊎_elim, drop-drop}
+use Rattle.std.proofs.Common.{◌≡◌, ℕ, zero, suc, ◌+◌, ◌-◌, ◌*◌, ◌/◌, ◌%◌, ◌^◌, ◌<◌, ◌≤◌, true, eqb, List, [], ◌∷◌, take, drop, length, map, slice_get, pos, Option, Some, None, Result, Ok, Err, Less, refl, sym, ap, subst, ◌∙◌, arith, w32, w64, ⊎_elim, drop-drop}
 use Rattle.std.specs.Int.{from_be_bytes}
 use Rattle.std.specs.List.{AllByRecursion}
+use Rattle.std.specs.List.Sorted.{IsStrictlySortedBy}
 use Rattle.std.proofs.lemmas.List.{drop-take, take-take}
 use Rattle.gix_hash.specs.declared.Kind.{Kind}
 use Rattle.gix_hash.specs.declared.ObjectId.{ObjectId}
-use Rattle.gix_hash.specs.Id.{id_len, id_of}
+use Rattle.gix_hash.specs.Id.{id_cmp, id_len, id_of}
+use Rattle.gix_hash.proofs.Ids.Membership.{id_total}
 use Rattle.gix_commitgraph.specs.declared.ParentPlace.{ParentPlace}
 use Rattle.gix_commitgraph.specs.declared.ParentPlace.TheVariants.{At}
+use Rattle.gix_commitgraph.specs.Packed.{ids_of_rows}
 use Rattle.gix_commitgraph.specs.Rows.{GraphRow}
 use Rattle.gix_commitgraph.specs.PackedReading.{word_at, is_above, with_row}
+use Rattle.gix_commitgraph.proofs.Packed.RowSearch.{is_Less}
 use Rattle.gix_commitgraph.proofs.Packed.Takes.{chosen}
 use Rattle.gix_graph_file.specs.declared.error.Error.{Error}
 use Rattle.gix_graph_file.specs.declared.error.Error.TheVariants as error
@@ -27,6 +31,7 @@ pub record IsRead (k : Kind) (ids data_of edges : List ℕ) (n j : ℕ) (row : G
   pub parents : AreParents edges (number_at ((id_len k + 16) * j + id_len k) 4 data_of) (number_at ((id_len k + 16) * j + id_len k + 4) 4 data_of) numbers
   pub places : row.parents ≡ map At numbers
   pub within : AllByRecursion (λ (i : ℕ). i < n) numbers
+  pub generation : row.generation ≡ number_at ((id_len k + 16) * j + id_len k + 8) 8 data_of / 2 ^ 34
   pub time : row.time ≡ pos (number_at ((id_len k + 16) * j + id_len k + 8) 8 data_of % 2 ^ 34)
 
 -- a part of the 16 bytes behind a tree's id
@@ -110,6 +115,7 @@ module _ (k : Kind) (n m count : ℕ) (ids data_of edges : List ℕ) (long : len
           parents = subst (λ (T : Type 0). T) (λ i. AreParents edges (one i) (two i) said.numbers) said.are;
           places = said.places;
           within = said.within;
+          generation = ap (λ (x : ℕ). x / 2 ^ 34) seconds;
           time = ap (λ (x : ℕ). pos (x % 2 ^ 34)) seconds;
         },
         said.left,
@@ -141,3 +147,43 @@ module _ (k : Kind) (n m count : ℕ) (ids data_of edges : List ℕ) (long : len
       (ap (λ (x : List ℕ). drop 16 (drop (id_len k) x)) data_are ∙ ap (drop 16) (drop-drop (id_len k) ((id_len k + 16) * r) data_of) ∙ drop-drop 16 ((id_len k + 16) * r + id_len k) data_of ∙ ap (λ x. drop x data_of) data_on)
       here.1 q.3 all.1 in
       subst (AreRead k ids data_of edges n r (suc left)) q.4 (rows_join k ids data_of edges n r left _ q.1 row later)
+
+-- ---- ids in order
+
+abbrev Begins : Option ObjectId → List GraphRow → Type 0
+Begins before [] = Unit {0}
+Begins before (row ∷ rows) = is_above before row.id ≡ true
+
+below_all : (i j : ObjectId) (ids : List ObjectId) → id_cmp i j ≡ Less → AllByRecursion (λ x. id_cmp j x ≡ Less) ids → AllByRecursion (λ x. id_cmp i x ≡ Less) ids
+below_all i j [] less all = tt
+below_all i j (x ∷ ids) less all = (id_total.trans i j x less all.0, below_all i j ids less all.1)
+
+in_front : (row : GraphRow) (rows : List GraphRow) → Begins (Some row.id) rows → IsStrictlySortedBy id_cmp (ids_of_rows rows) → IsStrictlySortedBy id_cmp (ids_of_rows (row ∷ rows))
+unfolding IsStrictlySortedBy
+in_front row [] first rising = (tt, tt)
+in_front row (next ∷ rows) first rising = let less = is_Less (id_cmp row.id next.id) first in ((less, below_all row.id next.id (ids_of_rows rows) less rising.0), rising)
+
+abbrev Rise : Option ObjectId → List GraphRow → Type 0
+Rise before rows = Begins before rows × IsStrictlySortedBy id_cmp (ids_of_rows rows)
+
+none_rise : (before : Option ObjectId) → Rise before []
+unfolding IsStrictlySortedBy
+none_rise before = (tt, tt)
+
+-- the first of the rows that are left is above the one before it
+first_above : (k : Kind) (n m left r : ℕ) (before : Option ObjectId) (ids commits words : List ℕ) (rows : List GraphRow) → rows_from k n m (suc left) r before ids commits words ≡ Ok rows → is_above before (id_of k (take (id_len k) ids)) ≡ true
+unfolding rows_from
+first_above k n m left r before ids commits words rows e = ⊎_elim
+    (λ h. h.0)
+    (λ h. absurd (let no : ◌≡◌ {A = Result (List GraphRow) Error} (Err (error.Order r)) (Ok rows) = h.1 in cc))
+    (chosen (is_above before (id_of k (take (id_len k) ids))) _ (Err (error.Order r)) (Ok rows) e)
+
+pub rows_rise : (k : Kind) (n m left r : ℕ) (before : Option ObjectId) (ids commits words : List ℕ) (rows : List GraphRow) → rows_from k n m left r before ids commits words ≡ Ok rows → Rise before rows
+unfolding Rest
+rows_rise k n m zero r before ids commits words rows e = subst (Rise before) (no_row_left k n m r before ids commits words rows e) (none_rise before)
+rows_rise k n m (suc left) r before ids commits words rows e =
+    let q = first_row k n m left r before ids commits words rows e in
+    let i = id_of k (take (id_len k) ids) in
+    let more = rows_rise k n m left (r + 1) (Some i) (drop (id_len k) ids) (drop 16 (drop (id_len k) commits)) q.0.1 q.1 q.3 in
+    let row = row_said k (take (id_len k) ids) (take (id_len k) commits) (take 16 (drop (id_len k) commits)) q.0.0 in
+    subst (Rise before) q.4 (first_above k n m left r before ids commits words rows e, in_front row q.1 more.0 more.1)

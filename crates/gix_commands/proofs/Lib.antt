@@ -45,8 +45,8 @@ mod FileChunks
 mod FileParents
 mod FileRows
 mod FileHeads
-mod FileLayers
-mod FileOrder
+pub mod FileLayers
+pub mod FileOrder
 mod SameNumbers
 pub mod SameCommits
 mod SameTexts
