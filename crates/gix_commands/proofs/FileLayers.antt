@@ -1,5 +1,5 @@
--- The layers that the reader takes have the rows that the page says.
-use Rattle.std.proofs.Common.{◌≡◌, ◌⊎◌, ℕ, zero, suc, ◌+◌, ◌-◌, ◌*◌, ◌/◌, ◌^◌, ◌<◌, ◌≤◌, true, not, List, [], ◌∷◌, ◌++◌, drop, length, map, slice_get, codes, bytes_eq, Option, Some, None, option_map, Result, Ok, Err, All, refl, sym, ap, subst, ◌∙◌, arith, w32, ⊎_elim, inl, inr, length-append, length-drop, append_assoc}
+-- The layers that the reader takes have the rows that the page says, and ids and generations as their files have them.
+use Rattle.std.proofs.Common.{◌≡◌, ◌⊎◌, ℕ, zero, suc, ◌+◌, ◌-◌, ◌*◌, ◌/◌, ◌^◌, ◌<◌, ◌≤◌, true, not, List, [], ◌∷◌, ◌++◌, drop, length, map, slice_get, codes, bytes_eq, Option, Some, None, option_map, Result, Ok, Err, All, Contains, refl, sym, ap, subst, ◌∙◌, arith, w32, ⊎_elim, inl, inr, length-append, length-drop, append_assoc}
 use Rattle.std.specs.Cmp.Lexicographic.{same_text}
 use Rattle.std.specs.List.{AllByRecursion, flat_map}
 use Rattle.std.specs.List.Sorted.{IsStrictlySortedBy}
@@ -7,7 +7,7 @@ use Rattle.std.specs.Option.{unwrap_or}
 use Rattle.std.specs.Int.{from_be_bytes, to_be_bytes}
 use Rattle.std.proofs.lemmas.Bool.{false≢true}
 use Rattle.std.proofs.lemmas.List.{map-append, length-map, length_push, flat_map_more, append-nil}
-use Rattle.std.proofs.lemmas.List.Elements.{All-nil, All-push, All-head, All-tail}
+use Rattle.std.proofs.lemmas.List.Elements.{All-nil, All-push, All-head, All-tail, Contains-append_left, Contains-append_right}
 use Rattle.gix_hash.specs.declared.Kind.{Kind}
 use Rattle.gix_hash.specs.declared.Kind.TheVariants as kind
 use Rattle.gix_hash.specs.declared.ObjectId.{ObjectId}
@@ -82,6 +82,13 @@ row_is k ids data_of edges all pre rest j row are read =
 
 -- ---- a layer
 
+-- one file of a chain that has all these rows: its own, above those below, with ids that rise, and with the generations that its data say
+pub record IsReadLayer (all : List GraphRow) (lower : List (List ℕ)) (file : List ℕ) (below : List page.Row) (rows : List GraphRow) : Type 0 where
+  pub has : IsLayer lower file below (map (page_row all) rows)
+  pub among : (row : GraphRow) → Contains rows row → Contains all row
+  pub rising : IsStrictlySortedBy id_cmp (ids_of_rows rows)
+  pub generation : (k : ℕ) (row : GraphRow) → slice_get rows k ≡ Some row → row.generation ≡ number_at ((has.0 + 16) * k + (has.0 + 8)) 8 has.2 / 2 ^ 34
+
 -- the files below are of the kind that is said, and their hashes are these
 pub record IsBelow (lower : Lower) (files : List (List ℕ)) : Type 0 where
   pub kinds : (k : Kind) → is_kind lower.kind k ≡ true → All (λ (other : List ℕ). number_at 5 1 other ≡ version k) files
@@ -150,7 +157,7 @@ module _ (files : List (List ℕ)) (lower : Lower) (file : List ℕ) (next : Low
       rows_say k (length lower.rows + p.count) (length (words_of p.edges)) p.count p.ids p.commits p.edges (omega (arith, long)) 0 p.count None p.ids p.commits (words_of p.edges) has.rows (omega arith)
       (sym (ap (λ n. drop n p.ids) none)) (sym (ap (λ n. drop n p.commits) nothing_else)) (record { place = 0; counted = omega arith; are = refl }) has.read sound
 
-  layer_is : (all rest : List GraphRow) → all ≡ (lower.rows ++ has.rows) ++ rest → NoFaults all → IsLayer files file (map (page_row all) lower.rows) (map (page_row all) has.rows)
+  layer_is : (all rest : List GraphRow) → all ≡ (lower.rows ++ has.rows) ++ rest → NoFaults all → IsReadLayer all files file (map (page_row all) lower.rows) has.rows
   layer_is all rest are sound =
       let here = (split_all (λ (row : GraphRow). NoFault row.parents) lower.rows has.rows (split_all (λ (row : GraphRow). NoFault row.parents) (lower.rows ++ has.rows) rest (subst NoFaults are sound)).0).1 in
       let read = read_rows here in
@@ -162,25 +169,33 @@ module _ (files : List (List ℕ)) (lower : Lower) (file : List ℕ) (next : Low
       (λ j r e. let g = got_row (page_row all) has.rows j r e in
       let zero_more : 0 + j ≡ j = omega arith in
       let one : IsRead k p.ids p.commits p.edges (length (lower.rows ++ has.rows)) j g.0 = subst (λ (T : Type 0). T) (λ i. IsRead k p.ids p.commits p.edges (limit i) (zero_more i) g.0) (read.1 j g.0 g.1) in
-      subst (λ (T : Type 0). T) (λ i. IsRow (id_len k) p.ids p.commits p.edges (map-append (page_row all) lower.rows has.rows i) j (g.2 i)) (row_is k p.ids p.commits p.edges all (lower.rows ++ has.rows) rest j g.0 are one)) in (
-        id_len k,
-        p.ids,
-        p.commits,
-        p.edges,
-        head.letters,
-        widths k (number_at 5 1 file) head.version_is,
-        head.layers,
-        (λ i d l. below.kinds k has.same i d l ∙ sym head.version_is),
-        ⊎_elim (λ e. inl e)
-            (λ l. inr (subst (IsChunk file (codes "BASE")) (below.hashes k has.same) (chunk_is chunk.Base (codes "BASE") lower.hashes refl refl (base_there (chunk_of file chunk.Base) lower.hashes has.base l))))
-            below.some,
-        chunk_is chunk.Ids (codes "OIDL") p.ids refl refl chunks.ids,
-        chunk_is chunk.Data (codes "CDAT") p.commits refl refl chunks.data_of,
-        ⊎_elim (λ e. inl (chunk_is chunk.Edges (codes "EDGE") p.edges refl refl e)) (λ e. inr e) (edges_there (chunk_of file chunk.Edges) p.edges chunks.edges),
-        chunks.ids_len ∙ ap (λ n. id_len k * n) (sym count),
-        long ∙ sym distributed ∙ ap (λ n. (id_len k + 16) * n) (sym count),
-        each,
-      )
+      subst (λ (T : Type 0). T) (λ i. IsRow (id_len k) p.ids p.commits p.edges (map-append (page_row all) lower.rows has.rows i) j (g.2 i)) (row_is k p.ids p.commits p.edges all (lower.rows ++ has.rows) rest j g.0 are one)) in
+      record {
+        has = (
+          id_len k,
+          p.ids,
+          p.commits,
+          p.edges,
+          head.letters,
+          widths k (number_at 5 1 file) head.version_is,
+          head.layers,
+          (λ i d l. below.kinds k has.same i d l ∙ sym head.version_is),
+          ⊎_elim (λ e. inl e)
+              (λ l. inr (subst (IsChunk file (codes "BASE")) (below.hashes k has.same) (chunk_is chunk.Base (codes "BASE") lower.hashes refl refl (base_there (chunk_of file chunk.Base) lower.hashes has.base l))))
+              below.some,
+          chunk_is chunk.Ids (codes "OIDL") p.ids refl refl chunks.ids,
+          chunk_is chunk.Data (codes "CDAT") p.commits refl refl chunks.data_of,
+          ⊎_elim (λ e. inl (chunk_is chunk.Edges (codes "EDGE") p.edges refl refl e)) (λ e. inr e) (edges_there (chunk_of file chunk.Edges) p.edges chunks.edges),
+          chunks.ids_len ∙ ap (λ n. id_len k * n) (sym count),
+          long ∙ sym distributed ∙ ap (λ n. (id_len k + 16) * n) (sym count),
+          each,
+        );
+        among = λ row m. subst (λ (rows : List GraphRow). Contains rows row) (sym are) (Contains-append_left (lower.rows ++ has.rows) rest row (Contains-append_right lower.rows has.rows row m));
+        rising = (rows_rise k (length lower.rows + p.count) (length (words_of p.edges)) p.count 0 None p.ids p.commits (words_of p.edges) has.rows has.read).1;
+        generation = λ j row e.
+            let at : (id_len k + 16) * (0 + j) + id_len k + 8 ≡ (id_len k + 16) * j + (id_len k + 8) = omega arith in
+            (read.1 j row e).generation ∙ ap (λ n. number_at n 8 p.commits / 2 ^ 34) at;
+      }
 
   next_below : IsBelow (with_rows lower file k has.rows) (files ++ file ∷ [])
   next_below = record {
@@ -197,11 +212,16 @@ module _ (files : List (List ℕ)) (lower : Lower) (file : List ℕ) (next : Low
 
 -- ---- a chain of them
 
+-- the files have all these rows, each its own above the files and rows below
+abbrev pub AreReadLayers : (all : List GraphRow) → (lower files : List (List ℕ)) → (below : List page.Row) → Type 0
+AreReadLayers all lower [] below = page_rows all ≡ below
+AreReadLayers all lower (file ∷ files) below = (rows : List GraphRow) × IsReadLayer all lower file below rows × AreReadLayers all (lower ++ file ∷ []) files (below ++ map (page_row all) rows)
+
 record Adds (files : List (List ℕ)) (lower : Lower) (file : List ℕ) (next : Lower) : Type 0 where
   rows : List GraphRow
   rows_are : next.rows ≡ lower.rows ++ rows
   below : IsBelow next (files ++ file ∷ [])
-  layer : (all rest : List GraphRow) → all ≡ (lower.rows ++ rows) ++ rest → NoFaults all → IsLayer files file (map (page_row all) lower.rows) (map (page_row all) rows)
+  layer : (all rest : List GraphRow) → all ≡ (lower.rows ++ rows) ++ rest → NoFaults all → IsReadLayer all files file (map (page_row all) lower.rows) rows
 
 adds : (number : ℕ) (files : List (List ℕ)) (lower : Lower) (file : List ℕ) (next : Lower) → number ≡ length files → AreBytes file → IsBelow lower files → with_layer number lower file ≡ Ok next → Adds files lower file next
 unfolding with_layer
@@ -246,7 +266,7 @@ rows_grow number lower (file ∷ files) all e =
     (n.0 ++ m.0, m.1 ∙ ap (λ (x : List GraphRow). x ++ m.0) n.1 ∙ append_assoc lower.rows n.0 m.0)
 
 chain_is : (number : ℕ) (lower : Lower) (under files : List (List ℕ)) (all : List GraphRow) → number ≡ length under → IsBelow lower under → All AreBytes files → chain_from number lower files ≡ Ok all → NoFaults all
-    → AreLayers under files (map (page_row all) lower.rows) (page_rows all)
+    → AreReadLayers all under files (map (page_row all) lower.rows)
 chain_is number lower under [] all numbered below small e sound = ap (map (page_row all)) (last_rows number lower all e)
 chain_is number lower under (file ∷ files) all numbered below small e sound =
     let a = first_layer number lower file files all e in
@@ -255,43 +275,16 @@ chain_is number lower under (file ∷ files) all numbered below small e sound =
     let all_are : all ≡ (lower.rows ++ added.rows) ++ m.0 = m.1 ∙ ap (λ (x : List GraphRow). x ++ m.0) added.rows_are in
     let counted_on : number + 1 ≡ length (under ++ file ∷ []) = ap (λ n. n + 1) numbered ∙ sym (length_push under file) in
     let more = chain_is (number + 1) a.0 (under ++ file ∷ []) files all counted_on added.below (All-tail AreBytes file files small) a.2 sound in (
-      map (page_row all) added.rows,
+      added.rows,
       added.layer all m.0 all_are sound,
-      subst (λ (x : List page.Row). AreLayers (under ++ file ∷ []) files x (page_rows all)) (ap (map (page_row all)) added.rows_are ∙ map-append (page_row all) lower.rows added.rows) more,
+      subst (AreReadLayers all (under ++ file ∷ []) files) (ap (map (page_row all)) added.rows_are ∙ map-append (page_row all) lower.rows added.rows) more,
     )
 
--- the rows that the reader finds are those of the page, where no place is corrupt
-pub layers_are : (files : List (List ℕ)) (rows : List GraphRow) → All AreBytes files → read_chain files ≡ Ok rows → NoFaults rows → AreLayers [] files [] (page_rows rows)
-layers_are files rows small e sound = chain_is 0 nothing [] files rows refl (record { kinds = λ k same. All-nil _; hashes = λ k same. refl; some = inl refl }) small e sound
+-- the reader finds rows so, where no place is corrupt
+pub chain_read : (files : List (List ℕ)) (rows : List GraphRow) → All AreBytes files → read_chain files ≡ Ok rows → NoFaults rows → AreReadLayers rows [] files []
+chain_read files rows small e sound = chain_is 0 nothing [] files rows refl (record { kinds = λ k same. All-nil _; hashes = λ k same. refl; some = inl refl }) small e sound
 
--- ---- one file with none below
-
--- the generations of its rows, by the chunk that has their data, and the order of their ids
-pub record IsReadAlone (file : List ℕ) (rows : List GraphRow) : Type 0 where
-  pub width : ℕ
-  pub width_is : ((number_at 5 1 file ≡ 1) × (width ≡ 20)) ⊎ ((number_at 5 1 file ≡ 2) × (width ≡ 32))
-  pub data_of : List ℕ
-  pub chunk : IsChunk file (codes "CDAT") data_of
-  pub generation : (k : ℕ) (row : GraphRow) → slice_get rows k ≡ Some row → row.generation ≡ number_at ((width + 16) * k + width + 8) 8 data_of / 2 ^ 34
-  pub rising : IsStrictlySortedBy id_cmp (ids_of_rows rows)
-
-pub read_alone : (file : List ℕ) (rows : List GraphRow) → AreBytes file → read_chain (file ∷ []) ≡ Ok rows → NoFaults rows → IsReadAlone file rows
-unfolding with_layer
-read_alone file rows small e sound =
-    let a = first_layer 0 nothing file [] rows e in
-    let b = then_is (read_layer 0 file) _ a.0 a.1 in
-    let p = b.0 in
-    let h = parts_are 0 file p b.1 in
-    let has = has_rows nothing file p a.0 b.2 in
-    let below : IsBelow nothing [] = record { kinds = λ k same. All-nil _; hashes = λ k same. refl; some = inl refl } in
-    let same : has.rows ≡ rows = ap (λ (x : Lower). x.rows) has.next_is ∙ sym (last_rows 1 a.0 rows a.2) in
-    let read = read_rows [] nothing file a.0 p small below h.0 h.1 has (subst NoFaults (sym same) sound) in
-    subst (IsReadAlone file) same
-    (record {
-      width = id_len p.kind;
-      width_is = widths p.kind (number_at 5 1 file) h.0.version_is;
-      data_of = p.commits;
-      chunk = chunk_is [] nothing file a.0 p small below h.0 h.1 has chunk.Data (codes "CDAT") p.commits refl refl h.1.data_of;
-      generation = λ k row is. let at : 0 + k ≡ k = omega arith in subst (λ j. row.generation ≡ number_at ((id_len p.kind + 16) * j + id_len p.kind + 8) 8 p.commits / 2 ^ 34) at (read.1 k row is).generation;
-      rising = (rows_rise p.kind (length nothing.rows + p.count) (length (words_of p.edges)) p.count 0 None p.ids p.commits (words_of p.edges) has.rows has.read).1;
-    })
+-- and these are those of the page
+pub layers_are : (all : List GraphRow) (lower files : List (List ℕ)) (below : List page.Row) → AreReadLayers all lower files below → AreLayers lower files below (page_rows all)
+layers_are all lower [] below are = are
+layers_are all lower (file ∷ files) below (rows, is, more) = (map (page_row all) rows, is.has, layers_are all (lower ++ file ∷ []) files (below ++ map (page_row all) rows) more)

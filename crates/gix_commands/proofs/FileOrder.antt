@@ -1,5 +1,5 @@
 -- A graph has the rows of a chain, by other numbers: as the page has them, they are the same.
-use Rattle.std.proofs.Common.{◌≡◌, ◌≢◌, ◌⊎◌, ◌↔◌, ℕ, zero, suc, ◌<◌, false, cond, eqb, List, [], ◌∷◌, length, map, slice_get, get_or, Option, Some, None, option_map, All, AllPairs, Contains, refl, sym, ap, subst, ◌∙◌, arith, ⊎_elim, inl, inr, eq-eqb, ne_eqb}
+use Rattle.std.proofs.Common.{◌≡◌, ◌≢◌, ◌⊎◌, ℕ, zero, suc, ◌<◌, false, cond, eqb, List, [], ◌∷◌, length, map, slice_get, get_or, Option, Some, None, option_map, All, AllPairs, Contains, refl, sym, ap, subst, ◌∙◌, arith, ⊎_elim, inl, inr, eq-eqb, ne_eqb}
 use Rattle.std.specs.List.{AllByRecursion, IsDistinct}
 use Rattle.std.proofs.lemmas.Bool.{false≢true}
 use Rattle.gix_hash.specs.declared.ObjectId.{ObjectId}
@@ -18,7 +18,8 @@ use Rattle.gix_statement.specs.WholeStatement as page
 use Rattle.gix_statement.specs.CommitGraph.{AreLayers}
 use Rattle.gix_commands.specs.Pages.{page_row, page_rows}
 use Rattle.gix_commands.proofs.FileParents.{NoFault}
-use Rattle.gix_commands.proofs.FileLayers.{NoFaults, layers_are}
+use Rattle.gix_commands.proofs.FileLayers.{AreReadLayers, NoFaults, chain_read, layers_are}
+use Rattle.gix_graph_store.proofs.Texts.{element-at}
 
 -- ---- elements at places
 
@@ -52,11 +53,6 @@ all_from : {X : Type 0} (P : X → Type 0) (xs : List X) → ((n : ℕ) (x : X) 
 all_from P [] h = tt
 all_from P (x ∷ xs) h = (h 0 x refl, all_from P xs (λ n y e. h (suc n) y e))
 
-all_at : {X : Type 0} (P : X → Type 0) (xs : List X) (n : ℕ) (x : X) → AllByRecursion P xs → slice_get xs n ≡ Some x → P x
-all_at {X} P [] n x h e = absurd (let no : ◌≡◌ {A = Option X} None (Some x) = e in cc)
-all_at P (y ∷ xs) zero x h e = let same : y ≡ x = cc in subst P same h.0
-all_at P (y ∷ xs) (suc n) x h e = all_at P xs n x h.1 e
-
 -- ---- distinct ids
 
 pub apart : {X : Type 0} (f : X → ObjectId) (xs : List X) → IsDistinct is_same (map f xs) → AllPairs (λ (x y : X). f x ≢ f y) xs
@@ -64,7 +60,7 @@ unfolding IsDistinct
 apart f [] h i j d l m = absurd (omega (arith, m))
 apart f (x ∷ xs) h i zero d l m = absurd (omega (arith, l))
 apart f (x ∷ xs) h zero (suc j) d l m =
-    λ e. false≢true (sym (all_at (λ y. is_same (f x) y ≡ false) (map f xs) j (f (get_or xs j d)) h.0 (put_in f xs j (get_or xs j d) (there_at xs j d (omega (arith, m))))) ∙ same_from _ _ e)
+    λ e. false≢true (sym (element-at (λ y. is_same (f x) y ≡ false) (map f xs) j (f (get_or xs j d)) h.0 (put_in f xs j (get_or xs j d) (there_at xs j d (omega (arith, m))))) ∙ same_from _ _ e)
 apart f (x ∷ xs) h (suc i) (suc j) d l m = apart f xs h.1 i j d (omega (arith, l)) (omega (arith, m))
 
 -- ---- what goes into as many, and never twice to one, reaches each
@@ -143,7 +139,7 @@ module _ (rows graph : List GraphRow) (same : HasSameRows rows graph) where
   module _ (within : HavePlacesWithin rows) (distinct : HaveDistinctIds rows) where
     same_page : (n : ℕ) (row : GraphRow) → slice_get rows n ≡ Some row → page_row graph (renumbered same.number row) ≡ page_row rows row
     same_page n row e =
-        let ids = moved_ids row.parents (all_at (λ (row : GraphRow). AllByRecursion (IsPlaceAmong (length rows)) row.parents) rows n row within e) in
+        let ids = moved_ids row.parents (element-at (λ (row : GraphRow). AllByRecursion (IsPlaceAmong (length rows)) row.parents) rows n row within e) in
         (λ i. record { id = row.id; tree = row.tree; parents = ids i; time = row.time })
 
     pub forth : (r : page.Row) → Contains (page_rows rows) r → Contains (page_rows graph) r
@@ -189,19 +185,14 @@ map_twice : {X Y Z : Type 0} (f : X → Y) (g : Y → Z) (xs : List X) → map g
 map_twice f g [] = refl
 map_twice f g (x ∷ xs) = ap (λ ys. g (f x) ∷ ys) (map_twice f g xs)
 
--- the files of a chain have page rows, those of the rows that were read
-pub chain_layers : (layers : List (List ℕ)) (graph : List GraphRow) → All AreBytes layers → (has : HasChain layers graph) → AreSound graph → AreLayers [] layers [] (page_rows has.rows)
-chain_layers layers graph small has sound = layers_are layers has.rows small has.read (no_faults has.rows graph has.same sound)
+-- no two rows of the page have one id
+pub rows_apart : (rows : List GraphRow) → HaveDistinctIds rows → AllPairs (λ (r s : page.Row). r.id ≢ s.id) (page_rows rows)
+rows_apart rows distinct = apart (λ (r : page.Row). r.id) (page_rows rows) (subst (IsDistinct is_same) (sym (map_twice (page_row rows) (λ (r : page.Row). r.id) rows)) distinct)
 
--- and these are those of the graph, in another order, and their ids differ
-pub layers_have_rows : (layers : List (List ℕ)) (graph : List GraphRow) → All AreBytes layers → HasChain layers graph → AreSound graph
-    → (those : List page.Row) × AreLayers [] layers [] those × ((r : page.Row) → Contains those r ↔ Contains (page_rows graph) r) × AllPairs (λ (r s : page.Row). r.id ≢ s.id) those
-layers_have_rows layers graph small has sound =
-    let rows = has.rows in
-    let distinct = has.accepted.2 in
-    let within = has.accepted.3 in (
-      page_rows rows,
-      chain_layers layers graph small has sound,
-      (λ r. (forth rows graph has.same within distinct r, back rows graph has.same within distinct r)),
-      apart (λ (r : page.Row). r.id) (page_rows rows) (subst (IsDistinct is_same) (sym (map_twice (page_row rows) (λ (r : page.Row). r.id) rows)) distinct),
-    )
+-- the files of a chain are read one above the other
+pub read_layers : (layers : List (List ℕ)) (graph : List GraphRow) → All AreBytes layers → (has : HasChain layers graph) → AreSound graph → AreReadLayers has.rows [] layers []
+read_layers layers graph small has sound = chain_read layers has.rows small has.read (no_faults has.rows graph has.same sound)
+
+-- so they have page rows, those of the rows that were read
+pub chain_layers : (layers : List (List ℕ)) (graph : List GraphRow) → All AreBytes layers → (has : HasChain layers graph) → AreSound graph → AreLayers [] layers [] (page_rows has.rows)
+chain_layers layers graph small has sound = layers_are has.rows [] layers [] (read_layers layers graph small has sound)

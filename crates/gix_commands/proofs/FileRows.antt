@@ -1,5 +1,5 @@
 -- The rows that the reader finds in a file are those of the page, by the bytes of the file's chunks.
-use Rattle.std.proofs.Common.{◌≡◌, ℕ, zero, suc, ◌+◌, ◌-◌, ◌*◌, ◌/◌, ◌%◌, ◌^◌, ◌<◌, ◌≤◌, true, eqb, List, [], ◌∷◌, take, drop, length, map, slice_get, pos, Option, Some, None, Result, Ok, Err, Less, refl, sym, ap, subst, ◌∙◌, arith, w32, w64, ⊎_elim, drop-drop}
+use Rattle.std.proofs.Common.{◌≡◌, ℕ, zero, suc, ◌+◌, ◌-◌, ◌*◌, ◌/◌, ◌%◌, ◌^◌, ◌<◌, ◌≤◌, true, eqb, List, [], ◌∷◌, take, drop, length, map, slice_get, pos, Option, Some, None, Result, Ok, Err, refl, sym, ap, subst, ◌∙◌, arith, w32, w64, ⊎_elim, drop-drop}
 use Rattle.std.specs.Int.{from_be_bytes}
 use Rattle.std.specs.List.{AllByRecursion}
 use Rattle.std.specs.List.Sorted.{IsStrictlySortedBy}
@@ -7,13 +7,11 @@ use Rattle.std.proofs.lemmas.List.{drop-take, take-take}
 use Rattle.gix_hash.specs.declared.Kind.{Kind}
 use Rattle.gix_hash.specs.declared.ObjectId.{ObjectId}
 use Rattle.gix_hash.specs.Id.{id_cmp, id_len, id_of}
-use Rattle.gix_hash.proofs.Ids.Membership.{id_total}
 use Rattle.gix_commitgraph.specs.declared.ParentPlace.{ParentPlace}
 use Rattle.gix_commitgraph.specs.declared.ParentPlace.TheVariants.{At}
 use Rattle.gix_commitgraph.specs.Packed.{ids_of_rows}
 use Rattle.gix_commitgraph.specs.Rows.{GraphRow}
 use Rattle.gix_commitgraph.specs.PackedReading.{word_at, is_above, with_row}
-use Rattle.gix_commitgraph.proofs.Packed.RowSearch.{is_Less}
 use Rattle.gix_commitgraph.proofs.Packed.Takes.{chosen}
 use Rattle.gix_graph_file.specs.declared.error.Error.{Error}
 use Rattle.gix_graph_file.specs.declared.error.Error.TheVariants as error
@@ -22,6 +20,8 @@ use Rattle.gix_graph_file.specs.FileRows.{Parents, parents_said, row_said, row_t
 use Rattle.gix_statement.specs.CommitGraph.{number_at, bytes_at, AreParents}
 use Rattle.gix_commands.proofs.FileNumbers.{word_is, long_is}
 use Rattle.gix_commands.proofs.FileParents.{NoFault, Left, parents_say}
+use Rattle.gix_commitgraph.proofs.Packed.Read.{rises}
+use Rattle.gix_commitgraph.proofs.Packed.ReadAgain.{Begins}
 
 -- a row that is read, by the chunks' bytes; its parents are among so many rows
 pub record IsRead (k : Kind) (ids data_of edges : List ℕ) (n j : ℕ) (row : GraphRow) : Type 0 where
@@ -150,19 +150,6 @@ module _ (k : Kind) (n m count : ℕ) (ids data_of edges : List ℕ) (long : len
 
 -- ---- ids in order
 
-abbrev Begins : Option ObjectId → List GraphRow → Type 0
-Begins before [] = Unit {0}
-Begins before (row ∷ rows) = is_above before row.id ≡ true
-
-below_all : (i j : ObjectId) (ids : List ObjectId) → id_cmp i j ≡ Less → AllByRecursion (λ x. id_cmp j x ≡ Less) ids → AllByRecursion (λ x. id_cmp i x ≡ Less) ids
-below_all i j [] less all = tt
-below_all i j (x ∷ ids) less all = (id_total.trans i j x less all.0, below_all i j ids less all.1)
-
-in_front : (row : GraphRow) (rows : List GraphRow) → Begins (Some row.id) rows → IsStrictlySortedBy id_cmp (ids_of_rows rows) → IsStrictlySortedBy id_cmp (ids_of_rows (row ∷ rows))
-unfolding IsStrictlySortedBy
-in_front row [] first rising = (tt, tt)
-in_front row (next ∷ rows) first rising = let less = is_Less (id_cmp row.id next.id) first in ((less, below_all row.id next.id (ids_of_rows rows) less rising.0), rising)
-
 abbrev Rise : Option ObjectId → List GraphRow → Type 0
 Rise before rows = Begins before rows × IsStrictlySortedBy id_cmp (ids_of_rows rows)
 
@@ -186,4 +173,4 @@ rows_rise k n m (suc left) r before ids commits words rows e =
     let i = id_of k (take (id_len k) ids) in
     let more = rows_rise k n m left (r + 1) (Some i) (drop (id_len k) ids) (drop 16 (drop (id_len k) commits)) q.0.1 q.1 q.3 in
     let row = row_said k (take (id_len k) ids) (take (id_len k) commits) (take 16 (drop (id_len k) commits)) q.0.0 in
-    subst (Rise before) q.4 (first_above k n m left r before ids commits words rows e, in_front row q.1 more.0 more.1)
+    subst (Rise before) q.4 (first_above k n m left r before ids commits words rows e, rises row q.1 more.0 more.1)

@@ -8,7 +8,8 @@ use Rattle.gix_revwalk.proofs.Beginnings.{begins_empty}
 use Rattle.gix_revwalk.proofs.SomeOrder.{next_is_pending}
 use Rattle.gix_simple.specs.declared.Sorting.{Sorting}
 use Rattle.gix_simple.specs.Building.{recent, timed}
-use Rattle.gix_commands.proofs.SameOrders.{in_new, new_in, filtered, filtered_in}
+use Rattle.gix_merge_base.proofs.Members.{new_within}
+use Rattle.gix_commands.proofs.SameOrders.{new_in, filtered, filtered_in}
 use Rattle.gix_commands.proofs.ListedCommits.{ListsBy, followed, kept_tips}
 
 -- what is pending behind a cutoff
@@ -91,7 +92,7 @@ module _ (objects : Objects) (next follow : ObjectId → List ObjectId) (within 
   starts_kept = filter (λ i. not (hides i)) (new_ids (λ i. false) from)
 
   shown : (i : ObjectId) → Reaches kept starts_kept i → Reaches follow from i × (not (hides i) ≡ true)
-  shown i (start s) = let f = filtered (λ j. not (hides j)) (new_ids (λ j. false) from) i s in (start (in_new (λ j. false) from i f.0), f.1)
+  shown i (start s) = let f = filtered (λ j. not (hides j)) (new_ids (λ j. false) from) i s in (start (new_within (λ j. false) from i f.0), f.1)
   shown i (step {c = c} r n) = let f = filtered (λ j. not (hides j)) (follow c) i n in (step (shown c r).0 f.0, f.1)
 
   is_shown : (i : ObjectId) → Reaches kept starts_kept i → IsInWalk follow next from hidden i

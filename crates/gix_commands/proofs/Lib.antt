@@ -57,7 +57,7 @@ pub mod SameWords
 mod SameReach
 mod SameContained
 mod SameContaining
-mod SameBases
+pub mod SameBases
 pub mod SameLists
 pub mod GivenObjects
 mod RightTrees
@@ -77,7 +77,6 @@ pub mod RowsAsTexts
 pub mod NamedOnes
 mod Promised
 mod PromisedRuns
-mod SortedRows
 mod ServedPromises
 -- What a walk gave and which bases were found is all that the statement means by these.
 pub mod DrawnShown

@@ -70,16 +70,6 @@ all_drawn n k limit e none = omega (arith, e, none)
 
 module _ {W E : Type 0} where
   module _ (Steps : W → Option (Result Info E) → W → Type 0) where
-    yields_last : (walk at new : W) (list : List (Result Info E)) (answer : Result Info E) → Yields Steps walk list at → Steps at (Some answer) new → Yields Steps walk (list ++ answer ∷ []) new
-    yields_last walk at new [] answer h step = (new, subst (λ (w : W). Steps w (Some answer) new) (sym h) step, refl)
-    yields_last walk at new (first ∷ list) answer h step = (h.0, h.1, yields_last h.0 at new list answer h.2 step)
-
-    -- one more commit was drawn
-    pub drawn_one : (walk at new : W) (infos : List Info) (answer : Result Info E) (info : Info) → Yields Steps walk (given infos) at → Steps at (Some answer) new → answer ≡ Ok info → Yields Steps walk (given (infos ++ info ∷ [])) new
-    drawn_one walk at new infos answer info h step is =
-        subst (λ (list : List (Result Info E)). Yields Steps walk list new) (sym (given_last infos info))
-        (yields_last walk at new (given infos) (Ok info) h (subst (λ (a : Result Info E). Steps at (Some a) new) is step))
-
     module _ (Tells : E → Fault → Type 0) (Has : ObjectId → Type 0) (those : List Info → List ObjectId) (limit : Option ℕ) (line : ObjectId → List ℕ) (by : Form) (walk : W) (old : Option (List ℕ)) (held : Held) where
       abbrev pub Begun : Result (Unit {0}) Fault → Option (List ℕ) → Held → Type 0
       Begun = AddsBegun Steps Tells Has those limit line by walk old held

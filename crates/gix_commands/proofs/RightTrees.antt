@@ -10,11 +10,7 @@ use Rattle.gix_statement.specs.WholeStatement.{Unfolds}
 use Rattle.gix_commands.proofs.FileRuns.{unfolds}
 use Rattle.gix_commands.proofs.SameLists.{entry_lines}
 use Rattle.gix_commands.proofs.SameTrees.{placed_by, unfolds_walk}
-
-whole_end : (end : Ending) → IsUnfailed end → is_broken end ≡ false → end ≡ Whole
-whole_end Whole w b = refl
-whole_end Broken w b = cc
-whole_end (Failed why) w b = absurd w
+use Rattle.gix_commands.proofs.TreeFacts.{whole_end}
 
 -- what `files` wrote
 module _ (objects : Objects) (rows : List GraphRow) (old new : Option (List ℕ)) where

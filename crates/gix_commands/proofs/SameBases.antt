@@ -10,7 +10,7 @@ use Rattle.gix_commands.specs.Pages.{page_objects}
 use Rattle.gix_commands.proofs.SameReach.{all_met, back, is_there, there}
 
 -- the order of ids
-same_order : (i j : ObjectId) → id_cmp i j ≡ by_bytes i j
+pub same_order : (i j : ObjectId) → id_cmp i j ≡ by_bytes i j
 same_order (Sha1 a) (Sha1 b) = refl
 same_order (Sha1 a) (Sha256 b) = refl
 same_order (Sha256 a) (Sha1 b) = refl

@@ -10,14 +10,7 @@ use Rattle.gix_statement.proofs.EachHistory.{same_parents}
 use Rattle.gix_commands.specs.Pages.{page_objects}
 use Rattle.gix_commands.proofs.PageCommits.{fed_history, whole_there}
 use Rattle.gix_commands.proofs.SameReach.{reach_back, reach_there}
-
--- what names a parent was read
-names_there : (objects : Objects) (c i : ObjectId) → Contains (parents_of objects c) i → IsSome (commit_at objects c)
-names_there objects c i m = go (commit_at objects c) refl
-  where
-    go : (o : Option Commit) → commit_at objects c ≡ o → IsSome o
-    go None e = absurd (no_member i (subst (λ xs. Contains xs i) (ap parents_in e) m))
-    go (Some commit) e = refl
+use Rattle.gix_commands.proofs.TopoRuns.{named_whole}
 
 module _ (objects : Objects) (other : ObjectId → List ObjectId) (times : ObjectId → ℤ) (another : page.IsHistory (page_objects objects) [] other times) (tip : ObjectId) where
   same : (c : ObjectId) → IsSome (commit_at objects c) → parents_of objects c ≡ other c
@@ -27,7 +20,7 @@ module _ (objects : Objects) (other : ObjectId → List ObjectId) (times : Objec
 
   -- what is reached by the commits at hand is reached in each history
   forward : (i : ObjectId) → Reaches (parents_of objects) (tip ∷ []) i → page.Reaches other (tip ∷ []) i
-  forward = reach_there (parents_of objects) other (tip ∷ []) (λ c i r m. subst (λ xs. Contains xs i) (same c (names_there objects c i m)) m)
+  forward = reach_there (parents_of objects) other (tip ∷ []) (λ c i r m. subst (λ xs. Contains xs i) (same c (named_whole objects c i m)) m)
 
   -- and no more, where all of that is whole
   backward : AreWhole objects (tip ∷ []) → (i : ObjectId) → page.Reaches other (tip ∷ []) i → Reaches (parents_of objects) (tip ∷ []) i

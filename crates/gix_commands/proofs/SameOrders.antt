@@ -1,8 +1,8 @@
 -- What commits reach, breadth order and time order are those of the statement.
-use Rattle.std.proofs.Common.{◌≡◌, ◌≢◌, ℕ, ℤ, List, [], ◌∷◌, ◌++◌, find, filter, Bool, true, false, cond, not, ◌&&◌, ◌||◌, Option, Some, None, AllPairs, Contains, flat_map, refl, sym, ap}
+use Rattle.std.proofs.Common.{◌≡◌, ◌≢◌, ℕ, ℤ, List, [], ◌∷◌, ◌++◌, find, filter, Bool, true, false, cond, not, ◌&&◌, Option, Some, None, AllPairs, Contains, flat_map, refl, sym, ap}
 use Rattle.std.proofs.Common.{subst, ◌∙◌, codes, ⊎_elim, arith}
 use Rattle.gix_commands.proofs.Common.{false≢true, All-nil, All-cons, Contains-append_left, Contains-append_right, Contains-append_cases, Contains-get_or, same_Some, none-some, ObjectId, is_among}
-use Rattle.gix_commands.proofs.Common.{is_same, among_from, among_is, Contains-here, Contains-there, Contains-cons_cases, no_member, CommitTimeOrder, IsListBy, IsNextOne, named_by, new_ids, IsNoWorse}
+use Rattle.gix_commands.proofs.Common.{among_from, among_is, Contains-here, Contains-there, Contains-cons_cases, no_member, CommitTimeOrder, IsListBy, IsNextOne, named_by, new_ids, IsNoWorse}
 use Rattle.std.proofs.lemmas.List.Kept.{AllPairs-cons}
 use Rattle.gix_hash.specs.Reach as reach
 use Rattle.gix_hash.specs.Reach.{Tells}
@@ -14,6 +14,7 @@ use Rattle.std.proofs.lemmas.Int.{ints}
 use Rattle.gix_revwalk.specs.declared.CommitTimeOrder.TheVariants.{NewestFirst, OldestFirst}
 use Rattle.gix_revwalk.proofs.SomeOrder.{next_is_pending, pending_list}
 use Rattle.gix_statement.specs.WholeStatement.{Reaches, start, parent, IsBest, IsFirst, IsNext, IsPending, breadth, newest, oldest}
+use Rattle.gix_merge_base.proofs.Members.{new_within}
 
 pub reaches : (parents : ObjectId → List ObjectId) (starts : List ObjectId) (i : ObjectId) → reach.Reaches parents starts i → Reaches parents starts i
 reaches parents starts i (reach.start s) = start s
@@ -50,15 +51,6 @@ find-append test (x ∷ xs) ys = go (find-append test xs ys) (test x)
 
 find-both : (a b : ObjectId → Bool) (xs ys zs ws : List ObjectId) → find a xs ≡ find b zs → find a ys ≡ find b ws → find a (xs ++ ys) ≡ find b (zs ++ ws)
 find-both a b xs ys zs ws e f = find-append a xs ys ∙ (λ k. or_else (e k) (f k)) ∙ sym (find-append b zs ws)
-
-pub in_new : (old : ObjectId → Bool) (ids : List ObjectId) (i : ObjectId) → Contains (new_ids old ids) i → Contains ids i
-in_new old [] i c = c
-in_new old (j ∷ ids) i c = go (in_new old ids i) (in_new (λ k. is_same k j || old k) ids i) (old j) c
-  where
-    go : (Contains (new_ids old ids) i → Contains ids i) → (Contains (new_ids (λ k. is_same k j || old k) ids) i → Contains ids i) → (t : Bool)
-        → Contains (cond t (new_ids old ids) (j ∷ new_ids (λ k. is_same k j || old k) ids)) i → Contains (j ∷ ids) i
-    go a b true c = Contains-there i j ids (a c)
-    go a b false c = ⊎_elim (λ e. subst (Contains (j ∷ ids)) e (Contains-here j ids)) (λ t. Contains-there i j ids (b t)) (Contains-cons_cases i j (new_ids (λ k. is_same k j || old k) ids) c)
 
 pub new_in : (ids : List ObjectId) (i : ObjectId) → Contains ids i → Contains (new_ids (λ j. false) ids) i
 new_in ids i c = among_is i (new_ids (λ j. false) ids) (times_among i (new_ids (λ j. false) ids) 0 (times-fresh i (λ j. false) ids ∙ ap (λ b. cond b 1 0) (among_from i ids c)))
@@ -146,7 +138,7 @@ module _ (parents followed : ObjectId → List ObjectId) (time : ObjectId → �
   pending : (taken : List ObjectId) (i : ObjectId) → times.IsPending next starts taken i → IsPending parents followed time from hidden taken i
   pending taken i p =
       ⊎_elim
-      (λ c. let f = filtered (λ j. not (hides j)) (new_ids (λ j. false) from) i c in (Contains-append_left from (flat_map followed taken) i (in_new (λ j. false) from i f.0), p.1, not_hidden i f.1))
+      (λ c. let f = filtered (λ j. not (hides j)) (new_ids (λ j. false) from) i c in (Contains-append_left from (flat_map followed taken) i (new_within (λ j. false) from i f.0), p.1, not_hidden i f.1))
       (λ c. let f = named_next taken i c in (Contains-append_right from (flat_map followed taken) i f.0, p.1, not_hidden i f.1)) (Contains-append_cases starts (flat_map next taken) i p.0)
 
   pending_back : (taken : List ObjectId) (i : ObjectId) → IsPending parents followed time from hidden taken i → times.IsPending next starts taken i

@@ -23,7 +23,7 @@ use Rattle.gix_commands.specs.StoredRuns as store
 use Rattle.gix_commands.specs.StoredRuns.{RunsStored}
 use Rattle.gix_commands.proofs.PageCommits.{whole_text}
 use Rattle.gix_commands.proofs.RightRuns.{right}
-use Rattle.gix_commands.proofs.FileOrder.{chain_layers}
+use Rattle.gix_commands.proofs.FileOrder.{back, chain_layers, forth, rows_apart}
 use Rattle.gix_commands.proofs.GivenObjects.{HasAll}
 use Rattle.gix_commands.proofs.Promised.{promised}
 use Rattle.gix_commands.proofs.ReadableObjects.{readable_agrees}
@@ -31,7 +31,6 @@ use Rattle.gix_commands.proofs.ReachedIsRead.{reached_is_read}
 use Rattle.gix_commands.proofs.ReadableTexts.{bytes_kept, have_texts, text_kept, tree_kept}
 use Rattle.gix_commands.proofs.RowsAsTexts.{every_agree, rows_agree, stored_there, text_is_commit, tree_is_tree}
 use Rattle.gix_commands.proofs.SameCommits.{are_fed}
-use Rattle.gix_commands.proofs.SortedRows.{sorted_has, unsorted_apart, unsorted_has}
 
 -- what a command reads of a store that has a commit for each row
 abbrev pub seen : Request → List GraphRow → Objects → Objects
@@ -71,10 +70,10 @@ module _ (words : List (List ℕ)) (request : Request) (asked : request_of words
   -- the rows of a list of which the graph was made
   module _ (list : List GraphRow) (distinct : HaveDistinctIds list) (within : HavePlacesWithin list) (same : HasSameRows list rows) where
     list_agrees : Agree (page_objects objects) (page_rows list)
-    list_agrees = (unsorted_apart list rows distinct within same, λ r c. (rows_agree whole_text rows objects graph sound agree).1 r (sorted_has list rows distinct within same r c))
+    list_agrees = (rows_apart list distinct, λ r c. (rows_agree whole_text rows objects graph sound agree).1 r (forth list rows same within distinct r c))
 
     pub served_unsorted : AreGiven (page_objects objects) (page_rows list) → Promises fault.Write words AreGiven old answer new
-    served_unsorted given = served_over (page_rows list) (unsorted_has list rows distinct within same graph) list_agrees given
+    served_unsorted given = served_over (page_rows list) (back list rows same within distinct) list_agrees given
 
 -- a sound row has no corrupt place
 no_fault_in : (rows : List GraphRow) (generation : ℕ) (places : List ParentPlace) → AllByRecursion (IsSoundPlace rows generation) places → Contains places place.Fault → ⊥

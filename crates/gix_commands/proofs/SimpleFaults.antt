@@ -36,13 +36,10 @@ use Rattle.gix_commands.proofs.CommitRuns.{ends_whole}
 use Rattle.gix_commands.proofs.InternalFacts.{next_sound}
 use Rattle.gix_commands.proofs.LostParents.{all_there}
 use Rattle.gix_commands.proofs.MemoryFaults.{failed_so}
-use Rattle.gix_commands.proofs.SimpleRuns.{each_id, is_tip, same}
+use Rattle.gix_commands.proofs.SimpleRuns.{is_tip, same}
 use Rattle.gix_paint.proofs.Invariant.{own_history}
 use Rattle.gix_simple.proofs.Treated.{best_moved}
-
-in_ids : (ps : List Pending) (p : Pending) → Contains ps p → Contains (ids_of ps) p.id
-in_ids [] p c = absurd (no_member p c)
-in_ids (q ∷ ps) p c = ⊎_elim (λ e. subst (λ i. Contains (q.id ∷ ids_of ps) i) (ap (λ x. x.id) e) (Contains-here q.id (ids_of ps))) (λ m. Contains-there p.id q.id (ids_of ps) (in_ids ps p m)) (Contains-cons_cases p q ps c)
+use Rattle.gix_merge_base.proofs.Walked.{each_id, in_ids}
 
 module _ (objects : Objects) (tips hiders : List ObjectId) (whole : AreWhole objects (tips ++ hiders)) where
   abbrev IsMet : ObjectId → Type 0

@@ -22,8 +22,10 @@ use Rattle.gix_simple.proofs.MadeOfTips.{is_new_walk}
 use Rattle.gix_revwalk.specs.Infos.{given}
 use Rattle.gix_commands.specs.Walked.{Walk, Answers, IsSorted}
 use Rattle.gix_commands.proofs.KeptLists.{empty_order, filter_both, followed_within, kept, kept_ids, list_of, new_kept}
-use Rattle.gix_commands.proofs.SameOrders.{in_new, new_in}
+use Rattle.gix_merge_base.proofs.Members.{new_within}
+use Rattle.gix_commands.proofs.SameOrders.{new_in}
 use Rattle.gix_commands.proofs.ListedCommits.{IsSimpleBy, followed, kept_tips}
+use Rattle.gix_merge_base.proofs.Walked.{each_id}
 
 pub unrefused : (infos : List Info) → All IsNoRefusal (given infos)
 unrefused [] = All-nil IsNoRefusal
@@ -95,10 +97,6 @@ none_listed objects m by tips hidden none =
     (transport (λ k. IsListBy (IsNextOne (time_order m by) (time_of objects) (λ c. filter (λ i. not (hidden_so i)) (followed objects texts m by c)) (filter (λ i. not (hidden_so i)) (new_ids (λ i. false) (sym none k)))) [])
     (empty_order (time_order m by) (time_of objects) (λ c. filter (λ i. not (hidden_so i)) (followed objects texts m by c))))
 
-pub each_id : (P : ObjectId → Type 0) (ps : List Pending) → ((p : Pending) → Contains ps p → P p.id) → (i : ObjectId) → Contains (ids_of ps) i → P i
-each_id P [] f i c = absurd (no_member i c)
-each_id P (q ∷ ps) f i c = ⊎_elim (λ e. subst P e (f q (Contains-here q ps))) (λ m. each_id P ps (λ p n. f p (Contains-there p q ps n)) i m) (Contains-cons_cases i q.id (ids_of ps) c)
-
 -- by time the tips were read
 read_tips : (by : Sorting) (first sorted : Walk) → IsSorted first by sorted → by ≢ sorting.BreadthFirst → (i : ObjectId) → Contains (ids_of first.pending) i → IsSome (commit_at first.store i)
 read_tips sorting.BreadthFirst first sorted s other i c = absurd (other refl)
@@ -142,7 +140,7 @@ module _ (objects : Objects) (rows : List GraphRow) (m : Parents) (by : Sorting)
       subst (λ o. IsSome (commit_at o i)) new_walk.same_store (read_tips by starts.made starts.sorted starts.sorts other i (subst (λ xs. Contains xs i) (sym first) (new_in tips i c)))
 
   is_left : (i : ObjectId) → Contains (ids_of walk.pending) i → Contains left i
-  is_left i c = in_new (λ j. false) left i (subst (λ xs. Contains xs i) pending c)
+  is_left i c = new_within (λ j. false) left i (subst (λ xs. Contains xs i) pending c)
 
   pub is_tip : (i : ObjectId) → Contains (ids_of walk.pending) i → Contains tips i
   is_tip i c = filter_within _ tips i (is_left i c)

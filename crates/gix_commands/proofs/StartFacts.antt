@@ -1,10 +1,6 @@
 -- How walks over stored commits start.
-use Rattle.std.proofs.Common.{◌≡◌, ◌≢◌, List, [], ◌++◌, length, Result, Ok, Err, IfErr, refl, sym, ap, subst, ◌∙◌, map-id}
-use Rattle.gix_commands.proofs.Common.{Drains, ObjectId, Objects, GraphRow, Parents, TopoBuilder, Built, fresh_builder, Fault, fault_of_walk, fault_of_topo_walk, objects_of, never_faulty, accepts_all, IsMadeOf, IsStartFault}
-use Rattle.std.specs.declared.vec.IntoIter.{IntoIter}
-use Rattle.std.specs.Vec.Iter.{into_iter_items, into_iter_len, into_iter_steps}
-use Rattle.std.proofs.lemmas.Iterator.{items_from_drains}
-use Rattle.std.proofs.lemmas.Iterator.Adapters.{YieldsList-from_vec}
+use Rattle.std.proofs.Common.{◌≡◌, ◌≢◌, List, [], ◌++◌, Result, Ok, Err, IfErr, refl, sym, ap, subst, ◌∙◌}
+use Rattle.gix_commands.proofs.Common.{ObjectId, Objects, GraphRow, Parents, TopoBuilder, Built, fresh_builder, Fault, fault_of_walk, fault_of_topo_walk, objects_of, never_faulty, accepts_all, IsMadeOf, IsStartFault}
 use Rattle.gix_simple.specs.declared.Error.{Error}
 use Rattle.gix_simple.specs.declared.Error.TheVariants as error
 use Rattle.gix_simple.specs.declared.Sorting.{Sorting}
@@ -18,10 +14,6 @@ use Rattle.gix_commands.specs.Walked.{Walk, IsSorted}
 
 abbrev Builder : Type 0
 Builder = TopoBuilder Objects Unfiltered
-
--- the ids that came out of a vector are the ids that it held
-pub drained : {Z : Type 0} (tips ids : List ObjectId) (it : IntoIter ObjectId Z) → into_iter_items it ≡ tips → into_iter_len it ≡ length tips → Drains into_iter_steps it ids → ids ≡ tips
-drained tips ids it items len d = sym (map-id ids) ∙ items_from_drains ids (d.1.0, d.1.1, λ _. (d.0, d.1.2)) (YieldsList-from_vec tips items len)
 
 ok_same : {a b : Walk} → ◌≡◌ {A = Result Walk Error} (Ok a) (Ok b) → a ≡ b
 ok_same same = cc

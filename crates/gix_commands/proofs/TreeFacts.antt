@@ -32,7 +32,7 @@ answers_of : (old : Tracked) (calls : List Call) (new : Tracked) → Run Tracks 
 answers_of old [] new h = tt
 answers_of old (call ∷ calls) new h = (h.1.1.0, answers_of h.0 calls new h.2)
 
-whole_end : (end : Ending) → IsUnfailed end → is_broken end ≡ false → end ≡ Whole
+pub whole_end : (end : Ending) → IsUnfailed end → is_broken end ≡ false → end ≡ Whole
 whole_end Whole w b = refl
 whole_end Broken w b = cc
 whole_end (Failed why) w b = absurd w

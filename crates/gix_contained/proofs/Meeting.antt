@@ -1,20 +1,20 @@
 -- To meet ids one by one is to meet them all.
-use Rattle.std.proofs.Common.{◌≡◌, ◌≢◌, ◌⊎◌, ◌<◌, ◌≤◌, ℕ, suc, List, [], ◌∷◌, ◌++◌, length, Bool, true, false, ◌||◌, Some, None, Result, Ok, Err, Contains, IfErr, IsErrAnd, IsPermutation, refl, sym, ap, subst, inl, inr, ⊎_elim, ◌∙◌, le_refl, arith}
+use Rattle.std.proofs.Common.{◌≡◌, ◌≢◌, ◌⊎◌, suc, List, [], ◌∷◌, ◌++◌, length, Bool, true, false, ◌||◌, None, Contains, IsPermutation, refl, sym, ap, subst, inl, inr, ⊎_elim, ◌∙◌, le_refl, arith}
 use Rattle.std.specs.FinSet as set
 use Rattle.std.proofs.Math.Nat.{le_trans}
 use Rattle.std.proofs.Math.Path.{transport}
-use Rattle.std.proofs.lemmas.Bool.{false≢true, or_left}
+use Rattle.std.proofs.lemmas.Bool.{false≢true}
 use Rattle.std.proofs.lemmas.List.{nil_from_length}
 use Rattle.std.proofs.lemmas.List.Elements.{Contains-append_cases, Contains-append_left, Contains-append_right}
 use Rattle.std.proofs.lemmas.List.Sorted.{Contains-permutation, IsPermutation-sym, length_permutation}
 use Rattle.gix_hash.specs.declared.ObjectId.{ObjectId}
-use Rattle.gix_hash.specs.Id.{id_cmp, is_among, is_same}
-use Rattle.gix_hash.proofs.Ids.Membership.{among-append, among_is, Contains-cons_cases, Contains-here, Contains-there, id_total, no_member, same_is, same_itself}
+use Rattle.gix_hash.specs.Id.{is_among, is_same}
+use Rattle.gix_hash.proofs.Ids.Membership.{among-append, among_is, Contains-cons_cases, Contains-here, Contains-there, id_total, no_member, same_is}
 use Rattle.gix_hash.proofs.Lists.{only_member}
 use Rattle.gix_object.specs.Object.{Objects}
-use Rattle.gix_commitgraph.specs.Rows.{GraphRow, row_of}
+use Rattle.gix_commitgraph.specs.Rows.{row_of}
 use Rattle.gix_contained.specs.declared.search.Search.{Search}
-use Rattle.gix_contained.specs.Inside.Search.{Follows, FollowFails, GivesParents, IsUnrowed, Knows, MeetFails, Meets, Queued, room}
+use Rattle.gix_contained.specs.Inside.Search.{Knows, MeetFails, Meets, Queued}
 use Rattle.gix_paint.specs.declared.Hidden.{Hidden}
 use Rattle.gix_paint.specs.Painting.{IsFaultAt}
 use Rattle.gix_revwalk.specs.Agreeing.{rows_in}
@@ -25,10 +25,6 @@ or_between : (a b c : Bool) → (b || (a || c)) ≡ ((a || b) || c)
 or_between true true c = refl
 or_between true false c = refl
 or_between false b c = refl
-
-pub fails_as : {T : Type 0} (P : Hidden → Type 0) (r : Result T Hidden) {why : Hidden} → IsErrAnd r (λ e. e ≡ why) → P why → IfErr r P
-fails_as P (Ok done) h x = absurd h
-fails_as P (Err e) h x = subst P (sym h) x
 
 module _ {F : Type 0} (objects : F → Objects) where
   pub meets_none : (s : Search F) → Meets objects [] s s

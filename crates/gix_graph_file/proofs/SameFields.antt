@@ -3,8 +3,8 @@ use Rattle.std.proofs.Common.{◌≡◌, ℕ, ◌/◌, ◌%◌, ◌^◌, ◌<◌
 use Rattle.gix_graph_file.proofs.Common.{to_be_bytes, from_be_bytes, cast_signed, Kind, ParentPlace, id_len, id_of, AreBytes, word_at, row_len, id_field, tree_field, first_field, second_field, generation_field, time_field, row_of_fields}
 use Rattle.gix_graph_file.proofs.Common.{most_rows, no_parent, flag, row_said, first_packed, second_packed}
 use Rattle.std.proofs.lemmas.Int.{to_z_pos}
-use Rattle.std.proofs.lemmas.Nat.{from_be_bytes-to_be_bytes_4, from_be_bytes-to_be_bytes_8}
-use Rattle.gix_commitgraph.proofs.Packed.Fields.{has_parts, row_len-is}
+use Rattle.std.proofs.lemmas.Nat.{from_be_bytes-to_be_bytes_8}
+use Rattle.gix_commitgraph.proofs.Packed.Fields.{has_parts, row_len-is, word_again}
 use Rattle.gix_commitgraph.proofs.Packed.RowTakes.{AreBytes-take, AreBytes-drop}
 use Rattle.gix_graph_file.specs.FileTable.{long_at}
 use Rattle.gix_graph_file.specs.PackedParts.{row_packed}
@@ -36,9 +36,6 @@ second-below n word few fits = go (ltb word flag) refl
     go : (b : Bool) → ltb word flag ≡ b → second_packed n word < 2 ^ 32
     go true e = rw e (first-below n word few)
     go false e = rw e fits
-
-word_again : (n : ℕ) (bytes : List ℕ) → n < 2 ^ 32 → bytes ≡ to_be_bytes w32 n → from_be_bytes w32 bytes ≡ n
-word_again n bytes lt e = ap (from_be_bytes w32) e ∙ from_be_bytes-to_be_bytes_4 n lt
 
 time_again : (n : ℕ) (bytes : List ℕ) → n < 2 ^ 34 → bytes ≡ to_be_bytes w64 n → cast_signed w64 (from_be_bytes w64 bytes) ≡ pos n
 time_again n bytes lt e = ap (λ (b : List ℕ). cast_signed w64 (from_be_bytes w64 b)) e ∙ ap (cast_signed w64) (from_be_bytes-to_be_bytes_8 n (omega arith)) ∙ to_z_pos w64 n (omega arith)

@@ -1,49 +1,20 @@
 -- Whole packed bytes say the same rows as the file, or the same fault.
-use Rattle.std.proofs.Common.{◌≡◌, ◌≢◌, ℕ, zero, suc, ◌+◌, ◌-◌, ◌*◌, ◌/◌, ◌^◌, ◌<◌, ◌≤◌, Bool, true, false, ltb, List, [], ◌∷◌, ◌++◌, length, map, take, drop, Some, None, Result, Ok, Err, IfOk, IfErr, refl, sym, ap, subst, ◌∙◌, arith}
-use Rattle.std.proofs.Common.{w32, flat_map, ne_eqb, eq-eqb, le-leb, lt-ltb, drop_at, length-append, length-drop, length-take}
-use Rattle.gix_graph_file.proofs.Common.{to_be_bytes, from_be_bytes, Kind, GraphError, id_len, GraphRow, most, layout_name, AreBytes, AreGraphRows, words_of, row_len, kind_named, may_have, is_sized, rows_at, read_packed, opened, Error}
+use Rattle.std.proofs.Common.{◌≡◌, ◌≢◌, ℕ, zero, suc, ◌+◌, ◌-◌, ◌*◌, ◌/◌, ◌^◌, ◌<◌, ◌≤◌, Bool, true, false, ltb, List, [], ◌∷◌, ◌++◌, length, map, take, drop, None, Result, Ok, Err, IfOk, IfErr, refl, sym, ap, subst, ◌∙◌, arith}
+use Rattle.std.proofs.Common.{w32, flat_map, ne_eqb, eq-eqb, le-leb, lt-ltb, length-append, length-drop, length-take}
+use Rattle.gix_graph_file.proofs.Common.{to_be_bytes, Kind, GraphError, id_len, GraphRow, most, layout_name, AreBytes, AreGraphRows, words_of, row_len, may_have, is_sized, rows_at, read_packed, opened, Error}
 use Rattle.gix_graph_file.proofs.Common.{◌>>=◌, Parts, most_rows, read_parts, flag, rows_from, rows_of, IsWhole, edge_packed, kind_packed, row_packed, fault_of}
 use Rattle.std.proofs.lemmas.List.{length-map}
-use Rattle.std.proofs.lemmas.Nat.{from_be_bytes-to_be_bytes_4}
 use Rattle.gix_hash.specs.declared.Kind.TheVariants as kind
 use Rattle.gix_commitgraph.specs.declared.Place.{Place}
 use Rattle.gix_commitgraph.specs.declared.Place.TheVariants as place
-use Rattle.gix_commitgraph.proofs.Packed.Fields.{after_part, part_at}
 use Rattle.gix_commitgraph.proofs.Packed.Steps.{length-words_of}
-use Rattle.gix_commitgraph.proofs.Packed.Whole.{AreWords, words_of-bytes, length-word_bytes, HasBody, read-body}
+use Rattle.gix_commitgraph.proofs.Packed.Whole.{AreWords, HasBody, has_body, length-word_bytes, read-body, words_of-bytes}
 use Rattle.gix_graph_file.specs.declared.error.Error.TheVariants as error
 use Rattle.gix_graph_file.specs.FileRows.{read_file}
 use Rattle.gix_graph_file.specs.PackedParts.{rows_packed, parts_packed}
 use Rattle.gix_graph_file.proofs.SameParents.{place-below}
 use Rattle.gix_graph_file.proofs.SameFields.{length-row_packed}
 use Rattle.gix_graph_file.proofs.SameRows.{Says, says-end, says-rows}
-
-kind_named-layout_name : (k : Kind) (rest : List ℕ) → kind_named (layout_name k ++ rest) ≡ Some k
-kind_named-layout_name kind.Sha1 rest = refl
-kind_named-layout_name kind.Sha256 rest = refl
-
-length-layout_name : (k : Kind) → length (layout_name k) ≡ 4
-length-layout_name kind.Sha1 = refl
-length-layout_name kind.Sha256 = refl
-
-has_body : (k : Kind) (n m : ℕ) (name ns ms rows words : List ℕ) → name ≡ layout_name k → ns ≡ to_be_bytes w32 n → ms ≡ to_be_bytes w32 m → n < 2 ^ 32 → m < 2 ^ 32
-    → HasBody k n m rows words (name ++ (ns ++ (ms ++ (rows ++ words))))
-has_body k n m name ns ms rows words name_is ns_is ms_is nf mf =
-    let bytes = name ++ (ns ++ (ms ++ (rows ++ words))) in
-    let name_len : length name ≡ 4 = ap length name_is ∙ length-layout_name k in
-    let ns_len : length ns ≡ 4 = ap length ns_is in
-    let ms_len : length ms ≡ 4 = ap length ms_is in
-    let at_4 : drop 4 bytes ≡ ns ++ (ms ++ (rows ++ words)) = drop_at name (ns ++ (ms ++ (rows ++ words))) 4 name_len in
-    let at_8 : drop 8 bytes ≡ ms ++ (rows ++ words) = after_part 4 8 bytes ns (ms ++ (rows ++ words)) at_4 (omega arith) in
-    let at_12 : drop 12 bytes ≡ rows ++ words = after_part 8 12 bytes ms (rows ++ words) at_8 (omega arith) in
-    record {
-      name = ap (λ (x : List ℕ). kind_named (x ++ (ns ++ (ms ++ (rows ++ words))))) name_is ∙ kind_named-layout_name k (ns ++ (ms ++ (rows ++ words)));
-      n_is = ap (from_be_bytes w32) (part_at 4 4 bytes ns (ms ++ (rows ++ words)) at_4 ns_len ∙ ns_is) ∙ from_be_bytes-to_be_bytes_4 n nf;
-      m_is = ap (from_be_bytes w32) (part_at 8 4 bytes ms (rows ++ words) at_8 ms_len ∙ ms_is) ∙ from_be_bytes-to_be_bytes_4 m mf;
-      body_is = at_12;
-      words_is = after_part 12 (12 + length rows) bytes rows words at_12 refl;
-      len = omega (arith, length-append name (ns ++ (ms ++ (rows ++ words))), length-append ns (ms ++ (rows ++ words)), length-append ms (rows ++ words), length-append rows words);
-    }
 
 edge-below : (n word : ℕ) → n ≤ most_rows → edge_packed n word < 2 ^ 32
 edge-below n word few = go (ltb word flag) refl

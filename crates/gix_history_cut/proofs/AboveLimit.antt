@@ -6,16 +6,11 @@ use Rattle.gix_hash.proofs.Ids.Membership.{Contains-cons_cases, no_member}
 use Rattle.gix_hash.specs.declared.ObjectId.{ObjectId}
 use Rattle.gix_statement.specs.WholeStatement.{Allows, Begins, Choice, chosen, IsNext, IsPending, IsReady, IsShown, start, parent, breadth, newest, oldest, date, topo}
 use Rattle.gix_history_cut.specs.Cut.{BeginsAbove}
-use Rattle.gix_history_cut.proofs.AlikeSides.{AlikeFor, begins_for, named, reach_more}
+use Rattle.gix_history_cut.proofs.AlikeSides.{AlikeFor, begins_for, reach_more}
 use Rattle.gix_history_cut.proofs.BelowLine.{AreFollowed, IsCut, down, down_by, known_same, option_within, up}
 use Rattle.gix_history_cut.proofs.NextOnce.{is_front}
-
-split : {I : Type 0} (ys : List I) (x : I) → Contains ys x → (before after : List I) × (ys ≡ before ++ x ∷ after)
-split [] x m = absurd (no_member x m)
-split (y ∷ ys) x m = ⊎_elim
-    (λ e. ([], ys, ap (λ z. z ∷ ys) e))
-    (λ n. let s = split ys x n in (y ∷ s.0, s.1, ap (λ zs. y ∷ zs) s.2))
-    (Contains-cons_cases x y ys m)
+use Rattle.gix_statement.proofs.EachHistory.{namer}
+use Rattle.gix_statement.proofs.OneAnswer.{split}
 
 all_kept : {I : Type 0} (p : I → Bool) (xs : List I) → ((i : I) → p i ≡ true) → filter p xs ≡ xs
 all_kept p [] h = refl
@@ -40,7 +35,7 @@ met_named follow starts ids i = ⊎_elim
 -- what is pending, ready or next has been met, if what is followed is a parent
 module _ {I : Type 0} (one follow : I → List I) (time : I → ℤ) (starts hidden taken : List I) (among : (c i : I) → Contains (follow c) i → Contains (one c) i) (i : I) where
   pending_met : IsPending one follow time starts hidden taken i → IsMet follow starts taken i
-  pending_met p = ⊎_elim (λ s. inl s) (λ n. inr (named follow taken i n)) (Contains-append_cases starts (flat_map follow taken) i p.0)
+  pending_met p = ⊎_elim (λ s. inl s) (λ n. inr (namer follow taken i n)) (Contains-append_cases starts (flat_map follow taken) i p.0)
 
   ready_met : IsReady one follow time starts hidden taken i → IsMet follow starts taken i
   ready_met ((start s, out), untaken, children) = inl s

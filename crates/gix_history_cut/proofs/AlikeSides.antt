@@ -1,10 +1,11 @@
 -- Two histories that show the same, and follow the same from what they show: a list in one is a list in the other.
 use Rattle.std.proofs.Common.{◌≡◌, ◌⊎◌, ◌≤ℤ◌, ℕ, ℤ, List, [], ◌∷◌, ◌++◌, filter, flat_map, reverse, not, int_le, Contains, refl, sym, ap, subst, inl, inr, ◌∙◌, ⊎_elim}
 use Rattle.std.proofs.lemmas.List.Elements.{All-contains, Contains-append_cases, Contains-append_left, Contains-get_or}
-use Rattle.gix_hash.proofs.Ids.Membership.{no_member, Contains-here, Contains-there}
+use Rattle.gix_hash.proofs.Ids.Membership.{Contains-here, Contains-there}
 use Rattle.gix_statement.specs.WholeStatement.{AreMadeReady, Begins, by_time, IsBest, IsFirst, IsNext, IsNumberShown, IsPending, IsReady, IsShown, IsWhole, Keeps, empty, kept, passed, Reaches, start, parent, breadth, newest, oldest, date, topo}
 use Rattle.gix_statement.proofs.Descents.{reverse_in}
 use Rattle.gix_statement.proofs.Heart.{first_same}
+use Rattle.gix_statement.proofs.EachHistory.{namer}
 
 pub record Alike {I : Type 0} (one two follow follows : I → List I) (time : I → ℤ) (starts hidden : List I) : Type 0 where
   pub there : (i : I) → IsShown one follow time starts hidden i → IsShown two follows time starts hidden i
@@ -37,14 +38,6 @@ pub reach_more : {I : Type 0} (some more : I → List I) (from starts : List I) 
 reach_more some more from starts within among i (start s) = start (among i s)
 reach_more some more from starts within among i (parent {child = c} r m) = parent (reach_more some more from starts within among c r) (within c i m)
 
--- who names it
-pub named : {I : Type 0} (names : I → List I) (ids : List I) (i : I) → Contains (flat_map names ids) i → (c : I) × Contains ids c × Contains (names c) i
-named names [] i m = absurd (no_member i m)
-named names (c ∷ ids) i m = ⊎_elim
-    (λ here. (c, Contains-here c ids, here))
-    (λ there. let n = named names ids i there in (n.0, Contains-there n.0 c ids n.1, n.2))
-    (Contains-append_cases (names c) (flat_map names ids) i m)
-
 names_same : {I : Type 0} (follow follows : I → List I) (ids : List I) → ((c : I) → Contains ids c → follow c ≡ follows c) → flat_map follow ids ≡ flat_map follows ids
 names_same follow follows [] h = refl
 names_same follow follows (c ∷ ids) h = (λ k. h c (Contains-here c ids) k ++ names_same follow follows ids (λ i m. h i (Contains-there i c ids m)) k)
@@ -67,7 +60,7 @@ pub record AlikeFor {I : Type 0} (one two follow follows : I → List I) (time :
 shown_pending : {I : Type 0} (one follow : I → List I) (time : I → ℤ) (starts hidden taken : List I) → ((c : I) → Contains taken c → IsShown one follow time starts hidden c)
     → (i : I) → IsPending one follow time starts hidden taken i → IsShown one follow time starts hidden i
 shown_pending one follow time starts hidden taken shown i (m, untaken, out) = (
-  ⊎_elim (λ s. start s) (λ n. let from = named follow taken i n in parent (shown from.0 from.1).0 from.2) (Contains-append_cases starts (flat_map follow taken) i m),
+  ⊎_elim (λ s. start s) (λ n. let from = namer follow taken i n in parent (shown from.0 from.1).0 from.2) (Contains-append_cases starts (flat_map follow taken) i m),
   out,
 )
 

@@ -4,7 +4,7 @@ use Rattle.std.proofs.lemmas.List.Elements.{All-contains}
 use Rattle.gix_hash.proofs.Ids.Membership.{Contains-cons_cases, Contains-here, no_member}
 use Rattle.gix_hash.specs.declared.ObjectId.{ObjectId}
 use Rattle.gix_statement.specs.WholeStatement.{all, first, since, Follows, IsBase, IsShown, Keeps, Reaches, start, parent}
-use Rattle.gix_statement.proofs.EachHistory.{filter_in, is_young}
+use Rattle.gix_statement.proofs.EachHistory.{filter_in, is_young, take_in}
 use Rattle.gix_history_cut.specs.Cut.{ShowsAbove, IsBelow}
 use Rattle.gix_history_cut.proofs.AlikeSides.{Alike, kept_same, reach_more}
 
@@ -12,10 +12,6 @@ use Rattle.gix_history_cut.proofs.AlikeSides.{Alike, kept_same, reach_more}
 pub record IsCut (Below : ObjectId → Type 0) (parents known : ObjectId → List ObjectId) : Type 0 where
   pub down : (i p : ObjectId) → Below i → Contains (parents i) p → Below p
   pub same : (i : ObjectId) → (known i ≡ parents i) ⊎ ((known i ≡ []) × Below i)
-
-take_in : {I : Type 0} (xs : List I) (i : I) → Contains (take 1 xs) i → Contains xs i
-take_in [] i m = m
-take_in (x ∷ xs) i m = ⊎_elim (λ e. subst (Contains (x ∷ xs)) e (Contains-here x xs)) (λ n. absurd (no_member i n)) (Contains-cons_cases i x [] m)
 
 -- What an option follows of all there is, from the same starts: the same where the parents are known, and nothing is known to be followed from where none are known.
 pub record AreFollowed (parents known : ObjectId → List ObjectId) (time : ObjectId → ℤ) (tips : List ObjectId) (by : List ℕ) (option : List (List ℕ))

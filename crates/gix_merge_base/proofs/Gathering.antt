@@ -33,7 +33,7 @@ named_more tips old new infos info h n =
     ∙ ap (λ xs. tips ++ xs) (ap (λ xs. named_by infos ++ xs) (sym (append-nil info.parent_ids.items)) ∙ sym (flat_map-append (λ (x : Info). x.parent_ids.items) infos (info ∷ [])))
 
 module _ {W E : Type 0} (Steps : W → Option (Result Info E) → W → Type 0) where
-  yields_last : (walk at new : W) (list : List (Result Info E)) (answer : Result Info E) → Yields Steps walk list at → Steps at (Some answer) new → Yields Steps walk (list ++ answer ∷ []) new
+  pub yields_last : (walk at new : W) (list : List (Result Info E)) (answer : Result Info E) → Yields Steps walk list at → Steps at (Some answer) new → Yields Steps walk (list ++ answer ∷ []) new
   yields_last walk at new [] answer h step = (new, subst (λ (w : W). Steps w (Some answer) new) (sym h) step, refl)
   yields_last walk at new (first ∷ list) answer h step = (h.0, h.1, yields_last h.0 at new list answer h.2 step)
 

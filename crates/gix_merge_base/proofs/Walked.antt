@@ -42,11 +42,11 @@ use Rattle.gix_revwalk.proofs.ReadsWhole.{row_parents, row_stands, scan_is}
 use Rattle.gix_revwalk.proofs.Reached.{reach_more}
 use Rattle.gix_revwalk.proofs.Rows.{none_agree, kept_either}
 
-in_ids : (ps : List Pending) (p : Pending) → Contains ps p → Contains (ids_of ps) p.id
+pub in_ids : (ps : List Pending) (p : Pending) → Contains ps p → Contains (ids_of ps) p.id
 in_ids [] p c = absurd (no_member p c)
 in_ids (q ∷ ps) p c = ⊎_elim (λ e. subst (λ i. Contains (q.id ∷ ids_of ps) i) (ap (λ x. x.id) e) (Contains-here q.id (ids_of ps))) (λ m. Contains-there p.id q.id (ids_of ps) (in_ids ps p m)) (Contains-cons_cases p q ps c)
 
-each_id : (P : ObjectId → Type 0) (ps : List Pending) → ((p : Pending) → Contains ps p → P p.id) → (i : ObjectId) → Contains (ids_of ps) i → P i
+pub each_id : (P : ObjectId → Type 0) (ps : List Pending) → ((p : Pending) → Contains ps p → P p.id) → (i : ObjectId) → Contains (ids_of ps) i → P i
 each_id P [] f i c = absurd (no_member i c)
 each_id P (q ∷ ps) f i c = ⊎_elim (λ e. subst P e (f q (Contains-here q ps))) (λ m. each_id P ps (λ p n. f p (Contains-there p q ps n)) i m) (Contains-cons_cases i q.id (ids_of ps) c)
 

@@ -22,14 +22,14 @@ filter_same p q (x ∷ xs) h =
     ∙ ap (λ ids. cond (q x) (x ∷ ids) ids) (filter_same p q xs (λ i c. h i (Contains-there i x xs c)))
 
 -- who names it
-namer : {I : Type 0} (names : I → List I) (ids : List I) (i : I) → Contains (flat_map names ids) i → (c : I) × Contains ids c × Contains (names c) i
+pub namer : {I : Type 0} (names : I → List I) (ids : List I) (i : I) → Contains (flat_map names ids) i → (c : I) × Contains ids c × Contains (names c) i
 namer names [] i m = absurd (no_member i m)
 namer names (c ∷ ids) i m = ⊎_elim
     (λ here. (c, Contains-here c ids, here))
     (λ there. let n = namer names ids i there in (n.0, Contains-there n.0 c ids n.1, n.2))
     (Contains-append_cases (names c) (flat_map names ids) i m)
 
-take_in : {I : Type 0} (xs : List I) (i : I) → Contains (take 1 xs) i → Contains xs i
+pub take_in : {I : Type 0} (xs : List I) (i : I) → Contains (take 1 xs) i → Contains xs i
 take_in [] i m = m
 take_in (x ∷ xs) i m = ⊎_elim (λ e. subst (Contains (x ∷ xs)) e (Contains-here x xs)) (λ n. absurd (no_member i n)) (Contains-cons_cases i x [] m)
 

@@ -7,7 +7,7 @@ use Rattle.gix_statement.proofs.OneCommit.{id_same}
 use Rattle.gix_statement.specs.WholeStatement.{Row}
 use Rattle.gix_statement.specs.CommitGraph.{AreLayers, IsLayer, IsRow, IsChunk, AreParents, none, single, pair, many, AreFurther, last, next, number_at, number_from, bytes_at, flag}
 
-chunk_once : (file letters b c : List ℕ) → IsChunk file letters b → IsChunk file letters c → b ≡ c
+pub chunk_once : (file letters b c : List ℕ) → IsChunk file letters b → IsChunk file letters c → b ≡ c
 chunk_once file letters b c (k, few, name, before, is) (j, least, called, behind, same) = ⊎_elim
     (λ l. absurd (behind k l name))
     (λ l. ⊎_elim (λ m. absurd (before j m called)) (λ m. let e : k ≡ j = omega (arith, l, m) in is ∙ ap (λ n. bytes_at (number_at (12 + 12 * n) 8 file) (number_at (24 + 12 * n) 8 file - number_at (12 + 12 * n) 8 file) file) e ∙ sym same) (below j k))
@@ -26,7 +26,7 @@ drop_nothing (suc n) = refl
 nothing_at : (n : ℕ) → number_at n 4 [] ≡ 0
 nothing_at n = ap (λ xs. number_from 0 (take 4 xs)) (drop_nothing n)
 
-no_further : (edges : List ℕ) (k : ℕ) (ns : List ℕ) → edges ≡ [] → AreFurther edges k ns → ⊥
+pub no_further : (edges : List ℕ) (k : ℕ) (ns : List ℕ) → edges ≡ [] → AreFurther edges k ns → ⊥
 no_further edges k ns e (last n l) = let z : number_at (4 * k) 4 edges ≡ 0 = ap (λ xs. number_at (4 * k) 4 xs) e ∙ nothing_at (4 * k) in omega (arith, l, z)
 no_further edges k ns e (next n l f) = no_further edges (suc k) _ e f
 

@@ -14,7 +14,7 @@ pub mod InEach
 -- One answer: of one history, of one input, of the files of a commit-graph, and from end to end.
 pub mod OneAnswer
 pub mod FedOnce
-mod LayersOnce
+pub mod LayersOnce
 pub mod OneOutput
 pub mod LinesOnce
 mod NamedClash

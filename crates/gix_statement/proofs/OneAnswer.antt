@@ -35,7 +35,7 @@ first_at P i j (x ∷ before) after (y ∷ another) behind names is same n m p q
     let h : before ++ i ∷ after ≡ another ++ j ∷ behind = cc in
     first_at P i j before after another behind (before ++ i ∷ after) refl h (λ k d below. n (suc k) d (omega (arith, below))) (λ k d below. m (suc k) d (omega (arith, below))) p q
 
-first_once : {I : Type 0} (P : I → Type 0) (names : List I) (i j : I) → IsFirst P names i → IsFirst P names j → i ≡ j
+pub first_once : {I : Type 0} (P : I → Type 0) (names : List I) (i j : I) → IsFirst P names i → IsFirst P names j → i ≡ j
 first_once P names i j (before, after, is, none, p) (another, behind, same, none_there, q) = first_at P i j before after another behind names is same none none_there p q
 
 keeps_once : {I : Type 0} (P : List I → I → List I → Type 0) {before names those others : List I} → Keeps P before names those → Keeps P before names others → those ≡ others
@@ -82,7 +82,7 @@ module _ {I : Type 0} (parents followed : I → List I) (time : I → ℤ) (star
   abbrev Oldest : (I → Type 0) → I → Type 0
   Oldest P = IsBest (λ a b. time a ≤ℤ time b) P
 
-  next_once : (taken : List I) (i j : I) (by : List ℕ) → IsNext parents followed time starts hidden taken i by → IsNext parents followed time starts hidden taken j by → i ≡ j
+  pub next_once : (taken : List I) (i j : I) (by : List ℕ) → IsNext parents followed time starts hidden taken i by → IsNext parents followed time starts hidden taken j by → i ≡ j
   next_once taken i j by (breadth f) (breadth g) = first_once (Pending taken) (starts ++ flat_map followed taken) i j f g
   next_once taken i j by (newest f) (newest g) = first_once (Newest (Pending taken)) (starts ++ flat_map followed taken) i j f g
   next_once taken i j by (oldest f) (oldest g) = first_once (Oldest (Pending taken)) (starts ++ flat_map followed taken) i j f g
@@ -153,7 +153,7 @@ module _ {I : Type 0} (parents followed : I → List I) (time : I → ℤ) (star
         begun_either by ids others (taken ++ x ∷ []) xs ys l m (is ∙ sym (append_assoc taken (x ∷ []) xs)) (same ∙ ap (λ z. taken ++ z ∷ ys) (sym h) ∙ sym (append_assoc taken (x ∷ []) ys))
 
 -- COUNTS: two lists without repeats that have the same members are as long as each another
-split : {I : Type 0} (ys : List I) (x : I) → Contains ys x → (before after : List I) × (ys ≡ before ++ x ∷ after)
+pub split : {I : Type 0} (ys : List I) (x : I) → Contains ys x → (before after : List I) × (ys ≡ before ++ x ∷ after)
 split [] x m = absurd (no_member x m)
 split (y ∷ ys) x m = ⊎_elim
     (λ e. ([], ys, ap (λ z. z ∷ ys) e))
@@ -254,7 +254,7 @@ tips_once (word ∷ words) tips hidden others below (inr (i, more, is, id, v, s,
     (h.0, is ∙ (λ k. e k ∷ h.1 k) ∙ sym same)
 
 -- a word of tips is long
-long_word : (word : List ℕ) (words : List (List ℕ)) (tips hidden : List ObjectId) → AreTips (word ∷ words) tips hidden → 40 ≤ length word
+pub long_word : (word : List ℕ) (words : List (List ℕ)) (tips hidden : List ObjectId) → AreTips (word ∷ words) tips hidden → 40 ≤ length word
 long_word word words tips hidden (inl (i, more, is, s, a)) = ⊎_elim (λ (e : digits_in i ≡ 40). omega (arith, e, s.0)) (λ (e : digits_in i ≡ 64). omega (arith, e, s.0)) (is_wide i)
 long_word word words tips hidden (inr (i, more, is, id, w, s, a)) =
     let l : length word ≡ suc (length id) = ap length w in
@@ -372,13 +372,13 @@ split_option option another rest more a b n m is = go a b
         let same : rest ≡ more = cc in
         (e ∙ ap (λ x. codes "--since" ∷ x ∷ []) one ∙ sym f, same)
 
--- words choose one thing
+-- words choose one thing, of the same ids
 pub choice_once : {tips hidden others below : List ObjectId} {p q : ℕ} (by name : List ℕ) (option another rest more : List (List ℕ)) (c d : Choice) → IsOption option → IsOption another
-    → Chooses tips hidden p rest c → Chooses others below q more d → by ∷ (option ++ rest) ≡ name ∷ (another ++ more) → c ≡ d
+    → Chooses tips hidden p rest c → Chooses others below q more d → by ∷ (option ++ rest) ≡ name ∷ (another ++ more) → (c ≡ d) × (tips ≡ others) × (hidden ≡ below)
 choice_once {others = others} {below = below} {q = q} by name option another rest more c d a b chooses picks is =
     let both : option ++ rest ≡ another ++ more = cc in
     let o = split_option option another rest more a b (no_option rest c chooses) (no_option more d picks) both in
-    (chosen_once rest c d chooses (subst (λ x. Chooses others below q x d) (sym o.1) picks)).0
+    chosen_once rest c d chooses (subst (λ x. Chooses others below q x d) (sym o.1) picks)
 
 module _ (parents : ObjectId → List ObjectId) (time : ObjectId → ℤ) where
   pub is_option : {tips : List ObjectId} {by : List ℕ} (option : List (List ℕ)) {followed : ObjectId → List ObjectId} {starts : List ObjectId} → Follows parents time tips by option followed starts → IsOption option

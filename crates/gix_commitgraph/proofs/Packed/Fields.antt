@@ -78,7 +78,7 @@ second_word-below n w (p ∷ []) few fits all = omega arith
 second_word-below n w (p ∷ q ∷ []) few fits all = omega (arith, place_word-below n q few all.1.0)
 second_word-below n w (p ∷ q ∷ r ∷ ps) few fits all = omega arith
 
-word_again : (n : ℕ) (bytes : List ℕ) → n < 2 ^ 32 → bytes ≡ to_be_bytes w32 n → from_be_bytes w32 bytes ≡ n
+pub word_again : (n : ℕ) (bytes : List ℕ) → n < 2 ^ 32 → bytes ≡ to_be_bytes w32 n → from_be_bytes w32 bytes ≡ n
 word_again n bytes lt e = ap (from_be_bytes w32) e ∙ from_be_bytes-to_be_bytes_4 n lt
 
 pub has_row : (k : Kind) (n w : ℕ) (row : GraphRow) (rest : List ℕ) → n ≤ most → w ≤ most → IsRowAmong k n row → HasRow k w row (row_bytes w row ++ rest) rest

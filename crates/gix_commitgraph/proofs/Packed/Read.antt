@@ -19,11 +19,11 @@ use Rattle.gix_commitgraph.proofs.Packed.RowSearch.{is_Less}
 
 -- ---- ids in order
 
-below_all : (i j : ObjectId) (ids : List ObjectId) → id_cmp i j ≡ Less → AllByRecursion (λ x. id_cmp j x ≡ Less) ids → AllByRecursion (λ x. id_cmp i x ≡ Less) ids
+pub below_all : (i j : ObjectId) (ids : List ObjectId) → id_cmp i j ≡ Less → AllByRecursion (λ x. id_cmp j x ≡ Less) ids → AllByRecursion (λ x. id_cmp i x ≡ Less) ids
 below_all i j [] lt all = tt
 below_all i j (x ∷ ids) lt all = (id_total.trans i j x lt all.0, below_all i j ids lt all.1)
 
-rises : (row : GraphRow) (rows : List GraphRow) → Begins (Some row.id) rows → IsStrictlySortedBy id_cmp (ids_of_rows rows) → IsStrictlySortedBy id_cmp (ids_of_rows (row ∷ rows))
+pub rises : (row : GraphRow) (rows : List GraphRow) → Begins (Some row.id) rows → IsStrictlySortedBy id_cmp (ids_of_rows rows) → IsStrictlySortedBy id_cmp (ids_of_rows (row ∷ rows))
 unfolding IsStrictlySortedBy
 rises row [] first rising = (tt, tt)
 rises row (next ∷ rows) first rising =

@@ -80,7 +80,7 @@ length-layout_name : (k : Kind) → length (layout_name k) ≡ 4
 length-layout_name kind.Sha1 = refl
 length-layout_name kind.Sha256 = refl
 
-has_body : (k : Kind) (n m : ℕ) (name ns ms rows words : List ℕ) → name ≡ layout_name k → ns ≡ to_be_bytes w32 n → ms ≡ to_be_bytes w32 m → n < 2 ^ 32 → m < 2 ^ 32
+pub has_body : (k : Kind) (n m : ℕ) (name ns ms rows words : List ℕ) → name ≡ layout_name k → ns ≡ to_be_bytes w32 n → ms ≡ to_be_bytes w32 m → n < 2 ^ 32 → m < 2 ^ 32
     → HasBody k n m rows words (name ++ (ns ++ (ms ++ (rows ++ words))))
 has_body k n m name ns ms rows words name_is ns_is ms_is nf mf =
     let bytes = name ++ (ns ++ (ms ++ (rows ++ words))) in

@@ -9,11 +9,11 @@ use Rattle.gix_object.specs.declared.Kind.TheVariants as kind
 use Rattle.gix_names.specs.Named.{name_text, name_of}
 
 -- round t
-abbrev step : List ℕ → List ℕ → ℕ → List ℕ
+abbrev pub step : List ℕ → List ℕ → ℕ → List ℕ
 step v w t = round v (round_fn t (slice_index v 1) (slice_index v 2) (slice_index v 3)) (round_constant t) (slice_index w t)
 
 -- n rounds from round t on
-abbrev more_rounds : ℕ → List ℕ → List ℕ → ℕ → List ℕ
+abbrev pub more_rounds : ℕ → List ℕ → List ℕ → ℕ → List ℕ
 more_rounds zero v w t = v
 more_rounds (suc n) v w t = more_rounds n (step v w t) w (suc t)
 
@@ -23,7 +23,7 @@ rounds_on zero v w t = let e : t ≡ zero + t = omega arith in ap (rounds v w) e
 rounds_on (suc n) v w t = let e : n + suc t ≡ suc n + t = omega arith in rounds_on n v w (suc t) ∙ ap (rounds v w) e
 
 -- n words more than the first t + 16
-abbrev more_words : ℕ → List ℕ → ℕ → List ℕ
+abbrev pub more_words : ℕ → List ℕ → ℕ → List ℕ
 more_words zero w t = w
 more_words (suc n) w t = more_words n (w ++ next_word w (t + 16) ∷ []) (suc t)
 
@@ -32,10 +32,10 @@ unfolding schedule
 words_on zero b t = let e : t ≡ zero + t = omega arith in ap (schedule b) e
 words_on (suc n) b t = let e : n + suc t ≡ suc n + t = omega arith in words_on n b (suc t) ∙ ap (schedule b) e
 
-abbrev words_of : List ℕ → List ℕ
+abbrev pub words_of : List ℕ → List ℕ
 words_of b = more_words 64 (first_words b 16) 0
 
-compressed : (h b : List ℕ) → compress h b ≡ add_state h (more_rounds 80 h (words_of b) 0)
+pub compressed : (h b : List ℕ) → compress h b ≡ add_state h (more_rounds 80 h (words_of b) 0)
 unfolding compress rounds schedule
 compressed h b = ap (add_state h) (ap (λ w. rounds h w 80) (sym (words_on 64 b 0)) ∙ sym (rounds_on 80 h (words_of b) 0))
 

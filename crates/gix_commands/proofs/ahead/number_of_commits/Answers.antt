@@ -1,5 +1,5 @@
 use Rattle.std.proofs.Common.{refl, sym, [], ◌++◌, ◌∷◌}
-use Rattle.gix_commands.proofs.OutputFacts.{drawn_one}
+use Rattle.gix_merge_base.proofs.Gathering.{drawn_one}
 use Rattle.gix_commands.proofs.AheadFacts.{numbers_failed, numbers_cut, numbers_all, one_more}
 use Rattle.gix_commands.proofs.ahead.number_of_commits.Goals as goal
 

@@ -1,6 +1,7 @@
 use Rattle.std.proofs.Common.{List, Ok, ◌∙◌}
 use Rattle.gix_commands.proofs.Common.{err_from_is_err_and, ObjectId}
-use Rattle.gix_commands.proofs.StartFacts.{drained, chosen, fresh_over, built_from, build_failed}
+use Rattle.gix_merge_base.proofs.Starting.{drained}
+use Rattle.gix_commands.proofs.StartFacts.{chosen, fresh_over, built_from, build_failed}
 use Rattle.gix_commands.proofs.commits.topo_walk_from.Goals as goal
 
 pub returns-in_err-walk-clause-err : goal.returns-in_err-walk-clause-err

@@ -1,7 +1,8 @@
 use Rattle.std.proofs.Common.{List, ◌∙◌}
 use Rattle.gix_commands.proofs.Common.{err_from_is_err_and, ObjectId}
 use Rattle.gix_commands.specs.Walked.{Walk}
-use Rattle.gix_commands.proofs.StartFacts.{drained, held, made_of, is_sorted, start_failed}
+use Rattle.gix_merge_base.proofs.Starting.{drained}
+use Rattle.gix_commands.proofs.StartFacts.{held, made_of, is_sorted, start_failed}
 use Rattle.gix_commands.proofs.commits.walk_from.Goals as goal
 
 pub returns-in_err-sorted-clause-err : goal.returns-in_err-sorted-clause-err

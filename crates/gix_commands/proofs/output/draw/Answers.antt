@@ -4,7 +4,8 @@ use Rattle.gix_commands.specs.Chosen.{HasTextIn, line_in}
 use Rattle.gix_commands.specs.Output.{held_in}
 use Rattle.gix_commands.specs.declared.output.Sink.{Sink}
 use Rattle.gix_commands.proofs.ChosenFacts.{at_first, have_more, have_none, joined, lacks_at, lines_at, moves, none_kept, takes_kept, takes_left, text_at}
-use Rattle.gix_commands.proofs.OutputFacts.{adds_all, adds_cut, adds_enough, adds_failed, adds_none, drawn_one, same_form, stops_at_end, stops_enough, takes_nothing}
+use Rattle.gix_merge_base.proofs.Gathering.{drawn_one}
+use Rattle.gix_commands.proofs.OutputFacts.{adds_all, adds_cut, adds_enough, adds_failed, adds_none, same_form, stops_at_end, stops_enough, takes_nothing}
 use Rattle.gix_commands.proofs.output.draw.Goals as goal
 use Rattle.gix_commands.proofs.output.draw.Goals.{then-branch+in_ok-take, else-branch}
 
