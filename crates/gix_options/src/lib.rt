@@ -1,6 +1,7 @@
 //! What the arguments of the program ask of a repository, and what its help says. Nothing is opened or printed here.
 #![tactic(auto)]
 
+mod arguments;
 mod date;
 mod format;
 mod help;
@@ -8,12 +9,13 @@ mod hint;
 mod lines;
 mod misuse;
 mod name;
+mod options;
 mod question;
 
+pub use arguments::{read_arguments, read_question};
 pub use help::{COMMANDS, Command, NOTES, USAGE, VERSION, WHAT, help_of};
 pub use lines::read_lines;
 pub use misuse::Misuse;
 pub use name::Name;
-pub use question::{
-    Asked, Asks, Options, Place, Question, Refs, Rows, read_arguments, read_question,
-};
+pub use options::{Options, Rows};
+pub use question::{Asked, Asks, Place, Question, Refs};
