@@ -10,3 +10,5 @@ pub mod ReadRows
 pub mod IdsBetween
 -- The parents of a graph's row, and those of the file's.
 pub mod ParentPlaces
+-- Sound layers have the rows that the page CommitGraph says.
+pub mod SameLayers

@@ -1,8 +1,7 @@
 -- The parents of a graph's row, and those of the file's.
-use Rattle.std.proofs.Common.{◌≡◌, ◌≢◌, ◌⊎◌, inl, inr, ⊎_elim, ℕ, suc, ◌+◌, ◌-◌, ◌*◌, ◌<◌, ◌≤◌, Bool, true, false, not, List, [], ◌∷◌, map, take, slice_get, add-one, Option, Some, None, Ok, IfOk, IfSome, Contains, is_some, refl, sym, ap, subst, ◌∙◌, arith}
+use Rattle.std.proofs.Common.{◌≡◌, ◌≢◌, ◌⊎◌, inl, inr, ⊎_elim, ℕ, ◌+◌, ◌-◌, ◌*◌, ◌<◌, ◌≤◌, Bool, true, false, not, List, [], ◌∷◌, map, slice_get, add-one, Option, Some, None, Ok, IfOk, IfSome, Contains, is_some, refl, sym, ap, subst, ◌∙◌, arith}
 use Rattle.std.specs.Iterator.{YieldsFirst}
 use Rattle.std.specs.Option.{option_map}
-use Rattle.std.proofs.Math.Seq.{drop-nil}
 use Rattle.std.proofs.lemmas.List.Elements.{All-nil, Contains-get_or}
 use Rattle.std.proofs.lemmas.Option.{get_or_from_slice_get, slice_get_within}
 use Rattle.gix_commitgraph.specs.Parents.{Answer, answers_of}
@@ -13,11 +12,12 @@ use Rattle.gix_commitgraph.specs.declared.Position.{Position}
 use Rattle.gix_graph_check.proofs.Places.{AreWithin, first-within, rest-within}
 use Rattle.gix_graph_check.specs.HeadsReach.{ids_of_places}
 use Rattle.gix_hash.specs.declared.ObjectId.{ObjectId}
-use Rattle.gix_statement.specs.CommitGraph.{AreFurther, AreParents, flag, last, many, next, no_parent, none, number_at, number_from, pair, single}
+use Rattle.gix_statement.specs.CommitGraph.{AreFurther, AreParents, flag, last, many, next, no_parent, none, number_at, pair, single}
 use Rattle.gix_statement.specs.WholeStatement.{Row}
 use Rattle.gix_graph_pages.specs.PagedRows.{AreFurtherIds, AreIdsOf, AreParentIds, IsEdge, IsRowOfFile, SaysRow, ids_of_answers}
 use Rattle.gix_graph_pages.specs.declared.rows.FileRow.{FileRow}
 use Rattle.gix_graph_pages.proofs.IdsBetween.{At}
+use Rattle.gix_statement.proofs.LayersOnce.{no_further}
 
 -- ---- places, one after the other
 
@@ -74,24 +74,16 @@ two_parents file rows one other i j e f small there too edges numbers chunk are 
 
 -- ---- further parents
 
-no_word : (k : ℕ) → number_at (4 * k) 4 [] ≡ 0
-no_word k = ap (λ bytes. number_from 0 (take 4 bytes)) (drop-nil (4 * k))
-
--- where there are no words, no one is the last
-none_further : (edges : List ℕ) (k : ℕ) (numbers : List ℕ) → edges ≡ [] → AreFurther edges k numbers → ⊥
-none_further edges k numbers e (last n l) = let z : number_at (4 * k) 4 edges ≡ 0 = ap (number_at (4 * k) 4) e ∙ no_word k in omega (arith, l, z)
-none_further edges k numbers e (next n l more) = none_further edges (suc k) _ e more
-
 module _ (file : List ℕ) (rows : List Row) (k word : ℕ) (i : ObjectId) (is : IsEdge file k word) where
   pub last_further : flag ≤ word → At rows (word - flag) i → AreFurtherIds file rows k (i ∷ [])
-  last_further high there edges numbers chunk are = ⊎_elim (λ c. go (is edges c) numbers are) (λ e. absurd (none_further edges k numbers e are)) chunk
+  last_further high there edges numbers chunk are = ⊎_elim (λ c. go (is edges c) numbers are) (λ e. absurd (no_further edges k numbers e are)) chunk
     where
       go : number_at (4 * k) 4 edges ≡ word → (numbers : List ℕ) → AreFurther edges k numbers → AreIdsOf rows numbers (i ∷ [])
       go e numbers (last n l) = ap (λ x. x ∷ []) (got rows (number_at (4 * k) 4 edges - flag) i (subst (λ n. At rows (n - flag) i) (sym e) there))
       go e numbers (next n l more) = absurd (omega (arith, l, e, high))
 
   pub next_further : (ids : List ObjectId) → word < flag → At rows word i → AreFurtherIds file rows (k + 1) ids → AreFurtherIds file rows k (i ∷ ids)
-  next_further ids low there others edges numbers chunk are = ⊎_elim (λ c. go (is edges c) numbers are) (λ e. absurd (none_further edges k numbers e are)) chunk
+  next_further ids low there others edges numbers chunk are = ⊎_elim (λ c. go (is edges c) numbers are) (λ e. absurd (no_further edges k numbers e are)) chunk
     where
       go : number_at (4 * k) 4 edges ≡ word → (numbers : List ℕ) → AreFurther edges k numbers → AreIdsOf rows numbers (i ∷ ids)
       go e numbers (last n l) = absurd (omega (arith, l, e, low))

@@ -4,3 +4,5 @@ pub mod GraphPages
 pub mod PagedRows
 -- A worked file of two rows, whose first page was read and whose second wasn't.
 pub mod PagesExamples
+-- A worked chain of two files.
+pub mod ChainExample

@@ -1,5 +1,5 @@
--- What the bytes of pages say of the rows of their file.
-use Rattle.std.specs.Prelude.{◌≡◌, ◌≢◌, ◌⊎◌, ℕ, ◌+◌, ◌*◌, ◌≤◌, ◌<◌, codes, List, [], ◌∷◌, map, slice_get, Option, Some, IfSome, Ok, Err, All, Contains}
+-- What the bytes of pages say of the rows of their files.
+use Rattle.std.specs.Prelude.{◌≡◌, ◌≢◌, ◌⊎◌, ℕ, ◌+◌, ◌*◌, ◌≤◌, ◌<◌, codes, List, [], ◌∷◌, length, take, map, slice_get, Option, Some, IfSome, Ok, Err, All, Contains}
 use Rattle.std.specs.Option.{option_map}
 use Rattle.gix_hash.specs.declared.ObjectId.{ObjectId}
 use Rattle.gix_hash.specs.Id.{id_len}
@@ -9,30 +9,56 @@ use Rattle.gix_commitgraph.specs.declared.Position.{Position}
 use Rattle.gix_graph_check.specs.HeadsReach.{ids_of_places}
 use Rattle.gix_statement.specs.WholeStatement.{Row}
 use Rattle.gix_statement.specs.CommitGraph.{AreFurther, AreParents, IsChunk, bytes_at, number_at}
-use Rattle.gix_graph_pages.specs.GraphPages.{IsPagedFile, width_of}
+use Rattle.gix_graph_pages.specs.GraphPages.{AreSoundLayers, HaveFiles, Layer, all_rows, width_of}
 use Rattle.gix_graph_pages.specs.declared.layout.Layout.{Layout}
 use Rattle.gix_graph_pages.specs.declared.rows.FileRow.{FileRow}
 
 abbrev pub Pages : Type 0
-Pages = List (Option (List ℕ))
+Pages = List (List (Option (List ℕ)))
 
--- so it is of each file that has these pages
-abbrev pub InEachFile : Pages → ((file : List ℕ) → (rows : List Row) → (generation : ObjectId → ℕ) → Type 0) → Type 0
-InEachFile pages IsSo = (file : List ℕ) (rows : List Row) (generation : ObjectId → ℕ) → IsPagedFile pages file rows generation → IsSo file rows generation
+-- layers in order and sound, whose files have these pages
+pub record ArePaged (pages : Pages) (layers : List Layer) (generation : ObjectId → ℕ) : Type 0 where
+  pub files : HaveFiles pages layers
+  pub sound : AreSoundLayers layers generation
 
--- where the rows of each file that has these pages are
+-- so it is of each such graph
+abbrev pub InEachGraph : Pages → ((layers : List Layer) → (generation : ObjectId → ℕ) → Type 0) → Type 0
+InEachGraph pages IsSo = (layers : List Layer) (generation : ObjectId → ℕ) → ArePaged pages layers generation → IsSo layers generation
+
+-- so it is of the layer of this number of each
+abbrev pub InEachLayer : Pages → (number : ℕ) → ((layers : List Layer) → (layer : Layer) → (generation : ObjectId → ℕ) → Type 0) → Type 0
+InEachLayer pages number IsSo = InEachGraph pages (λ layers generation. (layer : Layer) → slice_get layers number ≡ Some layer → IsSo layers layer generation)
+
+-- a layout has what the head of its file says: the kind of the ids, and where ids, rows and further parents are
+pub record SaysLayout (pages : Pages) (layout : Layout) : Type 0 where
+  pub width : InEachLayer pages layout.layer (λ layers layer generation. width_of layer.file ≡ id_len layout.kind)
+  pub ids : InEachLayer pages layout.layer (λ layers layer generation. (bytes : List ℕ) → IsChunk layer.file (codes "OIDL") bytes
+      → bytes ≡ bytes_at layout.ids (id_len layout.kind * layout.rows) layer.file)
+  pub said : InEachLayer pages layout.layer (λ layers layer generation. (bytes : List ℕ) → IsChunk layer.file (codes "CDAT") bytes
+      → bytes ≡ bytes_at layout.data ((id_len layout.kind + 16) * layout.rows) layer.file)
+  pub further : IfSome layout.edges (λ chunk. InEachLayer pages layout.layer (λ layers layer generation. (bytes : List ℕ)
+      → IsChunk layer.file (codes "EDGE") bytes → bytes ≡ bytes_at chunk.from chunk.len layer.file))
+
+-- where the rows of a layer are, in its file and among the rows of all layers
 pub record IsLayoutOf (pages : Pages) (layout : Layout) : Type 0 where
-  pub width : InEachFile pages (λ file rows generation. width_of file ≡ id_len layout.kind)
-  pub ids : InEachFile pages (λ file rows generation. (bytes : List ℕ) → IsChunk file (codes "OIDL") bytes
-      → bytes ≡ bytes_at layout.ids (id_len layout.kind * layout.rows) file)
-  pub said : InEachFile pages (λ file rows generation. (bytes : List ℕ) → IsChunk file (codes "CDAT") bytes
-      → bytes ≡ bytes_at layout.data ((id_len layout.kind + 16) * layout.rows) file)
-  pub further : IfSome layout.edges (λ chunk. InEachFile pages (λ file rows generation. (bytes : List ℕ) → IsChunk file (codes "EDGE") bytes
-      → bytes ≡ bytes_at chunk.from chunk.len file))
+  pub there : layout.layer < length pages
+  pub head : SaysLayout pages layout
+  pub start : InEachGraph pages (λ layers generation. length (all_rows (take layout.layer layers)) ≡ layout.start)
+  pub count : InEachLayer pages layout.layer (λ layers layer generation. length layer.rows ≡ layout.rows)
 
--- this row of a file has this id
+-- those of all layers, lowest first
+pub record AreLayouts (pages : Pages) (layouts : List Layout) : Type 0 where
+  pub count : length layouts ≡ length pages
+  pub each : (k : ℕ) (layout : Layout) → slice_get layouts k ≡ Some layout → (layout.layer ≡ k) × IsLayoutOf pages layout
+
+-- this row of a graph has this id
 abbrev pub HasId : Pages → ℕ → ObjectId → Type 0
-HasId pages number i = InEachFile pages (λ file rows generation. (r : Row) × (slice_get rows number ≡ Some r) × (r.id ≡ i))
+HasId pages number i = InEachGraph pages (λ layers generation. (r : Row) × (slice_get (all_rows layers) number ≡ Some r) × (r.id ≡ i))
+
+-- this row, which is in the file of a layout, has this id
+abbrev pub HasIdIn : Pages → Layout → ℕ → ObjectId → Type 0
+HasIdIn pages layout number i = InEachLayer pages layout.layer (λ layers layer generation.
+    (own : ℕ) × (layout.start + own ≡ number) × ((r : Row) × (slice_get layer.rows own ≡ Some r) × (r.id ≡ i)))
 
 -- these bytes are those that say further parents in a file, which may have none
 abbrev pub AreEdges : (file edges : List ℕ) → Type 0
@@ -46,7 +72,7 @@ IsEdge file number word = (edges : List ℕ) → IsChunk file (codes "EDGE") edg
 abbrev pub AreIdsOf : List Row → (numbers : List ℕ) → List ObjectId → Type 0
 AreIdsOf rows numbers ids = map Some ids ≡ map (λ n. option_map (λ parent. parent.id) (slice_get rows n)) numbers
 
--- this row of a file says this
+-- this row of a graph, which is in this file, says this
 pub record SaysRow (file : List ℕ) (rows : List Row) (generation : ObjectId → ℕ) (number : ℕ) (read : FileRow) : Type 0 where
   pub row : Row
   pub there : slice_get rows number ≡ Some row
@@ -60,7 +86,7 @@ pub record SaysRow (file : List ℕ) (rows : List Row) (generation : ObjectId �
   pub parents : AreParents edges read.first read.second numbers
   pub ids : AreIdsOf rows numbers row.parents
 
--- a place of a row of a graph: the row there has the id that the row of this number in a file has
+-- a place of a row of a graph: the row there has the id that the row of this number in the files has
 pub record IsPlaceOf (pages : Pages) (graph : List GraphRow) (number : ℕ) (place : Option Answer) : Type 0 where
   pub position : Position
   pub is : place ≡ Some (Ok position)
@@ -80,7 +106,7 @@ ids_of_answers graph [] = []
 ids_of_answers graph (Ok position ∷ answers) = (row_at graph position.0).id ∷ ids_of_answers graph answers
 ids_of_answers graph (Err fault ∷ answers) = ids_of_answers graph answers
 
--- A row of a graph says what a row of the file says. Below a generation it has no parents.
+-- A row of a graph says what a row of the files says. Below a generation it has no parents.
 pub record IsRowOfFile (least : ℕ) (graph : List GraphRow) (rows : List Row) (generation : ObjectId → ℕ) (row : GraphRow) : Type 0 where
   pub said : Row
   pub there : Contains rows said
@@ -92,11 +118,11 @@ pub record IsRowOfFile (least : ℕ) (graph : List GraphRow) (rows : List Row) (
 
 -- all rows of a graph are such rows
 abbrev pub ArePart : Pages → (graph : List GraphRow) → (least : ℕ) → Type 0
-ArePart pages graph least = InEachFile pages (λ file rows generation. (row : GraphRow) → Contains graph row → IsRowOfFile least graph rows generation row)
+ArePart pages graph least = InEachGraph pages (λ layers generation. (row : GraphRow) → Contains graph row → IsRowOfFile least graph (all_rows layers) generation row)
 
 -- no row has this id
 abbrev pub HasNoRow : Pages → ObjectId → Type 0
-HasNoRow pages i = InEachFile pages (λ file rows generation. All (λ r. r.id ≢ i) rows)
+HasNoRow pages i = InEachGraph pages (λ layers generation. All (λ r. r.id ≢ i) (all_rows layers))
 
 -- the commit has a row in the graph, which isn't below the generation, or no row at all
 abbrev pub IsAbove : Pages → (graph : List GraphRow) → (least : ℕ) → ObjectId → Type 0

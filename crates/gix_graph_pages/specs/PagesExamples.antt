@@ -1,13 +1,15 @@
--- A worked file of two rows, whose first page was read and whose second wasn't.
-use Rattle.std.specs.Prelude.{◌≡◌, ℕ, zero, suc, ◌+◌, ◌*◌, ◌/◌, ◌<◌, ◌^◌, pos, List, [], ◌∷◌, ◌++◌, length, replicate, slice_get, slice_index, codes, Option, Some, None, All, AllPairs, Contains, refl}
-use Rattle.std.proofs.Common.{sym, subst, arith, inl, inr, ⊎_elim}
+-- A worked file of two rows, whose first page was read and whose second wasn't. A file of git's has the chunk OIDF as well, by which the
+-- program searches, and of which the page says nothing.
+use Rattle.std.specs.Prelude.{◌≡◌, ℕ, zero, suc, ◌+◌, ◌*◌, ◌/◌, ◌<◌, ◌^◌, pos, List, [], ◌∷◌, ◌++◌, length, replicate, take, slice_get, slice_index, codes, Option, Some, None, All, AllPairs, Contains, refl}
+use Rattle.std.proofs.lemmas.Option.{same_Some}
+use Rattle.std.proofs.Common.{sym, subst, ap, ◌∙◌, arith, inl, inr, ⊎_elim}
 use Rattle.std.specs.declared.cmp.Ordering.TheVariants.{Less}
 use Rattle.gix_hash.specs.declared.ObjectId.{ObjectId}
 use Rattle.gix_hash.specs.declared.ObjectId.TheVariants.{Sha1, Sha256}
 use Rattle.gix_hash.proofs.Ids.Membership.{Contains-cons_cases, no_member}
 use Rattle.gix_statement.specs.WholeStatement.{Row, by_bytes}
-use Rattle.gix_statement.specs.CommitGraph.{AreLayers, IsChunk, IsRow, bytes_at, number_at, none, single}
-use Rattle.gix_graph_pages.specs.GraphPages.{HavePages, IsPagedFile, width_of}
+use Rattle.gix_statement.specs.CommitGraph.{IsChunk, IsLayer, IsRow, bytes_at, number_at, none, single}
+use Rattle.gix_graph_pages.specs.GraphPages.{AreSoundLayers, HaveFiles, HavePages, IsSoundLayer, Layer, width_of}
 
 -- a commit with no parent, and its child
 abbrev pub first_row : Row
@@ -83,12 +85,8 @@ rows_said (suc zero) r e =
     subst (IsRow 20 two_ids two_said [] two 1) same is
 rows_said (suc (suc k)) r e = absurd (let no : ◌≡◌ {A = Option Row} None (Some r) = e in cc)
 
-pub two_layers : AreLayers [] (two_file ∷ []) [] two
-two_layers = (
-  two,
-  (20, two_ids, two_said, [], refl, inl (refl, refl), refl, (λ k d l. absurd (omega (arith, l))), inl refl, ids_found, said_found, inr refl, refl, refl, rows_said),
-  refl,
-)
+pub two_layer : IsLayer [] two_file [] two
+two_layer = (20, two_ids, two_said, [], refl, inl (refl, refl), refl, (λ k d l. absurd (omega (arith, l))), inl refl, ids_found, said_found, inr refl, refl, refl, rows_said)
 
 rises : AllPairs (λ (r s : Row). by_bytes r.id s.id ≡ Less) two
 rises zero zero d l within = absurd (omega (arith, l))
@@ -107,7 +105,7 @@ levels bytes k r chunk e = subst (λ x. generation_of r.id ≡ number_at (36 * k
     go (suc zero) e = let same : second_row ≡ r = cc in subst (λ (s : Row). generation_of s.id ≡ 2) same refl
     go (suc (suc k)) e = absurd (let no : ◌≡◌ {A = Option Row} None (Some r) = e in cc)
 
-falls : (r : Row) → Contains two r → All (λ p. generation_of p < generation_of r.id) r.parents
+pub falls : (r : Row) → Contains two r → All (λ p. generation_of p < generation_of r.id) r.parents
 falls r m = ⊎_elim
     (λ e. subst (λ (s : Row). All (λ p. generation_of p < generation_of s.id) s.parents) e (λ k d l. absurd (omega (arith, l))))
     (λ n. ⊎_elim (λ e. subst (λ (s : Row). All (λ p. generation_of p < generation_of s.id) s.parents) e above) (λ o. absurd (no_member r o)) (Contains-cons_cases r second_row [] n))
@@ -117,6 +115,29 @@ falls r m = ⊎_elim
     above zero d l = omega arith
     above (suc k) d l = absurd (let small : suc k < 1 = l in omega (arith, small))
 
--- so there is a file that has these pages, and whose rows are in order and sound
-pub two_read : IsPagedFile two_pages two_file two generation_of
-two_read = record { has = pages_had; layers = two_layers; sound = record { rising = rises; said = levels; falling = falls } }
+-- so there is a graph whose file has these pages
+abbrev pub layer : Layer
+layer = record { file = two_file; rows = two }
+
+one_layer : (k : ℕ) (l : Layer) → slice_get (layer ∷ []) k ≡ Some l → (k ≡ 0) × (layer ≡ l)
+one_layer zero l e = (refl, cc)
+one_layer (suc k) l e = absurd (let no : ◌≡◌ {A = Option Layer} None (Some l) = e in cc)
+
+pub two_read : HaveFiles (two_pages ∷ []) (layer ∷ [])
+two_read = record {
+  count = refl;
+  has = λ k l e own at.
+      let one = one_layer k l e in
+      let same : two_pages ≡ own = same_Some two_pages own (ap (slice_get (two_pages ∷ [])) (sym one.0) ∙ at) in
+      subst (λ (x : Layer). HavePages x.file own) one.1 (subst (HavePages two_file) same pages_had);
+}
+
+-- and whose rows are in order and sound
+pub two_sound : AreSoundLayers (layer ∷ []) generation_of
+two_sound = record {
+  each = λ k l e.
+      let one = one_layer k l e in
+      let is : IsSoundLayer [] layer generation_of = record { has = two_layer; rising = rises; said = levels } in
+      subst (λ n. IsSoundLayer (take n (layer ∷ [])) l generation_of) (sym one.0) (subst (λ x. IsSoundLayer [] x generation_of) one.1 is);
+  falling = falls;
+}

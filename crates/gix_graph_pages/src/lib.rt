@@ -1,6 +1,7 @@
-//! Git's commit-graph of one file, read by pages as far as a question needs it.
+//! Git's commit-graph, one file or a chain, read by pages as far as a question needs it.
 //!
-//! [`Pages`] are read when they are asked for. [`is_part`] and [`is_above`] say what the pages that were read show of the rows of the file.
+//! [`Pages`] are read when they are asked for. [`is_part`] and [`is_above`] say what the pages that were read show of the rows of the
+//! files.
 #![tactic(auto)]
 
 mod layout;
@@ -10,9 +11,9 @@ mod part;
 mod rows;
 mod search;
 
-pub use layout::{Chunk, Layout, layout_of};
+pub use layout::{Chunk, Layout, layout_with, layouts_of, load_layouts};
 pub use pages::Pages;
-pub use parents::{Unlisted, parents_of};
+pub use parents::{Unlisted, parents_in};
 pub use part::{is_above, is_part};
-pub use rows::{FileRow, id_at, row_at};
-pub use search::{Unread, load_row, place_of};
+pub use rows::{FileRow, id_in, row_in};
+pub use search::{Unread, load_id, load_row, place_in};

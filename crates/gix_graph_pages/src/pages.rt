@@ -1,7 +1,7 @@
-//! A file that is read by pages.
+//! Files that are read by pages.
 ghost use Rattle.std.specs.Prelude.{◌≡◌, ℕ, List, length, IfSome};
 ghost use Rattle.gix_statement.specs.CommitGraph.{bytes_at};
-ghost use Rattle.gix_graph_pages.specs.GraphPages.{HavePages};
+ghost use Rattle.gix_graph_pages.specs.GraphPages.{IsFileOf};
 
 use gix_files::{Damage, fill};
 use std::alloc::{AllocError, Global};
@@ -12,76 +12,114 @@ use std::os::unix::fs::FileExt;
 const STEP: u64 = 4096;
 /// How many bytes a page has: those of the next one with which what begins in it ends.
 const LEN: usize = 4096 + 64;
+/// How many pages are read at the most, of all files together.
+const MOST: usize = 1 << 14;
 
-/// A file, and the pages of it that were read. The model of it is what they have.
+/// The files of a commit-graph, lowest first, and the pages of them that were read. The model of it is what these have.
 #[derive(Drop)]
 pub struct Pages<F: Drop> {
-    file: F,
     alloc: Global,
-    pages: Vec<Option<Vec<u8>>>,
+    files: Vec<F>,
+    /// How many bytes each file has.
+    lens: Vec<u64>,
+    pages: Vec<Vec<Option<Vec<u8>>>>,
+    /// How many pages were read.
+    read: usize,
 }
 
 impl<F: Drop> Model for Pages<F> {
     ghost use Rattle.std.specs.Prelude.{ℕ, List, map, Option, vec_items};
     ghost use Rattle.std.specs.Option.{option_map};
 
-    ghost Value = { List (Option (List ℕ)) };
+    ghost Value = { List (List (Option (List ℕ))) };
 
-    ghost view = { λ p. map (option_map vec_items) p.pages.items };
+    ghost view = { λ p. map (λ own. map (option_map vec_items) own.items) p.pages.items };
 }
 
 impl<F: FileExt + Drop> Pages<F> {
-    /// A file of so many bytes, of which no page was read.
+    /// No files.
+    pub fn new(alloc: Global) -> Pages<F> {
+        Pages {
+            alloc,
+            files: Vec::new(alloc),
+            lens: Vec::new(alloc),
+            pages: Vec::new(alloc),
+            read: 0,
+        }
+    }
+
+    /// Adds a file of so many bytes, of which no page was read, above those that are there.
     ///
     /// # Errors
     ///
-    /// `AllocError` when out of memory.
-    pub fn new(alloc: Global, file: F, len: u64) -> Result<Pages<F>, AllocError> {
-        let mut pages = Vec::new(alloc);
+    /// `AllocError` when out of memory. The pages aren't to be used then.
+    pub fn add(&mut self, file: F, len: u64) -> Result<(), AllocError> {
+        let mut pages = Vec::new(self.alloc);
         for _ in 0..=len / STEP {
             pages.push(None)?;
         }
-        Ok(Pages { file, alloc, pages })
+        self.pages.push(pages)?;
+        self.lens.push(len)?;
+        self.files.push(file)?;
+        Ok(())
     }
 
-    /// Reads the page of a place, unless it was read.
+    /// Reads the page of a place, in bytes from the beginning of the file of this number, from 0, unless it was read. Nothing is read beyond
+    /// 16,384 pages, so that no file makes a question cost more.
     ///
     /// # Errors
     ///
     /// `Unreadable`, `Memory`. The pages are as they were.
-    pub fn load(&mut self, place: u64) -> Result<(), Damage> {
+    pub fn load(&mut self, layer: usize, place: u64) -> Result<(), Damage> {
         let number = (place / STEP) as usize;
-        match self.pages.as_slice().get(number) {
-            Some(None) => {}
-            _ => return Ok(()),
+        let Some(file) = self.files.as_slice().get(layer) else {
+            return Ok(());
+        };
+        let Some(pages) = self.pages.as_mut_slice().get_mut(layer) else {
+            return Ok(());
+        };
+        let Some(page) = pages.as_mut_slice().get_mut(number) else {
+            return Ok(());
+        };
+        if page.is_some() || self.read >= MOST {
+            return Ok(());
         }
         let mut bytes = vec![in self.alloc; 0u8; LEN]?;
-        let filled = fill(
-            &self.file,
-            bytes.as_mut_slice(),
-            STEP.wrapping_mul(number as u64),
-        )?;
+        let from = STEP.wrapping_mul(number as u64);
+        let filled = fill(file, bytes.as_mut_slice(), from)?;
         bytes.truncate(filled);
-        if let Some(page) = self.pages.as_mut_slice().get_mut(number) {
-            *page = Some(bytes);
-        }
+        *page = Some(bytes);
+        self.read += 1;
         Ok(())
     }
 }
 
 impl<F: Drop> Pages<F> {
-    /// The file.
-    pub fn file(&self) -> &F {
-        &self.file
+    /// The files, lowest first.
+    pub fn files(&self) -> &[F] {
+        self.files.as_slice()
     }
 
-    /// So many bytes from a place on, and None if they aren't all in the place's page, or if it wasn't read.
-    pub(crate) fn bytes(&self, place: u64, count: usize) -> Option<&[u8]>
+    /// How many bytes the file of this number has, and 0 if there is none.
+    pub(crate) fn len_of(&self, layer: usize) -> u64 {
+        self.lens.as_slice().get(layer).copied().unwrap_or(0)
+    }
+
+    /// How many files there are.
+    pub fn count(&self) -> usize
+        ensures { result ≡ length self.now }
+    {
+        self.pages.len()
+    }
+
+    /// So many bytes from a place on in the file of this number, and None if they aren't all in the place's page, or if it wasn't read.
+    pub(crate) fn bytes(&self, layer: usize, place: u64, count: usize) -> Option<&[u8]>
         ensures { IfSome result (λ bytes. (length bytes.now ≡ count)
-            × ((file : List ℕ) → HavePages file self.now → bytes_at place count file ≡ bytes.now)) }
+            × ((file : List ℕ) → IsFileOf self.now layer file → bytes_at place count file ≡ bytes.now)) }
     {
         let number = (place / STEP) as usize;
-        let Some(Some(page)) = self.pages.as_slice().get(number) else {
+        let pages = self.pages.as_slice().get(layer)?;
+        let Some(Some(page)) = pages.as_slice().get(number) else {
             return None;
         };
         let from = (place % STEP) as usize;

@@ -1,6 +1,6 @@
 //! The parents that a row names.
 ghost use Rattle.std.specs.Prelude.{IfOk, IfSome};
-ghost use Rattle.gix_graph_pages.specs.PagedRows.{InEachFile, IsEdge, IsLayoutOf};
+ghost use Rattle.gix_graph_pages.specs.PagedRows.{InEachLayer, IsEdge, SaysLayout};
 
 use crate::layout::Layout;
 use crate::pages::Pages;
@@ -25,14 +25,15 @@ impl<T: Drop> From<AllocFailed<T>> for Unlisted {
     }
 }
 
-/// The word of this number of those that say further parents, from 0, or the page that has to be read first. None if there is no such word.
+/// The word of this number of those of a file that say further parents, from 0, or the page that has to be read first. None if there is no
+/// such word.
 pub(crate) fn edge_at<F: Drop>(
     pages: &Pages<F>,
-    layout: Layout,
+    layout: &Layout,
     number: u32,
 ) -> Option<Result<u32, Unread>>
-    requires { IsLayoutOf pages.now layout }
-    ensures { IfSome result (λ read. IfOk read (λ word. InEachFile pages.now (λ file rows generation. IsEdge file number word))) }
+    ensures { SaysLayout pages.now layout.now → IfSome result (λ read. IfOk read (λ word. InEachLayer pages.now layout.now.layer
+        (λ layers layer generation. IsEdge layer.file number word))) }
 {
     let chunk = layout.edges?;
     let at = 4 * number as u64;
@@ -40,25 +41,26 @@ pub(crate) fn edge_at<F: Drop>(
         return None;
     }
     let place = chunk.from.checked_add(at)?;
-    match pages.bytes(place, 4) {
+    match pages.bytes(layout.layer, place, 4) {
         Some(word) => Some(Ok(word_at(word, 0))),
-        None => Some(Err(Unread(place))),
+        None => Some(Err(Unread {
+            layer: layout.layer,
+            place,
+        })),
     }
 }
 
-/// The numbers of the rows of a row's parents, in order.
+/// The numbers of the rows of the parents of a row in the file of a layout, in order.
 ///
 /// # Errors
 ///
 /// `Unread`, `Endless`, `Memory`.
-pub fn parents_of<F: Drop>(
+pub fn parents_in<F: Drop>(
     alloc: Global,
     pages: &Pages<F>,
-    layout: Layout,
+    layout: &Layout,
     row: &FileRow,
-) -> Result<Vec<u32>, Unlisted>
-    requires { IsLayoutOf pages.now layout }
-{
+) -> Result<Vec<u32>, Unlisted> {
     let mut parents = Vec::new(alloc);
     if row.first != NO_PARENT {
         parents.push(row.first)?;

@@ -1,9 +1,10 @@
-//! What a file says of its rows.
-ghost use Rattle.std.specs.Prelude.{◌≡◌, ◌+◌, ◌≤◌, length, IfSome};
+//! What files say of their rows.
+ghost use Rattle.std.specs.Prelude.{◌≡◌, ◌+◌, ◌<◌, ◌≤◌, length, IfSome};
 ghost use Rattle.gix_statement.specs.CommitGraph.{number_at};
-ghost use Rattle.gix_graph_pages.specs.PagedRows.{HasId, InEachFile, IsLayoutOf, SaysRow};
+ghost use Rattle.gix_graph_pages.specs.GraphPages.{all_rows};
+ghost use Rattle.gix_graph_pages.specs.PagedRows.{AreLayouts, HasId, HasIdIn, InEachLayer, SaysLayout, IsLayoutOf, SaysRow};
 
-use crate::layout::{Layout, long_at};
+use crate::layout::{Layout, layout_with, long_at};
 use crate::pages::Pages;
 use gix_hash::ObjectId;
 
@@ -42,30 +43,43 @@ pub(crate) fn word_at(bytes: &[u8], at: usize) -> u32
     u32::from_be_bytes([rest[0], rest[1], rest[2], rest[3]])
 }
 
-/// The id of the row of this number, from 0. None if there is no such row, or if the page wasn't read.
-pub fn id_at<F: Drop>(pages: &Pages<F>, layout: Layout, number: u32) -> Option<ObjectId>
-    requires { IsLayoutOf pages.now layout }
-    ensures { IfSome result (HasId pages.now number) }
+/// The place of this row among those of its file. None if it isn't one of them.
+pub(crate) fn own_number(layout: &Layout, number: u32) -> Option<u32>
+    ensures { IfSome result (λ own. (layout.now.start + own ≡ number) × (own < layout.now.rows)) }
 {
-    if number >= layout.rows {
-        return None;
-    }
-    let width = layout.kind.len_in_bytes();
-    let place = layout.ids.checked_add(width as u64 * number as u64)?;
-    ObjectId::from_bytes(pages.bytes(place, width)?)
+    let own = number.checked_sub(layout.start)?;
+    if own < layout.rows { Some(own) } else { None }
 }
 
-/// What the row of this number says, from 0. None if there is no such row, or if a page wasn't read.
-pub fn row_at<F: Drop>(pages: &Pages<F>, layout: Layout, number: u32) -> Option<FileRow>
-    requires { IsLayoutOf pages.now layout }
-    ensures { IfSome result (λ read. InEachFile pages.now (λ file rows generation. SaysRow file rows generation number read)) }
+/// The id of the row of this number, from 0, in the file of a layout. None if there is no such row, or if the page wasn't read.
+pub fn id_in<F: Drop>(pages: &Pages<F>, layout: &Layout, number: u32) -> Option<ObjectId>
+    ensures { SaysLayout pages.now layout.now → IfSome result (HasIdIn pages.now layout.now number) }
 {
-    let id = id_at(pages, layout, number)?;
+    let own = own_number(layout, number)?;
     let width = layout.kind.len_in_bytes();
-    let place = layout
-        .data
-        .checked_add((width as u64 + 16) * number as u64)?;
-    let (tree, numbers) = pages.bytes(place, width + 16)?.split_at(width);
+    let place = layout.ids.checked_add(width as u64 * own as u64)?;
+    ObjectId::from_bytes(pages.bytes(layout.layer, place, width)?)
+}
+
+/// The id of the row of this number, from 0. None if there is no such row, or if the page wasn't read.
+pub fn id_at<F: Drop>(pages: &Pages<F>, layouts: &[Layout], number: u32) -> Option<ObjectId>
+    ensures { AreLayouts pages.now layouts.now → IfSome result (HasId pages.now number) }
+{
+    id_in(pages, layout_with(layouts, number)?, number)
+}
+
+/// What the row of this number says, from 0, in the file of a layout. None if there is no such row, or if a page wasn't read.
+pub fn row_in<F: Drop>(pages: &Pages<F>, layout: &Layout, number: u32) -> Option<FileRow>
+    ensures { IsLayoutOf pages.now layout.now → IfSome result (λ read. InEachLayer pages.now layout.now.layer
+        (λ layers layer generation. SaysRow layer.file (all_rows layers) generation number read)) }
+{
+    let id = id_in(pages, layout, number)?;
+    let own = own_number(layout, number)?;
+    let width = layout.kind.len_in_bytes();
+    let place = layout.data.checked_add((width as u64 + 16) * own as u64)?;
+    let (tree, numbers) = pages
+        .bytes(layout.layer, place, width + 16)?
+        .split_at(width);
     let long = long_at(numbers, 8);
     Some(FileRow {
         id,

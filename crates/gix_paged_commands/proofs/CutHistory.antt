@@ -1,5 +1,5 @@
--- The rows of a graph that were read by pages have a history, which is cut below a generation.
-use Rattle.std.proofs.Common.{◌≡◌, ◌≢◌, ◌⊎◌, ℕ, ◌<◌, ℤ, List, [], Option, Some, None, if◌then◌else◌, nat_lt, Bool, true, false, Contains, slice_get, option_map, refl, sym, ap, subst, ◌∙◌, inl, inr, ⊎_elim, arith, ltb-true, le-ltb, lt-ltb}
+-- The rows that were read by pages have a history, which is cut below a generation.
+use Rattle.std.proofs.Common.{◌≡◌, ◌≢◌, ◌⊎◌, ℕ, ◌<◌, ℤ, List, [], ◌++◌, take, Option, Some, None, if◌then◌else◌, nat_lt, Bool, true, false, Contains, slice_get, option_map, refl, sym, ap, subst, ◌∙◌, inl, inr, ⊎_elim, arith, ltb-true, le-ltb, lt-ltb}
 use Rattle.std.proofs.lemmas.List.Elements.{All-contains}
 use Rattle.std.proofs.lemmas.Option.{none-some, same_Some, slice_get_within, get_or_from_slice_get}
 use Rattle.gix_hash.specs.declared.ObjectId.{ObjectId}
@@ -11,8 +11,9 @@ use Rattle.gix_graph_store.proofs.SoundRows.{member-own}
 use Rattle.gix_statement.specs.WholeStatement.{Agree, IsCommit, IsHistory, IsThere, Object, Objects, Row}
 use Rattle.gix_statement.proofs.OneCommit.{one_commit}
 use Rattle.gix_history_cut.proofs.BelowLine.{IsCut}
-use Rattle.gix_graph_pages.specs.GraphPages.{IsPagedFile}
-use Rattle.gix_graph_pages.specs.PagedRows.{ArePart, IsAbove, IsRowOfFile, Pages}
+use Rattle.gix_graph_pages.specs.GraphPages.{AreSoundLayers, Layer, all_rows}
+use Rattle.gix_graph_pages.proofs.ReadRows.{layer_with, row_on}
+use Rattle.gix_graph_pages.specs.PagedRows.{ArePaged, ArePart, IsAbove, IsRowOfFile, Pages}
 use Rattle.gix_commands.specs.Pages.{page_row, page_rows}
 use Rattle.gix_commands.proofs.RowsAsTexts.{from_map, into_map}
 
@@ -36,29 +37,33 @@ row_there objects rows agree r c = go (objects r.id) refl
     go None none = inr (none, c)
     go (Some o) at = inl (agree.1 r c (λ none. none-some o (sym none ∙ at)))
 
--- a member by its number
-row_by_number : (rows : List Row) (o : Option Row) (n : ℕ) (p : ObjectId) → slice_get rows n ≡ o → option_map (λ (parent : Row). parent.id) o ≡ Some p → (r : Row) × Contains rows r × (r.id ≡ p)
-row_by_number rows None n p at e = absurd (none-some p e)
-row_by_number rows (Some r) n p at e = (r, (n, slice_get_within rows n r at, get_or_from_slice_get rows n r r at), same_Some r.id p e)
+-- a member by its number among some of all rows
+row_by_number : (rows some : List Row) → ((n : ℕ) (r : Row) → slice_get some n ≡ Some r → slice_get rows n ≡ Some r) → (o : Option Row) (n : ℕ) (p : ObjectId) → slice_get some n ≡ o
+    → option_map (λ (parent : Row). parent.id) o ≡ Some p → (r : Row) × Contains rows r × (r.id ≡ p)
+row_by_number rows some on None n p at e = absurd (none-some p e)
+row_by_number rows some on (Some r) n p at e = let there = on n r at in (r, (n, slice_get_within rows n r there, get_or_from_slice_get rows n r r there), same_Some r.id p e)
 
-module _ (pages : Pages) (file : List ℕ) (rows : List Row) (generation : ObjectId → ℕ) (read : IsPagedFile pages file rows generation) where
-  -- each parent of a row has a row
-  parent_row : (r : Row) → Contains rows r → (p : ObjectId) → Contains r.parents p → (s : Row) × Contains rows s × (s.id ≡ p)
-  parent_row r c p m =
-      let layer = read.layers in
-      let c : Contains layer.0 r = subst (λ those. Contains those r) layer.2 c in
-      let at = place_of layer.0 r c in
-      let row = layer.1.14 at.0 r at.1 in
-      let named = subst (λ those. Contains those (Some p)) row.6 (into_map Some r.parents p m) in
-      let n = from_map (λ n. option_map (λ (parent : Row). parent.id) (slice_get layer.0 n)) row.0 (Some p) named in
-      subst (λ those. (s : Row) × Contains those s × (s.id ≡ p)) (sym layer.2) (row_by_number layer.0 (slice_get layer.0 n.0) n.0 p refl n.2)
+-- each parent of a row has a row
+parent_row : (layers : List Layer) (generation : ObjectId → ℕ) → AreSoundLayers layers generation → (r : Row) → Contains (all_rows layers) r → (p : ObjectId) → Contains r.parents p
+    → (s : Row) × Contains (all_rows layers) s × (s.id ≡ p)
+parent_row layers generation sound r c p m =
+    let (k, layer, there, among) = layer_with layers r c in
+    let at = place_of layer.rows r among in
+    let so_far = all_rows (take k layers) ++ layer.rows in
+    let row = (sound.each k layer there).has.14 at.0 r at.1 in
+    let named = subst (λ those. Contains those (Some p)) row.6 (into_map Some r.parents p m) in
+    let n = from_map (λ n. option_map (λ (parent : Row). parent.id) (slice_get so_far n)) row.0 (Some p) named in
+    row_by_number (all_rows layers) so_far (row_on layers k layer there) (slice_get so_far n.0) n.0 p refl n.2
 
 module _ (pages : Pages) (graph : List GraphRow) (least : ℕ) (graph_rows : AreGraphRows graph) (part : ArePart pages graph least)
-    (file : List ℕ) (rows : List Row) (generation : ObjectId → ℕ) (read : IsPagedFile pages file rows generation)
-    (objects : Objects) (consistent : Agree objects rows) (agree : Agree objects (page_rows graph))
-    (parents : ObjectId → List ObjectId) (time : ObjectId → ℤ) (history : IsHistory objects rows parents time) where
+    (layers : List Layer) (generation : ObjectId → ℕ) (read : ArePaged pages layers generation)
+    (objects : Objects) (consistent : Agree objects (all_rows layers)) (agree : Agree objects (page_rows graph))
+    (parents : ObjectId → List ObjectId) (time : ObjectId → ℤ) (history : IsHistory objects (all_rows layers) parents time) where
+  abbrev rows : List Row
+  rows = all_rows layers
+
   row_is : (row : GraphRow) → Contains graph row → IsRowOfFile least graph rows generation row
-  row_is = part file rows generation read
+  row_is = part layers generation read
 
   says : (r : Row) → Contains rows r → (parents r.id ≡ r.parents) × (time r.id ≡ r.time)
   says r c = history r (row_there objects rows consistent r c)
@@ -66,7 +71,7 @@ module _ (pages : Pages) (graph : List GraphRow) (least : ℕ) (graph_rows : Are
   down : (i p : ObjectId) → Below rows generation least i → Contains (parents i) p → Below rows generation least p
   down i p (r, c, is, low) m =
       let among : Contains r.parents p = subst (λ ps. Contains ps p) (sym (ap parents is) ∙ (says r c).0) m in
-      let s = parent_row pages file rows generation read r c p among in
+      let s = parent_row layers generation read.sound r c p among in
       let less : generation p < generation r.id = All-contains (λ p. generation p < generation r.id) r.parents p (read.sound.falling r c) among in
       let level : generation r.id ≡ generation i = ap generation is in
       (s.0, s.1, s.2, omega (arith, less, level, low))
@@ -137,4 +142,4 @@ module _ (pages : Pages) (graph : List GraphRow) (least : ℕ) (graph_rows : Are
       let s : IsRowOfFile least graph rows generation row = row_is row m.0 in
       let level : generation i ≡ row.generation = sym (ap generation (s.id ∙ sym m.1)) ∙ s.level in
       omega (arith, level, low, high)
-  not_below i (inr none) (r, c, is, low) = All-contains (λ (r : Row). r.id ≢ i) rows r (none file rows generation read) c is
+  not_below i (inr none) (r, c, is, low) = All-contains (λ (r : Row). r.id ≢ i) rows r (none layers generation read) c is

@@ -1,12 +1,11 @@
--- What was decided over the rows of a graph that was read by pages is right of each file that has these pages.
-use Rattle.std.proofs.Common.{inl, ◌≡◌, ◌⊎◌, ℕ, suc, ◌≤◌, ◌||◌, ℤ, List, [], ◌∷◌, ◌++◌, flat_map, length, map, Option, Some, Result, Ok, Err, Bool, true, false, cond, nat_lt, bytes_eq, codes, All, Contains, refl, sym, ap, subst, ◌∙◌, inl, inr, ⊎_elim, arith, le-ltb}
+-- What was decided over the rows of a graph that was read by pages is right of each graph whose files have these pages.
+use Rattle.std.proofs.Common.{inl, ◌≡◌, ◌⊎◌, ℕ, ◌≤◌, ◌||◌, ℤ, List, [], ◌∷◌, ◌++◌, flat_map, length, map, Option, Some, Result, Ok, Err, Bool, true, false, cond, codes, All, Contains, refl, sym, ap, subst, ◌∙◌, inl, inr, ⊎_elim, arith}
 use Rattle.std.proofs.Math.ListN.{get_or}
 use Rattle.std.proofs.lemmas.List.{length-map}
 use Rattle.std.proofs.lemmas.List.Elements.{Contains-append_cases, Contains-get_or}
 use Rattle.gix_hash.specs.Id.{id_from_hex}
 use Rattle.gix_hash.specs.declared.HexError.{HexError}
 use Rattle.gix_hash.specs.declared.ObjectId.{ObjectId}
-use Rattle.gix_hash.specs.declared.ObjectId.TheVariants.{Sha1, Sha256}
 use Rattle.gix_object.specs.Object.{Objects}
 use Rattle.gix_commitgraph.specs.Packed.{AreGraphRows}
 use Rattle.gix_commitgraph.specs.Rows.{GraphRow}
@@ -26,12 +25,12 @@ use Rattle.gix_words.specs.declared.words.Order.{Order}
 use Rattle.gix_words.specs.declared.words.Order.TheVariants.{Simple, Topo}
 use Rattle.gix_words.specs.declared.words.Shown.{Shown}
 use Rattle.gix_statement.specs.WholeStatement.{Agree, AreNamed, AreTips, Choice, Chooses, digits_in, Follows, IsBase, InEach, IsHistory, IsShown, Promises, Row, Serves, Spells}
-use Rattle.gix_statement.specs.WholeStatement.{all, at_most, counted, everything, first, merges, no_merges, reversed, since, skip, until, with_format, with_parents, with_subject, with_time, zero_ended}
-use Rattle.gix_statement.proofs.OneAnswer.{choice_once, IsOption, is_option, no_list, spelled_once}
+use Rattle.gix_statement.specs.WholeStatement.{all, everything, first, merges, since}
+use Rattle.gix_statement.proofs.OneAnswer.{IsOption, choice_once, is_option, long_word, no_list, spelled_once}
 use Rattle.gix_history_cut.specs.Cut.{BeginsAbove, IsDecided, ShowsAbove}
 use Rattle.gix_history_cut.proofs.CutCarried.{serves_cut}
-use Rattle.gix_graph_pages.specs.GraphPages.{AnswersOver, IsPagedFile}
-use Rattle.gix_graph_pages.specs.PagedRows.{ArePart, IsAbove, Pages}
+use Rattle.gix_graph_pages.specs.GraphPages.{AnswersOver, Layer, all_rows}
+use Rattle.gix_graph_pages.specs.PagedRows.{ArePaged, ArePart, IsAbove, Pages}
 use Rattle.gix_commands.specs.Chosen.{kept_of, kept_until, page_choice}
 use Rattle.gix_commands.specs.Pages.{AreRows, page_objects, page_rows}
 use Rattle.gix_commands.specs.Readable.{readable}
@@ -45,75 +44,6 @@ use Rattle.gix_paged_commands.proofs.CutHistory.{Below, is_cut, is_history, know
 use Rattle.gix_paged_commands.proofs.FirstDrawn.{begun_down}
 
 -- WORDS are read in one way.
-is_wide : (i : ObjectId) → (digits_in i ≡ 40) ⊎ (digits_in i ≡ 64)
-is_wide (Sha1 x) = inl refl
-is_wide (Sha256 x) = inr refl
-
-no_id_behind : (word id : List ℕ) (i j : ObjectId) → Spells (digits_in i) word i → word ≡ 94 ∷ id → Spells (digits_in j) id j → ⊥
-no_id_behind word id i j s is t =
-    let l : digits_in i ≡ suc (digits_in j) = sym s.0 ∙ ap length is ∙ ap suc t.0 in
-    ⊎_elim (λ (a : digits_in i ≡ 40). ⊎_elim (λ (b : digits_in j ≡ 40). omega (arith, l, a, b)) (λ (b : digits_in j ≡ 64). omega (arith, l, a, b)) (is_wide j))
-    (λ (a : digits_in i ≡ 64). ⊎_elim (λ (b : digits_in j ≡ 40). omega (arith, l, a, b)) (λ (b : digits_in j ≡ 64). omega (arith, l, a, b)) (is_wide j)) (is_wide i)
-
-tips_once : (words : List (List ℕ)) (tips hidden others below : List ObjectId) → AreTips words tips hidden → AreTips words others below → (tips ≡ others) × (hidden ≡ below)
-tips_once [] tips hidden others below a b = (a.0 ∙ sym b.0, a.1 ∙ sym b.1)
-tips_once (word ∷ words) tips hidden others below (inl (i, more, is, s, a)) (inl (j, rest, same, t, b)) =
-    let h = tips_once words more hidden rest below a b in
-    let e = spelled_once word i j s t in
-    (is ∙ (λ k. e k ∷ h.0 k) ∙ sym same, h.1)
-tips_once (word ∷ words) tips hidden others below (inl (i, more, is, s, a)) (inr (j, rest, same, id, w, t, b)) = absurd (no_id_behind word id i j s w t)
-tips_once (word ∷ words) tips hidden others below (inr (j, rest, same, id, w, t, b)) (inl (i, more, is, s, a)) = absurd (no_id_behind word id i j s w t)
-tips_once (word ∷ words) tips hidden others below (inr (i, more, is, id, v, s, a)) (inr (j, rest, same, id2, w, t, b)) =
-    let h = tips_once words tips more others rest a b in
-    let both : 94 ∷ id ≡ 94 ∷ id2 = sym v ∙ w in
-    let one : id ≡ id2 = cc in
-    let e = spelled_once id i j s (subst (λ x. Spells (digits_in j) x j) (sym one) t) in
-    (h.0, is ∙ (λ k. e k ∷ h.1 k) ∙ sym same)
-
--- a word of tips is long
-long_word : (word : List ℕ) (words : List (List ℕ)) (tips hidden : List ObjectId) → AreTips (word ∷ words) tips hidden → 40 ≤ length word
-long_word word words tips hidden (inl (i, more, is, s, a)) = ⊎_elim (λ (e : digits_in i ≡ 40). omega (arith, e, s.0)) (λ (e : digits_in i ≡ 64). omega (arith, e, s.0)) (is_wide i)
-long_word word words tips hidden (inr (i, more, is, id, w, s, a)) =
-    let l : length word ≡ suc (length id) = ap length w in
-    ⊎_elim (λ (e : digits_in i ≡ 40). omega (arith, e, s.0, l)) (λ (e : digits_in i ≡ 64). omega (arith, e, s.0, l)) (is_wide i)
-
--- an option that a number or a format is behind
-abbrev has_value : List ℕ → Bool
-has_value word = bytes_eq word (codes "--since") || bytes_eq word (codes "--until") || bytes_eq word (codes "--skip") || bytes_eq word (codes "-n") || bytes_eq word (codes "--format")
-
--- what is behind options, the value of the first of which may have to come
-abbrev ids_in : (value : Bool) → List (List ℕ) → List (List ℕ)
-ids_in value [] = []
-ids_in true (word ∷ words) = ids_in false words
-ids_in false (word ∷ words) = cond (nat_lt (length word) 40) (ids_in (has_value word) words) (word ∷ words)
-
-all_ids : (tips hidden : List ObjectId) (words : List (List ℕ)) → AreTips words tips hidden → AreTips (ids_in false words) tips hidden
-all_ids tips hidden [] t = t
-all_ids tips hidden (word ∷ words) t =
-    subst (λ short. AreTips (cond short (ids_in (has_value word) words) (word ∷ words)) tips hidden) (sym (le-ltb (length word) 40 (long_word word words tips hidden t))) t
-
--- the ids behind the options of a choice
-ids_chosen : {tips hidden : List ObjectId} {p : ℕ} (words : List (List ℕ)) (c : Choice) → Chooses tips hidden p words c → AreTips (ids_in false words) tips hidden
-ids_chosen {tips} {hidden} words c (everything t) = all_ids tips hidden words t
-ids_chosen words c (until n is late x) = ids_chosen _ _ x
-ids_chosen words c (merges late x) = ids_chosen _ _ x
-ids_chosen words c (no_merges late x) = ids_chosen _ _ x
-ids_chosen words c (skip n is late x) = ids_chosen _ _ x
-ids_chosen words c (at_most n is late x) = ids_chosen _ _ x
-ids_chosen words c (counted late x) = ids_chosen _ _ x
-ids_chosen words c (reversed late x) = ids_chosen _ _ x
-ids_chosen words c (with_format is short late x) = ids_chosen _ _ x
-ids_chosen words c (with_time late x) = ids_chosen _ _ x
-ids_chosen words c (with_parents late x) = ids_chosen _ _ x
-ids_chosen words c (with_subject late x) = ids_chosen _ _ x
-ids_chosen words c (zero_ended late x) = ids_chosen _ _ x
-
--- and behind the option of an order
-ids_optional : (option rest : List (List ℕ)) → IsOption option → ids_in false (option ++ rest) ≡ ids_in false rest
-ids_optional option rest (inl e) = ap (λ o. ids_in false (o ++ rest)) e
-ids_optional option rest (inr (inl e)) = ap (λ o. ids_in false (o ++ rest)) e
-ids_optional option rest (inr (inr (number, e))) = ap (λ o. ids_in false (o ++ rest)) e
-
 order_option : (option : List (List ℕ)) (by : Order) → IsOptionOf option by → IsOption option
 order_option option (Simple mode.All sorting.BreadthFirst) e = inl e
 order_option option (Simple mode.First sorting.BreadthFirst) e = inr (inl e)
@@ -124,13 +54,10 @@ order_option option (Simple mode.First (sorting.ByCommitTimeCutoff order seconds
 order_option option (Topo mode.All by) e = inl e
 order_option option (Topo mode.First by) e = inr (inl e)
 
--- two readings of the words of a list have the same ids
-chosen_ids : {tips hidden others below : List ObjectId} {p q : ℕ} (by name : List ℕ) (option another rest more : List (List ℕ)) (c d : Choice) → IsOption option → IsOption another
-    → Chooses tips hidden p rest c → Chooses others below q more d → by ∷ (option ++ rest) ≡ name ∷ (another ++ more) → (tips ≡ others) × (hidden ≡ below)
-chosen_ids {tips} {hidden} {others} {below} by name option another rest more c d a b chooses picks is =
-    let both : option ++ rest ≡ another ++ more = cc in
-    let same : ids_in false rest ≡ ids_in false more = sym (ids_optional option rest a) ∙ ap (ids_in false) both ∙ ids_optional another more b in
-    tips_once (ids_in false more) tips hidden others below (subst (λ ids. AreTips ids tips hidden) same (ids_chosen rest c chooses)) (ids_chosen more d picks)
+-- words that are ids name these alone
+ids_once : (words more : List (List ℕ)) (tips others : List ObjectId) → more ≡ words → AreTips words tips [] → AreTips more others [] → tips ≡ others
+ids_once words more tips others e are those =
+    (choice_once {tips = tips} {hidden = []} {others = others} {below = []} {p = 9} {q = 9} [] [] [] [] words more _ _ (inl refl) (inl refl) (everything are) (everything those) (ap (λ ws. [] ∷ ws) (sym e))).1
 
 -- a name of `topo` or `date`
 name_is : (name : List ℕ) (by : TopoSorting) → IsNameOf name (Topo mode.All by) → name ≡ name_down by
@@ -203,8 +130,11 @@ unlisted words by name rest more long is same named = let e : by ≡ name = cc i
 
 module _ (words : List (List ℕ)) (stored : Objects) (pages : Pages) (graph : List GraphRow) (least : ℕ)
     (graph_rows : AreGraphRows graph) (part : ArePart pages graph least) (sound : AreSound graph) (stored_agree : StoredAgree graph stored) (agree : Agree (page_objects stored) (page_rows graph))
-    (file : List ℕ) (rows : List Row) (generation : ObjectId → ℕ) (read : IsPagedFile pages file rows generation) (consistent : Agree (page_objects stored) rows)
-    (parents : ObjectId → List ObjectId) (time : ObjectId → ℤ) (history : IsHistory (page_objects stored) rows parents time) where
+    (layers : List Layer) (generation : ObjectId → ℕ) (read : ArePaged pages layers generation) (consistent : Agree (page_objects stored) (all_rows layers))
+    (parents : ObjectId → List ObjectId) (time : ObjectId → ℤ) (history : IsHistory (page_objects stored) (all_rows layers) parents time) where
+  abbrev rows : List Row
+  rows = all_rows layers
+
   abbrev Low : ObjectId → Type 0
   Low = Below rows generation least
 
@@ -218,10 +148,10 @@ module _ (words : List (List ℕ)) (stored : Objects) (pages : Pages) (graph : L
   so_far = known graph least parents
 
   over : IsHistory (page_objects stored) (page_rows graph) so_far time
-  over = is_history pages graph least graph_rows part file rows generation read (page_objects stored) consistent agree parents time history
+  over = is_history pages graph least graph_rows part layers generation read (page_objects stored) consistent agree parents time history
 
   not_low : (i : ObjectId) → Above i → Low i → ⊥
-  not_low = not_below pages graph least graph_rows part file rows generation read (page_objects stored) consistent agree parents time history
+  not_low = not_below pages graph least graph_rows part layers generation read (page_objects stored) consistent agree parents time history
 
   -- all that a walk shows that was drawn to its end
   drawn : (tips hidden : List ObjectId) → DrawsAbove Above every graph tips hidden → ShowsAbove Low so_far time tips hidden
@@ -255,19 +185,18 @@ module _ (words : List (List ℕ)) (stored : Objects) (pages : Pages) (graph : L
       → Chooses tips hidden place rest c → Follows so_far time tips by option followed starts
       → ShowsAbove Low so_far time tips hidden ⊎ BeginsAbove Low so_far followed time starts hidden by c
   listed_above (Commits order shown others below) (name, another, more, same, called, picked, place, picks, some) (inl d) {by = by} {option = option} {rest = rest} {c = c} {tips = tips} {hidden = hidden} is named chooses follows =
-      let t = chosen_ids by name option another rest more c (page_choice shown) (is_option so_far time option follows) (order_option another order picked) chooses picks (sym is ∙ same) in
-      inl (drawn_as tips hidden others below d t.0 t.1)
+      let t = choice_once by name option another rest more c (page_choice shown) (is_option so_far time option follows) (order_option another order picked) chooses picks (sym is ∙ same) in
+      inl (drawn_as tips hidden others below d t.1 t.2)
   listed_above (Commits (Topo mode.All sort) shown others below) (name, another, more, same, called, picked, place, picks, some) (inr d) {by = by} {option = option} {rest = rest} {c = c} is named chooses follows =
       let a = is_option so_far time option follows in
       let b = order_option another (Topo mode.All sort) picked in
-      let t = chosen_ids by name option another rest more c (page_choice shown) a b chooses picks (sym is ∙ same) in
-      let choice : c ≡ page_choice shown = choice_once by name option another rest more c (page_choice shown) a b chooses picks (sym is ∙ same) in
+      let t = choice_once by name option another rest more c (page_choice shown) a b chooses picks (sym is ∙ same) in
       let both : option ++ rest ≡ another ++ more = cc in
       let p = plain option rest more (both ∙ ap (λ o. o ++ more) picked) picks follows in
       let first_word : by ≡ name = cc in
-      let starts_are = p.1 ∙ t.0 in
+      let starts_are = p.1 ∙ t.1 in
       let by_name = first_word ∙ name_is name sort called in
-      inr (subst (λ (T : Type 0). T) (λ k. BeginsAbove Low so_far (sym p.0 k) time (sym starts_are k) (sym t.1 k) (sym by_name k) (sym choice k)) (begun sort shown others below d))
+      inr (subst (λ (T : Type 0). T) (λ k. BeginsAbove Low so_far (sym p.0 k) time (sym starts_are k) (sym t.2 k) (sym by_name k) (sym t.0 k)) (begun sort shown others below d))
   listed_above (Commits (Topo mode.First sort) shown others below) are (inr d) is named chooses follows = absurd d
   listed_above (Commits (Simple m sort) shown others below) are (inr d) is named chooses follows = absurd d
   listed_above (Ahead one other) (a, b, same, s, t) d {by = by} is named chooses follows =
@@ -295,7 +224,7 @@ module _ (words : List (List ℕ)) (stored : Objects) (pages : Pages) (graph : L
       → {rest : List (List ℕ)} (tip : ObjectId) (ids : List ObjectId) → words ≡ codes "contains" ∷ rest → AreTips rest (tip ∷ ids) [] → All (λ i. Low i → ⊥) ids
   contained_above (Contained top others) (more, same, tips, some) d n {rest = rest} tip ids is are =
       let e : more ≡ rest = cc in
-      let t = (tips_once rest (tip ∷ ids) [] (top ∷ others) [] are (subst (λ ws. AreTips ws (top ∷ others) []) e tips)).0 in
+      let t = ids_once rest more (tip ∷ ids) (top ∷ others) e are tips in
       let f : ids ≡ others = cc in
       λ k i below. not_low _ (d _ (subst (λ xs. Contains xs (get_or ids k i)) f (Contains-get_or ids k i below)))
   contained_above request are d n tip ids is tips = absurd (omega (arith, n))
@@ -304,7 +233,7 @@ module _ (words : List (List ℕ)) (stored : Objects) (pages : Pages) (graph : L
       → {rest : List (List ℕ)} (target : ObjectId) (tips : List ObjectId) → words ≡ codes "containing" ∷ rest → AreTips rest (target ∷ tips) [] → Low target → ⊥
   containing_above (Containing goal others) (more, same, tips, some) d n {rest = rest} target ids is are =
       let e : more ≡ rest = cc in
-      let t = (tips_once rest (target ∷ ids) [] (goal ∷ others) [] are (subst (λ ws. AreTips ws (goal ∷ others) []) e tips)).0 in
+      let t = ids_once rest more (target ∷ ids) (goal ∷ others) e are tips in
       let f : goal ≡ target = cc in
       not_low target (subst Above f d)
   containing_above request are d n target ids is tips = absurd (omega (arith, n))
@@ -314,7 +243,7 @@ module _ (words : List (List ℕ)) (stored : Objects) (pages : Pages) (graph : L
       → ShowsAbove Low so_far time (one ∷ []) others × ((i : ObjectId) → IsBase so_far one others i → Low i → ⊥)
   bases_above (Bases left those) (more, same, tips, some) (d, (bases, found, above)) n {rest = rest} one others is are =
       let e : more ≡ rest = cc in
-      let t = (tips_once rest (one ∷ others) [] (left ∷ those) [] are (subst (λ ws. AreTips ws (left ∷ those) []) e tips)).0 in
+      let t = ids_once rest more (one ∷ others) (left ∷ those) e are tips in
       let f : one ≡ left = cc in
       let g : others ≡ those = cc in (
         drawn_as (one ∷ []) others (left ∷ []) those d (ap (λ i. i ∷ []) f) g,
@@ -340,8 +269,8 @@ module _ (words : List (List ℕ)) (stored : Objects) (pages : Pages) (graph : L
   right : (lines : List ℕ) → DecidesWords Above every graph words → Serves (page_objects stored) (page_rows graph) so_far time (Some []) (Some lines) words
       → Serves (page_objects stored) rows parents time (Some []) (Some lines) words
   right lines d s = serves_cut (page_objects stored) rows (page_rows graph)
-      (there_on pages graph least graph_rows part file rows generation read (page_objects stored) consistent agree parents time history)
-      Low parents so_far time (is_cut pages graph least graph_rows part file rows generation read (page_objects stored) consistent agree parents time history)
+      (there_on pages graph least graph_rows part layers generation read (page_objects stored) consistent agree parents time history)
+      Low parents so_far time (is_cut pages graph least graph_rows part layers generation read (page_objects stored) consistent agree parents time history)
       (Some []) (Some lines) words (decided d) s
 
 pub answers_over : (words : List (List ℕ)) (stored : Objects) (pages : Pages) (graph : List GraphRow) (least : ℕ) (lines : List ℕ)
@@ -356,7 +285,8 @@ answers_over words stored pages graph least lines graph_rows part (served reques
     subst (λ (T : Type 0). T) (λ k. InEach (same k) (told_is k) (λ parents time. Serves (same k) (told_is k) parents time (Some []) (Some lines) words)) each in (
       page_objects stored,
       subst AreNamed same named,
-      λ file rows generation read consistent parents time history.
-          right words stored pages graph least graph_rows part sound stored_agree agreed file rows generation read consistent parents time history lines d
-          (serve (known graph least parents) time (is_history pages graph least graph_rows part file rows generation read (page_objects stored) consistent agreed parents time history)),
+      λ layers generation files sound_layers consistent parents time history.
+          let read : ArePaged pages layers generation = record { files = files; sound = sound_layers } in
+          right words stored pages graph least graph_rows part sound stored_agree agreed layers generation read consistent parents time history lines d
+          (serve (known graph least parents) time (is_history pages graph least graph_rows part layers generation read (page_objects stored) consistent agreed parents time history)),
     )

@@ -2,13 +2,13 @@
 ghost use Rattle.std.specs.Prelude.{◌≡◌, ◌+◌, ℕ, None, Some, [], ◌∷◌, IfOk, IfSome, IsTrue, false, map, string_bytes};
 ghost use Rattle.std.specs.Iterator.{IsFinite};
 ghost use Rattle.gix_commands.specs.Readable.{readable};
-ghost use Rattle.gix_graph_pages.specs.PagedRows.{IsAbove};
+ghost use Rattle.gix_graph_pages.specs.PagedRows.{AreLayouts, IsAbove};
 ghost use Rattle.gix_graph_store.specs.WithRows.{with_rows};
 ghost use Rattle.gix_paged_commands.specs.Decided.{AreAllAbove, AreBasesAbove, BeginsBy, DecidesWords, DrawsAbove, GivesAbove, GivesFirst};
 
 use gix_commands::commits::{Ends, Lent, topo_walk_from, walk_from};
 use gix_commitgraph::Graph;
-use gix_graph_pages::{Pages, is_above, layout_of};
+use gix_graph_pages::{Layout, Pages, is_above};
 use gix_hash::ObjectId;
 use gix_merge_base::merge_bases;
 use gix_records::LentStore;
@@ -17,26 +17,26 @@ use gix_simple::Sorting;
 use gix_words::{Command, Fault, Merges, Order, Shown, read_command};
 use std::alloc::{AllocError, Global};
 
-/// Rows of a file, of which those of a lesser generation than `least` have no parents.
+/// Rows of the files of a commit-graph, of which those of a lesser generation than `least` have no parents.
 #[derive(Drop)]
 pub(crate) struct Line<'a, F: Drop> {
     pub pages: &'a Pages<F>,
+    pub layouts: &'a [Layout],
     pub graph: &'a Graph,
     pub least: u32,
 }
 
-/// Whether a commit has a row above the line, or none in the file.
+/// Whether a commit has a row above the line, or none in the files.
 fn is_one_above<F: Drop>(line: &Line<'_, F>, id: &ObjectId) -> bool
+    requires { AreLayouts line.now.pages.now line.now.layouts.now }
     ensures { IsTrue result → IsAbove line.now.pages.now line.now.graph.now line.now.least id.now }
 {
-    let Some(layout) = layout_of(line.pages) else {
-        return false;
-    };
-    is_above(line.pages, layout, line.graph, line.least, id)
+    is_above(line.pages, line.layouts, line.graph, line.least, id)
 }
 
-/// Whether each of these commits has a row above the line, or none in the file.
+/// Whether each of these commits has a row above the line, or none in the files.
 fn are_all_above<F: Drop>(line: &Line<'_, F>, ids: &[ObjectId]) -> bool
+    requires { AreLayouts line.now.pages.now line.now.layouts.now }
     ensures { IsTrue result → AreAllAbove (IsAbove line.now.pages.now line.now.graph.now line.now.least) ids.now }
 {
     for id in ids {
@@ -53,6 +53,7 @@ where
     F: Drop,
     I: Iterator<Item = Result<Info, E>> + Drop,
     E: Into<Fault> + Drop,
+    requires layouts { AreLayouts line.now.pages.now line.now.layouts.now }
     requires can { I.can_next walk }
     requires finite { IsFinite (I.remaining walk) }
     ensures { GivesAbove (IsAbove line.now.pages.now line.now.graph.now line.now.least) I.next_gives E.converts walk result }
@@ -76,6 +77,7 @@ where
     F: Drop,
     I: Iterator<Item = Result<Info, E>> + Drop,
     E: Into<Fault> + Drop,
+    requires layouts { AreLayouts line.now.pages.now line.now.layouts.now }
     requires can { I.can_next walk }
     requires finite { IsFinite (I.remaining walk) }
     ensures { GivesFirst (IsAbove line.now.pages.now line.now.graph.now line.now.least) I.next_gives walk count result }
@@ -121,6 +123,7 @@ fn begins_above<F: Drop>(
     hidden: &[ObjectId],
     store: &LentStore<'_>,
 ) -> Result<bool, Fault>
+    requires { AreLayouts line.now.pages.now line.now.layouts.now }
     ensures { IfOk result (λ is. IsTrue is → BeginsBy (IsAbove line.now.pages.now line.now.graph.now line.now.least)
         (readable false (with_rows line.now.graph.now store.now)) line.now.graph.now list.0 list.1 tips.now hidden.now) }
 {
@@ -152,6 +155,7 @@ fn are_above<F: Drop>(
     hidden: &[ObjectId],
     store: &LentStore<'_>,
 ) -> Result<bool, Fault>
+    requires { AreLayouts line.now.pages.now line.now.layouts.now }
     ensures { IfOk result (λ is. IsTrue is → DrawsAbove (IsAbove line.now.pages.now line.now.graph.now line.now.least)
         (readable false (with_rows line.now.graph.now store.now)) line.now.graph.now tips.now hidden.now) }
 {
@@ -175,6 +179,7 @@ fn are_bases_above<F: Drop>(
     others: &[ObjectId],
     store: &LentStore<'_>,
 ) -> Result<bool, Fault>
+    requires { AreLayouts line.now.pages.now line.now.layouts.now }
     ensures { IfOk result (λ is. IsTrue is → AreBasesAbove (IsAbove line.now.pages.now line.now.graph.now line.now.least)
         (readable false (with_rows line.now.graph.now store.now)) line.now.graph.now one others.now) }
 {
@@ -190,6 +195,7 @@ pub(crate) fn is_decided<F: Drop>(
     words: &[String],
     store: &LentStore<'_>,
 ) -> Result<bool, Fault>
+    requires { AreLayouts line.now.pages.now line.now.layouts.now }
     ensures { IfOk result (λ is. IsTrue is → DecidesWords (IsAbove line.now.pages.now line.now.graph.now line.now.least)
         (readable false (with_rows line.now.graph.now store.now)) line.now.graph.now (map string_bytes words.now)) }
 {

@@ -2,20 +2,22 @@
 use crate::asking::{Asking, Until};
 use crate::scout::{Found, Scout, Stop, numbers_of_parents};
 use gix_commitgraph::{Graph, GraphError, ParentPlace, ParentPlaces, Row};
-use gix_graph_pages::{FileRow, Pages, layout_of};
+use gix_files::Damage;
+use gix_graph_pages::{Layout, Pages, layouts_of, load_layouts};
 use gix_hash::Keys;
 use gix_odb::Odb;
 use gix_words::read_command;
 use std::alloc::{AllocError, Global};
+use std::collections::BTreeMap;
 use std::fs::Files;
 use std::os::unix::fs::FileExt;
 
-/// Some rows of a file.
+/// Some rows of the files of a commit-graph.
 #[derive(Drop)]
 pub struct Rows {
     /// The rows. Those of a lesser generation than `least` have no parents.
     pub graph: Graph,
-    /// The numbers of these rows in the file, which rise.
+    /// The numbers of these rows in the files.
     pub numbers: Vec<u32>,
     /// The lowest generation of which rows have their parents.
     pub least: u32,
@@ -23,8 +25,8 @@ pub struct Rows {
     pub may_grow: bool,
 }
 
-/// Reads the rows that the answer to a command needs, from the highest generation down. None if it may need more than a small part of the rows,
-/// if the words are no command that needs few, or if the file or an object isn't as it should be: then all rows may be enough.
+/// Reads the rows that the answer to a command needs, from the highest generation down. None if it may need more than a small part of them, if
+/// the words are no command that needs few, or if a file or an object isn't as it should be: then all rows may be enough.
 ///
 /// A list of `topo` or `date` with a limit begins with as many rows as it has lines, times a number: if these don't show the list, more may.
 ///
@@ -50,17 +52,20 @@ where
     let Some(asking) = Asking::of(alloc, command)? else {
         return Ok(None);
     };
-    if pages.load(0).is_err() {
-        return Ok(None);
+    match load_layouts(pages) {
+        Ok(()) => {}
+        Err(Damage::Memory) => return Err(AllocError),
+        Err(_) => return Ok(None),
     }
-    let Some(layout) = layout_of(pages) else {
+    let Some(layouts) = layouts_of(alloc, pages)? else {
         return Ok(None);
     };
+    let layouts = layouts.as_slice();
     let count = asking.count.saturating_mul(times);
-    let scout = Scout::new(alloc, keys, layout, asking.until, count);
+    let scout = Scout::new(alloc, keys, layouts, asking.until, count);
     let may_grow = asking.until == Until::Count;
     let chosen = match scout.find(pages, odb, &asking) {
-        Ok(found) => rows_of(alloc, pages, &found, may_grow),
+        Ok(found) => rows_of(alloc, pages, layouts, &found, may_grow),
         Err(stop) => Err(stop),
     };
     match chosen {
@@ -74,16 +79,27 @@ where
 fn rows_of<F: FileExt + Drop>(
     alloc: Global,
     pages: &mut Pages<F>,
+    layouts: &[Layout],
     found: &Found,
     may_grow: bool,
 ) -> Result<Rows, Stop> {
     let mut rows = Vec::new(alloc);
     let mut numbers = Vec::new(alloc);
+    let mut places = BTreeMap::new(alloc);
+    for (place, (number, _)) in found.rows.iter().enumerate() {
+        let Ok(place) = u32::try_from(place) else {
+            return Err(Stop::Unfit);
+        };
+        places.insert(*number, place)?;
+    }
     for (number, row) in found.rows.iter() {
         let mut parents = ParentPlaces::new(alloc);
         if row.generation >= found.least {
-            for parent in numbers_of_parents(alloc, pages, row)?.iter() {
-                parents.push(place_in(found.rows.as_slice(), *parent))?;
+            for parent in numbers_of_parents(alloc, pages, layouts, *number, row)?.iter() {
+                parents.push(match places.get(parent) {
+                    Some(place) => ParentPlace::At(*place),
+                    None => ParentPlace::Fault,
+                })?;
             }
         }
         let kept = Row {
@@ -105,16 +121,5 @@ fn rows_of<F: FileExt + Drop>(
         }),
         Err(GraphError::Memory) => Err(Stop::Memory),
         Err(_) => Err(Stop::Unfit),
-    }
-}
-
-/// The place of a row among these.
-fn place_in(rows: &[(u32, FileRow)], number: u32) -> ParentPlace {
-    match rows.binary_search_by(|(other, _)| other.cmp(&number)) {
-        Ok(place) => match u32::try_from(place) {
-            Ok(place) => ParentPlace::At(place),
-            Err(_) => ParentPlace::Fault,
-        },
-        Err(_) => ParentPlace::Fault,
     }
 }

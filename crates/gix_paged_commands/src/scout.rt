@@ -1,10 +1,11 @@
-//! Which rows of a file an answer needs.
+//! Which rows of a commit-graph an answer needs.
 use crate::asking::{Asking, ONE, OTHER, STALE, Until};
 use gix_files::Damage;
 use gix_gather::read_named;
 use gix_graph_check::read_whole;
 use gix_graph_pages::{
-    FileRow, Layout, Pages, Unlisted, Unread, layout_of, load_row, parents_of, place_of, row_at,
+    FileRow, Layout, Pages, Unlisted, Unread, id_in, layout_with, load_id, load_row, parents_in,
+    place_in, row_in,
 };
 use gix_hash::hashtable::IdMap;
 use gix_hash::{Keys, ObjectId};
@@ -18,7 +19,7 @@ use std::os::unix::fs::FileExt;
 
 /// How many commits without a row are read at the most.
 const MOST_NEW: usize = 1000;
-/// How many rows are read at the most: one of so many of the file. A row that is read by pages costs as much as some thirty of those that
+/// How many rows are read at the most: one of so many of all files. A row that is read by pages costs as much as some thirty of those that
 /// are read with all others.
 const SHARE: u32 = 64;
 /// How many rows may be read in any case.
@@ -48,8 +49,11 @@ impl<T: Drop> From<AllocFailed<T>> for Stop {
 }
 
 impl From<Damage> for Stop {
-    fn from(_damage: Damage) -> Stop {
-        Stop::Unfit
+    fn from(damage: Damage) -> Stop {
+        match damage {
+            Damage::Memory => Stop::Memory,
+            _ => Stop::Unfit,
+        }
     }
 }
 
@@ -64,9 +68,9 @@ struct Met {
 
 /// Rows that are met by generation, from the highest down.
 #[derive(Drop)]
-pub(crate) struct Scout {
+pub(crate) struct Scout<'a> {
     alloc: Global,
-    layout: Layout,
+    layouts: &'a [Layout],
     until: Until,
     met: BTreeMap<u32, Met>,
     /// The generations and numbers of rows whose parents weren't met.
@@ -85,21 +89,27 @@ pub(crate) struct Scout {
     new: IdMap<u8>,
 }
 
-/// Rows of a file: those of a question, and their parents.
+/// Rows of the files: those of a question, and their parents.
 #[derive(Drop)]
 pub(crate) struct Found {
-    /// Their numbers, which rise, and what they say.
+    /// Their numbers and what they say, by rising id.
     pub rows: Vec<(u32, FileRow)>,
     /// The generation below which their parents aren't among them.
     pub least: u32,
 }
 
-impl Scout {
-    /// No rows.
-    pub fn new(alloc: Global, keys: Keys, layout: Layout, until: Until, count: u64) -> Scout {
+impl<'a> Scout<'a> {
+    /// No rows of the files that are laid out so.
+    pub fn new(
+        alloc: Global,
+        keys: Keys,
+        layouts: &'a [Layout],
+        until: Until,
+        count: u64,
+    ) -> Scout<'a> {
         Scout {
             alloc,
-            layout,
+            layouts,
             until,
             met: BTreeMap::new(alloc),
             waiting: BinaryHeap::new(alloc),
@@ -125,9 +135,11 @@ impl Scout {
         F: FileExt + Drop,
     {
         self.meet_ids(pages, odb, asking.about.as_slice(), 0)?;
+        let mut asked = u32::MAX;
         for met in self.met.values() {
-            self.asked = self.asked.min(met.row.generation);
+            asked = asked.min(met.row.generation);
         }
+        self.asked = asked;
         self.meet_ids(pages, odb, asking.one.as_slice(), ONE)?;
         self.meet_ids(pages, odb, asking.other.as_slice(), OTHER)?;
         let least = self.go_down(pages)?;
@@ -135,6 +147,8 @@ impl Scout {
         for (number, met) in self.met.iter() {
             rows.push((*number, met.row))?;
         }
+        rows.as_mut_slice()
+            .sort_by(self.alloc, |(_, one), (_, other)| one.id.cmp(&other.id))?;
         Ok(Found { rows, least })
     }
 
@@ -163,7 +177,7 @@ impl Scout {
         pages: &mut Pages<F>,
         number: u32,
     ) -> Result<(), Stop> {
-        let most = FEW.max((self.layout.rows / SHARE) as usize);
+        let most = FEW.max((count_rows(self.layouts) / SHARE) as usize);
         self.done = self.done.saturating_add(1);
         if self.done > most {
             return Err(Stop::Unfit);
@@ -176,7 +190,7 @@ impl Scout {
         if self.until.goes_through(sides) {
             self.open = self.open.saturating_sub(1);
         }
-        let parents = numbers_of_parents(self.alloc, pages, &row)?;
+        let parents = numbers_of_parents(self.alloc, pages, self.layouts, number, &row)?;
         // In a file that isn't right many rows may name one long list.
         self.named = self.named.saturating_add(parents.len());
         if self.named > most.saturating_mul(PARENTS) {
@@ -217,8 +231,8 @@ impl Scout {
             }
             return Ok(());
         }
-        load_row(pages, self.layout, number)?;
-        let Some(row) = row_of(pages, number) else {
+        load_row(pages, self.layouts, number)?;
+        let Some(row) = row_of(pages, self.layouts, number) else {
             return Err(Stop::Unfit);
         };
         if until.goes_through(sides) {
@@ -253,7 +267,7 @@ impl Scout {
             let Some(id) = left.pop() else {
                 break;
             };
-            if let Some(number) = number_of(pages, &id)? {
+            if let Some(number) = number_of(pages, self.layouts, &id)? {
                 self.meet(pages, number, sides)?;
                 continue;
             }
@@ -283,68 +297,75 @@ impl Scout {
     }
 }
 
-/// What a row says whose pages were read.
-fn row_of<F: Drop>(pages: &Pages<F>, number: u32) -> Option<FileRow> {
-    let layout = layout_of(pages)?;
-    row_at(pages, layout, number)
+/// How many rows files have that are laid out so.
+fn count_rows(layouts: &[Layout]) -> u32 {
+    match layouts.last() {
+        Some(last) => last.start.saturating_add(last.rows),
+        None => 0,
+    }
 }
 
-/// The numbers of the rows of a row's parents, in order. Reads the pages that list them.
+/// What a row says whose pages were read.
+fn row_of<F: Drop>(pages: &Pages<F>, layouts: &[Layout], number: u32) -> Option<FileRow> {
+    row_in(pages, layout_with(layouts, number)?, number)
+}
+
+/// The numbers of the rows of the parents of the row of this number, in order. Reads the pages that list them.
 pub(crate) fn numbers_of_parents<F: FileExt + Drop>(
     alloc: Global,
     pages: &mut Pages<F>,
+    layouts: &[Layout],
+    number: u32,
     row: &FileRow,
 ) -> Result<Vec<u32>, Stop> {
-    for _ in 0..MOST_PROBES {
-        match listed(alloc, pages, row) {
-            Some(Ok(numbers)) => return Ok(numbers),
-            Some(Err(Unlisted::Unread(Unread(place)))) => pages.load(place)?,
-            Some(Err(Unlisted::Memory)) => return Err(Stop::Memory),
-            _ => break,
-        }
-    }
-    Err(Stop::Unfit)
-}
-
-/// The numbers of the rows of a row's parents, by the pages that were read.
-fn listed<F: Drop>(
-    alloc: Global,
-    pages: &Pages<F>,
-    row: &FileRow,
-) -> Option<Result<Vec<u32>, Unlisted>> {
-    Some(parents_of(alloc, pages, layout_of(pages)?, row))
-}
-
-/// The number of the row of an id, and None if it has none. Reads what the search needs, and the ids next to its place.
-fn number_of<F: FileExt + Drop>(pages: &mut Pages<F>, id: &ObjectId) -> Result<Option<u32>, Stop> {
-    for _ in 0..MOST_PROBES {
-        match probe(pages, id) {
-            Some(Ok(place)) => return number_at(pages, id, place),
-            Some(Err(Unread(place))) => pages.load(place)?,
-            None => break,
-        }
-    }
-    Err(Stop::Unfit)
-}
-
-/// Where the row of an id is or would be, by the pages that were read.
-fn probe<F: Drop>(pages: &Pages<F>, id: &ObjectId) -> Option<Result<u32, Unread>> {
-    Some(place_of(pages, layout_of(pages)?, id))
-}
-
-/// The number of the row of an id, which has this place if it has a row.
-fn number_at<F: FileExt + Drop>(
-    pages: &mut Pages<F>,
-    id: &ObjectId,
-    place: u32,
-) -> Result<Option<u32>, Stop> {
-    let Some(layout) = layout_of(pages) else {
+    let Some(layout) = layout_with(layouts, number) else {
         return Err(Stop::Unfit);
     };
-    load_row(pages, layout, place.saturating_sub(1))?;
-    load_row(pages, layout, place)?;
-    match row_of(pages, place) {
-        Some(row) if row.id == *id => Ok(Some(place)),
-        _ => Ok(None),
+    for _ in 0..MOST_PROBES {
+        match parents_in(alloc, pages, layout, row) {
+            Ok(numbers) => return Ok(numbers),
+            Err(Unlisted::Unread(unread)) => load(pages, unread)?,
+            Err(Unlisted::Memory) => return Err(Stop::Memory),
+            Err(Unlisted::Endless) => break,
+        }
     }
+    Err(Stop::Unfit)
+}
+
+/// The number of the row of an id, and None if it has none. Reads what the search needs, and the ids next to its place in each file, of which
+/// the uppermost have the newest commits.
+fn number_of<F: FileExt + Drop>(
+    pages: &mut Pages<F>,
+    layouts: &[Layout],
+    id: &ObjectId,
+) -> Result<Option<u32>, Stop> {
+    for layout in layouts.iter().rev() {
+        let place = place_of(pages, layout, id)?;
+        load_id(pages, layout, place)?;
+        if id_in(pages, layout, place) == Some(*id) {
+            return Ok(Some(place));
+        }
+        load_id(pages, layout, place.saturating_sub(1))?;
+    }
+    Ok(None)
+}
+
+/// The place of an id in a file. Reads what the search needs.
+fn place_of<F: FileExt + Drop>(
+    pages: &mut Pages<F>,
+    layout: &Layout,
+    id: &ObjectId,
+) -> Result<u32, Stop> {
+    for _ in 0..MOST_PROBES {
+        match place_in(pages, layout, id) {
+            Ok(place) => return Ok(place),
+            Err(unread) => load(pages, unread)?,
+        }
+    }
+    Err(Stop::Unfit)
+}
+
+/// Reads a page that has to be read first.
+fn load<F: FileExt + Drop>(pages: &mut Pages<F>, unread: Unread) -> Result<(), Stop> {
+    Ok(pages.load(unread.layer, unread.place)?)
 }

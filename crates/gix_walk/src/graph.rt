@@ -136,21 +136,6 @@ fn keep_blocks(rt: &HostRuntime) {
     drop(block);
 }
 
-/// The path of the commit-graph, if it is one file and these options take one.
-pub(crate) fn single_file(
-    repository: &mut Repository<HostRuntime>,
-    options: &Options,
-) -> Result<Option<String>, Failure> {
-    if options.rows == Rows::Unused {
-        return Ok(None);
-    }
-    let mut paths = repository.graph_layers()?;
-    if paths.len() > 1 {
-        return Ok(None);
-    }
-    Ok(paths.pop())
-}
-
 /// Whether these options take a file that is open: it has passed, or is trusted.
 pub(crate) fn is_taken(
     rt: &HostRuntime,

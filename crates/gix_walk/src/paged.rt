@@ -1,6 +1,6 @@
 //! Answers from few rows of a commit-graph.
 use crate::failure::Failure;
-use crate::graph::{is_taken, single_file};
+use crate::graph::is_taken;
 use gix_gather::{Gathering, Order};
 use gix_graph_pages::Pages;
 use gix_hash::hashtable::IdSet;
@@ -13,13 +13,15 @@ use gix_repository::Repository;
 use gix_repository_commands::{Part, Silent};
 use std::fs::Files;
 
-/// How many bytes a file has at the most that is read by pages.
+/// How many bytes all files have at the most that are read by pages.
 const MOST_BYTES: u64 = 1 << 32;
+/// How many files these are at the most.
+const MOST_FILES: usize = 64;
 
 /// How many rows are gone through first for each line of a list with a limit, and then, as long as these aren't enough.
 const TIMES: &[u64] = &[2, 8, 32];
 
-/// The file of a commit-graph that may be used, and the pages of it that were read.
+/// The files of a commit-graph that may be used, and the pages of them that were read.
 #[derive(Drop)]
 pub(crate) struct Paged<'a> {
     rt: &'a HostRuntime,
@@ -28,27 +30,49 @@ pub(crate) struct Paged<'a> {
 }
 
 impl<'a> Paged<'a> {
-    /// Opens the file of the commit-graph that these options take. None if it isn't one file that may be used.
+    /// Opens the files of the commit-graph that these options take. None if there are none, or if one of them may not be used.
     pub fn open(
         rt: &'a HostRuntime,
         keys: Keys,
         repository: &mut Repository<HostRuntime>,
         options: &Options,
     ) -> Result<Option<Paged<'a>>, Failure> {
-        let Some(path) = single_file(repository, options)? else {
-            return Ok(None);
-        };
-        let Ok(Some(opened)) = gix_files::open(rt, path.as_str()) else {
-            return Ok(None);
-        };
-        if opened.len > MOST_BYTES || !is_taken(rt, options, &opened.file)? {
+        if options.rows == gix_options::Rows::Unused {
             return Ok(None);
         }
-        let pages = Pages::new(rt.alloc(), opened.file, opened.len)?;
+        let paths = repository.graph_layers()?;
+        if paths.is_empty() || paths.len() > MOST_FILES {
+            return Ok(None);
+        }
+        let mut pages = Pages::new(rt.alloc());
+        let mut left = MOST_BYTES;
+        for path in paths.iter() {
+            let Ok(Some(opened)) = gix_files::open(rt, path.as_str()) else {
+                return Ok(None);
+            };
+            let Some(rest) = left.checked_sub(opened.len) else {
+                return Ok(None);
+            };
+            if !is_taken(rt, options, &opened.file)? {
+                return Ok(None);
+            }
+            pages.add(opened.file, opened.len)?;
+            left = rest;
+        }
         Ok(Some(Paged { rt, keys, pages }))
     }
 
-    /// The lines of a command that asks about these ids. None if few rows don't show them, or if the file was changed.
+    /// Whether these options take all of the files.
+    fn are_taken(&self, options: &Options) -> Result<bool, Failure> {
+        for file in self.pages.files() {
+            if !is_taken(self.rt, options, file)? {
+                return Ok(false);
+            }
+        }
+        Ok(true)
+    }
+
+    /// The lines of a command that asks about these ids. None if few rows don't show them, or if a file was changed.
     pub fn lines(
         &mut self,
         odb: &mut Odb<HostRuntime>,
@@ -93,7 +117,7 @@ impl<'a> Paged<'a> {
         let Ok(Some(lines)) = run_paged(alloc, words, objects, &self.pages, rows) else {
             return Ok(None);
         };
-        if is_taken(self.rt, options, self.pages.file())? {
+        if self.are_taken(options)? {
             Ok(Some(lines))
         } else {
             Ok(None)

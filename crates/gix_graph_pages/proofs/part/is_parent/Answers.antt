@@ -14,5 +14,5 @@ returns-in-Some-id_at g c t =
     record {
       position = c.in-Ok.position;
       is = c.in-Some.is ∙ ap (λ (a : Answer). Some a) c.in-Ok.is;
-      id = subst (HasId c.args.pages.now c.args.number) id c.in-Some-id_at.ensures;
+      id = subst (HasId c.args.pages.now c.args.number) id (c.in-Some-id_at.ensures c.requires.layouts);
     }

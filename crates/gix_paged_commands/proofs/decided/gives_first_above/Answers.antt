@@ -1,5 +1,5 @@
 use Rattle.std.proofs.Common.{[], ◌∷◌, ◌++◌, arith, subst}
-use Rattle.gix_commands.proofs.OutputFacts.{drawn_one}
+use Rattle.gix_merge_base.proofs.Gathering.{drawn_one}
 use Rattle.gix_graph_pages.specs.PagedRows.{IsAbove}
 use Rattle.gix_paged_commands.specs.Decided.{AreAllAbove}
 use Rattle.gix_paged_commands.proofs.Drawing.{one_longer, one_more}
