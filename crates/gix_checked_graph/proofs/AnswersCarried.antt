@@ -1,29 +1,13 @@
--- Lines that were written over pages of a file that was compared with the commits are right of objects alone.
-use Rattle.std.proofs.Common.{◌≡◌, ◌≢◌, ℕ, List, [], Bool, true, false, Option, Some, None, Contains, bytes_eq, Decides, Less, Equal, get_or, refl, sym, ap, ◌∙◌, inl}
-use Rattle.std.specs.Cmp.{Equal-is}
+-- Lines that were written over pages of files that were compared with the commits are right of objects alone.
+use Rattle.std.proofs.Common.{◌≡◌, ◌≢◌, ℕ, List, [], Bool, true, false, Option, Some, None, Contains, bytes_eq, Decides, refl, sym, ap, ◌∙◌, inl}
 use Rattle.std.proofs.lemmas.Bool.{false≢true}
 use Rattle.std.proofs.lemmas.Option.{none-some, same_Some}
 use Rattle.std.proofs.lemmas.Slice.Eq.{bytes_eq-Decides}
-use Rattle.gix_hash.specs.Id.{id_cmp}
 use Rattle.gix_hash.specs.declared.ObjectId.{ObjectId}
-use Rattle.gix_hash.specs.declared.ObjectId.TheVariants.{Sha1, Sha256}
-use Rattle.gix_hash.proofs.Ids.Membership.{same_from}
-use Rattle.gix_statement.specs.WholeStatement.{Agree, Carries, Clash, IsText, Object, Objects, Row, by_bytes}
+use Rattle.gix_statement.specs.WholeStatement.{Agree, Carries, Clash, IsText, Object, Objects, Row}
 use Rattle.gix_commands.proofs.RowsAsTexts.{text_moves}
-use Rattle.gix_checked_graph.specs.Checked.{CheckedAnswers, HasAllOf, IsChecked}
-
--- ids that rise are different
-pub same_order : (i j : ObjectId) → by_bytes i j ≡ id_cmp i j
-same_order (Sha1 a) (Sha1 b) = refl
-same_order (Sha1 a) (Sha256 b) = refl
-same_order (Sha256 a) (Sha1 b) = refl
-same_order (Sha256 a) (Sha256 b) = refl
-
-less_differs : (i j : ObjectId) → by_bytes i j ≡ Less → i ≢ j
-less_differs i j less e =
-    let same : id_cmp i j ≡ Equal = (Equal-is (id_cmp i j)).0 (same_from i j e) in
-    let bad : Less ≡ Equal = sym less ∙ same_order i j ∙ same in
-    cc
+use Rattle.gix_graph_pages.specs.GraphPages.{Layer, all_rows}
+use Rattle.gix_checked_graph.specs.Checked.{AreChecked, CheckedAnswers, HasAllOf}
 
 -- texts that don't differ are one
 same_list : (xs ys : List ℕ) → (xs ≢ ys → ⊥) → xs ≡ ys
@@ -39,37 +23,35 @@ same_object a b h =
     let bytes = same_list a.bytes b.bytes (λ n. h (λ e. n (ap (λ (o : Object). o.bytes) e))) in
     (λ k. record { kind = kinds k; bytes = bytes k })
 
-stays : (objects some : Objects) → HasAllOf objects some → (i : ObjectId) (o : Object) → some i ≡ Some o → objects i ≡ Some o
+-- what some have stays
+pub stays : (objects some : Objects) → HasAllOf objects some → (i : ObjectId) (o : Object) → some i ≡ Some o → objects i ≡ Some o
 stays objects some has i o e = go (objects i) refl
   where
     go : (found : Option Object) → objects i ≡ found → objects i ≡ Some o
     go None n = absurd (has.0 i (λ none. let no : Some o ≡ None = sym e ∙ none in cc) n)
     go (Some b) n = n ∙ ap Some (sym (same_object o b (λ differ. has.1 (i, o, b, e, n, differ))))
 
-module _ (file : List ℕ) (checked objects read : Objects) (is : IsChecked file checked) (has_read : HasAllOf objects read) (has_checked : HasAllOf objects checked) where
-  text_there : (r : Row) → Contains is.rows r → IsText objects r
-  text_there r m = text_moves checked objects r (stays objects checked has_checked r.id) (is.texts r m)
+module _ (layers : List Layer) (checked objects read : Objects) (are : AreChecked layers checked) (has_read : HasAllOf objects read) (has_checked : HasAllOf objects checked) where
+  text_there : (r : Row) → Contains (all_rows layers) r → IsText objects r
+  text_there r m = text_moves checked objects r (stays objects checked has_checked r.id) (are.texts r m)
 
   -- the rows contradict no object that was read
-  agree : Agree read is.rows
-  agree = (
-    (λ i j d less within. less_differs (get_or is.rows i d).id (get_or is.rows j d).id (is.sound.rising i j d less within)),
-    λ r m some. text_moves objects read r (λ o. back r some o (read r.id) refl) (text_there r m),
-  )
+  agree : Agree read (all_rows layers)
+  agree = (are.apart, λ r m some. text_moves objects read r (λ o. back r some o (read r.id) refl) (text_there r m))
     where
       back : (r : Row) → read r.id ≢ None → (o : Object) (found : Option Object) → read r.id ≡ found → objects r.id ≡ Some o → read r.id ≡ Some o
       back r some o None e at = absurd (some e)
       back r some o (Some a) e at = e ∙ sym (stays objects read has_read r.id a e) ∙ at
 
 pub checked_answers : Carries → CheckedAnswers
-checked_answers carries file checked objects pages words lines is had answers has_read has_checked =
-    carries answers.0 objects is.rows [] words (Some []) (Some lines) has_read.0 has_read.1
-    (λ r m. inl (text_there file checked objects answers.0 is has_read has_checked r m))
-    (answers.2 file is.rows is.generation (record { has = had; layers = is.layers; sound = is.sound }) (agree file checked objects answers.0 is has_read has_checked))
+checked_answers carries layers checked objects pages words lines are had answers has_read has_checked =
+    carries answers.0 objects (all_rows layers) [] words (Some []) (Some lines) has_read.0 has_read.1
+    (λ r m. inl (text_there layers checked objects answers.0 are has_read has_checked r m))
+    (answers.2 layers are.generation had are.sound (agree layers checked objects answers.0 are has_read has_checked))
 
 -- ---- the object of the first if it has one, and else that of the second: these have both, unless two objects have one id
 
-abbrev first_of : Option Object → Option Object → Option Object
+abbrev pub first_of : Option Object → Option Object → Option Object
 first_of None other = other
 first_of (Some o) other = Some o
 

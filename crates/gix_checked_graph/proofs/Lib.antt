@@ -1,7 +1,13 @@
--- What it is good for that a file was compared with the commits.
--- Lines that were written over pages of such a file are right of objects alone.
+-- What it is good for that the files of a commit-graph were compared with the commits.
+-- Lines that were written over pages of such files are right of objects alone.
 pub mod AnswersCarried
--- A file in which no difference was found has rows in order and sound, which texts of objects say.
-pub mod FileChecked
+-- The lowest files of a chain have the first of its rows.
+pub mod LowestFiles
+-- Files in which no difference was found have rows in order and sound, which texts of objects say.
+pub mod FilesChecked
+-- The same where no file has passed before.
+mod FromNothing
 -- A worked file of one row, and its commit under the id that git prints.
 mod OneRow
+-- A worked chain of two files, above that one a file whose commit has the other as its parent.
+mod TwoLayers

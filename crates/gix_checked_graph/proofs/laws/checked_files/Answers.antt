@@ -1,5 +1,5 @@
 use Rattle.gix_checked_graph.proofs.laws.checked_files.Goals as goal
-use Rattle.gix_checked_graph.proofs.FileChecked.{checked_files}
+use Rattle.gix_checked_graph.proofs.FilesChecked.{checked_files}
 
 pub returns : goal.returns
-returns c = checked_files c.all_agree.ensures
+returns c = checked_files
