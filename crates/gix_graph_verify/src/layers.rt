@@ -8,7 +8,7 @@ use std::io::ErrorKind;
 use std::os::unix::fs::FileExt;
 use thiserror::Error;
 
-/// How many bytes of a file are read at the most.
+/// How many bytes of all files are read at the most.
 const MOST_BYTES: u64 = 1 << 32;
 
 /// A file that was read.
@@ -28,7 +28,7 @@ pub enum LayerFault {
     /// There is no file of this path, or the system didn't open or read it.
     #[error("{0:?}: it can't be read")]
     Unreadable(String),
-    /// It has more than 2^32 bytes.
+    /// With it the files have more than 2^32 bytes.
     #[error("{0:?}: it is too large")]
     TooLarge(String),
     /// Memory ran out.
@@ -90,15 +90,19 @@ pub(crate) fn fill<F: FileExt>(file: &F, buffer: &mut [u8], at: u64) -> Option<u
     None
 }
 
-/// All bytes of a file.
-fn read_whole<F: FileExt + OpenFile>(alloc: Global, file: &F) -> Result<Vec<u8>, Trouble> {
+/// All bytes of a file, if these are at most so many.
+fn read_whole<F: FileExt + OpenFile>(
+    alloc: Global,
+    file: &F,
+    most: u64,
+) -> Result<Vec<u8>, Trouble> {
     let Ok(about) = file.metadata() else {
         return Err(Trouble::Unreadable);
     };
     if !about.is_file() {
         return Err(Trouble::Unreadable);
     }
-    if about.len() > MOST_BYTES {
+    if about.len() > most {
         return Err(Trouble::TooLarge);
     }
     let mut bytes = vec![in alloc; 0u8; about.len() as usize]?;
@@ -109,8 +113,8 @@ fn read_whole<F: FileExt + OpenFile>(alloc: Global, file: &F) -> Result<Vec<u8>,
     Ok(bytes)
 }
 
-/// Reads a file, and says whether it has passed.
-fn read_layer<R>(rt: &R, cache: Option<&str>, path: &str) -> Result<Layer, LayerFault>
+/// Reads a file of at most so many bytes, and says whether it has passed.
+fn read_layer<R>(rt: &R, cache: Option<&str>, path: &str, most: u64) -> Result<Layer, LayerFault>
 where
     R: Files + AllocGlobal + Clone + Drop,
     R::File: FileExt,
@@ -119,7 +123,7 @@ where
     let Some(file) = open(rt, path.as_str()) else {
         return Err(LayerFault::Unreadable(path));
     };
-    let bytes = match read_whole(rt.alloc(), &file) {
+    let bytes = match read_whole(rt.alloc(), &file, most) {
         Ok(bytes) => bytes,
         Err(Trouble::Unreadable) => return Err(LayerFault::Unreadable(path)),
         Err(Trouble::TooLarge) => return Err(LayerFault::TooLarge(path)),
@@ -144,7 +148,7 @@ where
 ///
 /// # Errors
 ///
-/// The first file that can't be read, or has more than 2^32 bytes. `Memory`.
+/// The first file that can't be read, or with which they have more than 2^32 bytes. `Memory`.
 pub fn read_layers<R>(
     rt: &R,
     cache: Option<&str>,
@@ -155,8 +159,11 @@ where
     R::File: FileExt,
 {
     let mut layers = Vec::new(rt.alloc());
+    let mut left = MOST_BYTES;
     for path in paths {
-        layers.push(read_layer(rt, cache, path.as_str())?)?;
+        let layer = read_layer(rt, cache, path.as_str(), left)?;
+        left = left.saturating_sub(layer.bytes.len() as u64);
+        layers.push(layer)?;
     }
     Ok(layers)
 }
