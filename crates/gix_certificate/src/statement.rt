@@ -8,7 +8,7 @@ use std::alloc::Global;
 pub const PAGES: &[(&str, &str)] = &[
     (
         "crates/gix_statement/specs/WholeStatement.antt",
-        "894149b285474eb5acf2cb75dd97b169cfaa37ef6d4899ea721c5c6e8dd5a608",
+        "b18361900affb920eac2b033c1219eb2114247e14a7e6fe1eb1b9e6ab67c1258",
     ),
     (
         "crates/gix_statement/specs/Formats.antt",
@@ -20,7 +20,7 @@ pub const PAGES: &[(&str, &str)] = &[
     ),
     (
         "crates/gix_graph_pages/specs/GraphPages.antt",
-        "7ddb096955001a08b53351642a59f41845eb85c6e6bb6258e642ada2afba9d6f",
+        "6c52804e16a414b2cf5b78896c6de157ddf9eb299b270476e2a35b1f210eb148",
     ),
 ];
 
