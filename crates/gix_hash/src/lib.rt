@@ -94,6 +94,7 @@ impl ObjectId {
 
     /// The id of this kind that hex digits in either case spell, and None where they spell none. Reads what `from_hex` reads of
     /// the kind's length, sixteen digits at a time.
+    #[inline(always)]
     pub fn from_digits(digits: &[u8], kind: Kind) -> Option<ObjectId>
         ensures { result ≡ id_of_hex kind digits.now }
     {

@@ -6,6 +6,8 @@ pub mod Newline
 pub mod Items
 -- The items that an iterator has left.
 pub mod ItemsLeft
+-- What is left behind each line that is taken.
+pub mod Taken
 -- Reading gives exactly the texts of commits.
 pub mod Texts
 -- The seconds of a signature.

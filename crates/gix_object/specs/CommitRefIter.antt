@@ -54,6 +54,26 @@ first_committer (Ok (Author line) ∷ items) = first_committer items
 first_committer (Ok (Committer signature) ∷ items) = Ok signature
 first_committer (Ok (Rest bytes) ∷ items) = first_committer items
 
+-- the next parent, behind the tree where that comes first; or that a fault comes, or neither
+abbrev pub next_parent : List (Result Item Error) → Result (Option ObjectId) Error
+next_parent [] = Ok None
+next_parent (Err e ∷ items) = Err e
+next_parent (Ok (Tree i) ∷ items) = next_parent items
+next_parent (Ok (Parent i) ∷ items) = Ok (Some i)
+next_parent (Ok (Author line) ∷ items) = Ok None
+next_parent (Ok (Committer signature) ∷ items) = Ok None
+next_parent (Ok (Rest bytes) ∷ items) = Ok None
+
+-- the items behind it: without the author, but with what may come after that
+abbrev pub behind_parent : List (Result Item Error) → List (Result Item Error)
+behind_parent [] = []
+behind_parent (Err e ∷ items) = items
+behind_parent (Ok (Tree i) ∷ items) = behind_parent items
+behind_parent (Ok (Parent i) ∷ items) = items
+behind_parent (Ok (Author line) ∷ items) = items
+behind_parent (Ok (Committer signature) ∷ items) = Ok (Committer signature) ∷ items
+behind_parent (Ok (Rest bytes) ∷ items) = Ok (Rest bytes) ∷ items
+
 abbrev pub signature_shown : Result Signature Error → Result (List ℕ) Error
 signature_shown (Ok s) = Ok s.bytes.now
 signature_shown (Err e) = Err e

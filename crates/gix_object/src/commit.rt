@@ -1,11 +1,12 @@
 //! The items of a commit: its tree, its parents, its author and committer, and the rest of its bytes.
-ghost use Rattle.std.specs.Prelude.{◌≡◌, codes, drop, min, None, Some, Err, []};
+ghost use Rattle.std.specs.Prelude.{◌≡◌, ◌==◌, false, codes, drop, length, min, None, Some, Err, []};
 ghost use Rattle.std.specs.Option.{option_map, option_copied};
 ghost use Rattle.std.specs.Iterator.{YieldsFirstBy, item_count};
 ghost use Rattle.memchr.specs.Find.{IsFirstByte, is_byte};
+ghost use Rattle.gix_object.specs.declared.commit.Place.TheVariants as state;
 ghost use Rattle.gix_object.specs.CommitItems.{AtTree, AtEnd, Found, Rest, after_word, line_at, id_line_at, text_line_at, tree_front, author_front, committer_front, parent_front, front, commit_items};
 ghost use Rattle.gix_object.specs.CommitText.{behind_last, without_spaces, digits_from, signed_seconds, seconds_of};
-ghost use Rattle.gix_object.specs.CommitRefIter.{place_of, commit_items_left, IsTaken, item_shown, first_tree, first_committer, signature_shown};
+ghost use Rattle.gix_object.specs.CommitRefIter.{place_of, commit_items_left, IsTaken, item_shown, first_tree, first_committer, signature_shown, next_parent, behind_parent};
 
 use crate::decode::Error;
 use gix_hash::{Kind, ObjectId};
@@ -113,6 +114,7 @@ pub struct CommitRefIter<'a> {
 }
 
 /// What follows a word at the front of the bytes.
+#[inline(always)]
 fn after_word<'a>(bytes: &'a [u8], word: &[u8]) -> Option<&'a [u8]>
     ensures { option_copied result ≡ after_word word.now bytes.now }
 {
@@ -143,6 +145,7 @@ fn line_at(bytes: &[u8]) -> Option<(&[u8], &[u8])>
 }
 
 /// An id in hex digits and a newline: the id, and the bytes behind them.
+#[inline(always)]
 fn id_line_at(bytes: &[u8], kind: Kind) -> Option<(ObjectId, &[u8])>
     ensures { option_map (λ r. (r.0, r.1.now)) result ≡ id_line_at kind (Some bytes.now) }
 {
@@ -185,99 +188,164 @@ impl<'a> CommitRefIter<'a> {
     ///
     /// # Errors
     /// The first fault, where it comes before a committer, and `Missing` where the items end before both.
-    pub fn committer(self) -> Result<Signature<'a>, Error>
+    pub fn committer(mut self) -> Result<Signature<'a>, Error>
         ensures { signature_shown result ≡ first_committer (commit_items_left self.entry) }
     {
-        for token in self {
-            if let Token::Committer { signature } = token? {
-                return Ok(signature);
+        while !self.bytes.is_empty() {
+            match self.place {
+                Place::Tree => {
+                    self.take_tree()?;
+                }
+                Place::Parents => {
+                    self.take_parent_or_author()?;
+                }
+                Place::Committer => {
+                    if let Token::Committer { signature } = self.take_committer()? {
+                        return Ok(signature);
+                    }
+                }
+                Place::Rest | Place::End => break,
             }
         }
         Err(Error::Missing)
     }
 
+    /// Takes the next parent, with the tree where that comes before it. None where another item comes next, or none: where that is the
+    /// author it is taken, and a later one is left.
+    ///
+    /// # Errors
+    /// The fault, where it comes before a parent and any other item but the tree. It is taken.
+    #[inline(always)]
+    pub fn next_parent(&mut self) -> Result<Option<ObjectId>, Error>
+        ensures parent { result ≡ next_parent (commit_items_left self.old) }
+        ensures left { commit_items_left self.new ≡ behind_parent (commit_items_left self.old) }
+    {
+        while !self.bytes.is_empty() {
+            match self.place {
+                Place::Tree => {
+                    self.take_tree()?;
+                }
+                Place::Parents => {
+                    return match self.take_parent_or_author()? {
+                        Token::Parent { id } => Ok(Some(id)),
+                        _ => Ok(None),
+                    };
+                }
+                Place::Committer => return self.fault_at_committer(),
+                Place::Rest | Place::End => break,
+            }
+        }
+        Ok(None)
+    }
+
+    /// The fault of the committer's line, if it has one. Then it is taken.
+    #[inline(never)]
+    fn fault_at_committer(&mut self) -> Result<Option<ObjectId>, Error>
+        requires place { self.old.place ≡ state.Committer }
+        requires some { false ≡ (length self.old.bytes.now == 0) }
+        ensures parent { result ≡ next_parent (commit_items_left self.old) }
+        ensures left { commit_items_left self.new ≡ behind_parent (commit_items_left self.old) }
+    {
+        let mut ahead = *self;
+        if let Err(fault) = ahead.take_committer() {
+            *self = ahead;
+            return Err(fault);
+        }
+        Ok(None)
+    }
+
     /// Ends at a fault.
-    fn end_at(&mut self, why: Error) -> Option<Result<Token<'a>, Error>>
-        ensures result { result ≡ Some (Err why) }
+    fn end_at(&mut self, why: Error) -> Error
+        ensures result { result ≡ why }
         ensures kind { self.new.kind ≡ self.old.kind }
         ensures end { place_of self.new.place ≡ AtEnd }
     {
         self.place = Place::End;
-        Some(Err(why))
+        why
     }
 
     /// Takes the tree's line.
-    #[inline(never)]
-    fn take_tree(&mut self) -> Option<Result<Token<'a>, Error>>
-        ensures { IsTaken self.old (tree_front (id_line_at self.old.kind (after_word (codes "tree ") self.old.bytes.now))) result self.new }
+    #[inline(always)]
+    fn take_tree(&mut self) -> Result<Token<'a>, Error>
+        ensures { IsTaken self.old (tree_front (id_line_at self.old.kind (after_word (codes "tree ") self.old.bytes.now))) (Some result)
+            self.new }
     {
         let Some(digits) = after_word(self.bytes, b"tree ") else {
-            return self.end_at(Error::Tree);
+            return Err(self.end_at(Error::Tree));
         };
         let Some((id, rest)) = id_line_at(digits, self.kind) else {
-            return self.end_at(Error::Tree);
+            return Err(self.end_at(Error::Tree));
         };
         self.bytes = rest;
         self.place = Place::Parents;
-        Some(Ok(Token::Tree { id }))
+        Ok(Token::Tree { id })
     }
 
     /// Takes a parent's line, or the author's.
-    #[inline(never)]
-    fn take_parent_or_author(&mut self) -> Option<Result<Token<'a>, Error>>
+    #[inline(always)]
+    fn take_parent_or_author(&mut self) -> Result<Token<'a>, Error>
         ensures { IsTaken self.old (parent_front self.old.kind self.old.bytes.now (after_word (codes "parent ") self.old.bytes.now)
-            (id_line_at self.old.kind (after_word (codes "parent ") self.old.bytes.now))) result self.new }
+            (id_line_at self.old.kind (after_word (codes "parent ") self.old.bytes.now))) (Some result) self.new }
     {
         let Some(digits) = after_word(self.bytes, b"parent ") else {
             return self.take_author();
         };
         let Some((id, rest)) = id_line_at(digits, self.kind) else {
-            return self.end_at(Error::Parent);
+            return Err(self.end_at(Error::Parent));
         };
         self.bytes = rest;
         self.place = Place::Parents;
-        Some(Ok(Token::Parent { id }))
+        Ok(Token::Parent { id })
     }
 
     /// Takes the author's line.
-    fn take_author(&mut self) -> Option<Result<Token<'a>, Error>>
-        ensures { IsTaken self.old (author_front (text_line_at (after_word (codes "author ") self.old.bytes.now))) result self.new }
+    #[inline(always)]
+    fn take_author(&mut self) -> Result<Token<'a>, Error>
+        ensures { IsTaken self.old (author_front (text_line_at (after_word (codes "author ") self.old.bytes.now))) (Some result) self.new }
     {
-        let Some((line, rest)) = after_word(self.bytes, b"author ").and_then(line_at) else {
-            return self.end_at(Error::Author);
+        let Some(text) = after_word(self.bytes, b"author ") else {
+            return Err(self.end_at(Error::Author));
+        };
+        let Some((line, rest)) = line_at(text) else {
+            return Err(self.end_at(Error::Author));
         };
         self.bytes = rest;
         self.place = Place::Committer;
-        Some(Ok(Token::Author { line }))
+        Ok(Token::Author { line })
     }
 
-    /// Takes the committer's line.
-    #[inline(never)]
-    fn take_committer(&mut self) -> Option<Result<Token<'a>, Error>>
-        ensures { IsTaken self.old (committer_front (text_line_at (after_word (codes "committer ") self.old.bytes.now))) result self.new }
+    /// Takes the committer's line. Its word is compared in two parts, each of which fits into a register.
+    #[inline(always)]
+    fn take_committer(&mut self) -> Result<Token<'a>, Error>
+        ensures { IsTaken self.old (committer_front (text_line_at (after_word (codes "committer ") self.old.bytes.now))) (Some result)
+            self.new }
     {
-        let Some((line, rest)) = after_word(self.bytes, b"committer ").and_then(line_at) else {
-            return self.end_at(Error::Committer);
+        let Some(text) = after_word(self.bytes, b"committ") else {
+            return Err(self.end_at(Error::Committer));
+        };
+        let Some(text) = after_word(text, b"er ") else {
+            return Err(self.end_at(Error::Committer));
+        };
+        let Some((line, rest)) = line_at(text) else {
+            return Err(self.end_at(Error::Committer));
         };
         self.bytes = rest;
         self.place = Place::Rest;
         let signature = Signature { bytes: line };
-        Some(Ok(Token::Committer { signature }))
+        Ok(Token::Committer { signature })
     }
 
     /// Takes all that is left.
-    #[inline(never)]
-    fn take_rest(&mut self) -> Option<Result<Token<'a>, Error>>
-        ensures { IsTaken self.old (Found (Rest self.old.bytes.now) AtEnd []) result self.new }
+    fn take_rest(&mut self) -> Result<Token<'a>, Error>
+        ensures { IsTaken self.old (Found (Rest self.old.bytes.now) AtEnd []) (Some result) self.new }
     {
         let bytes = self.bytes;
         self.bytes = &[];
         self.place = Place::End;
-        Some(Ok(Token::Rest { bytes }))
+        Ok(Token::Rest { bytes })
     }
 
     /// Takes what is at the front of the bytes left.
-    #[inline(always)]
     fn take(&mut self) -> Option<Result<Token<'a>, Error>>
         ensures { IsTaken self.old (front self.old.kind (place_of self.old.place) self.old.bytes.now) result self.new }
     {
@@ -285,10 +353,10 @@ impl<'a> CommitRefIter<'a> {
             return None;
         }
         match self.place {
-            Place::Tree => self.take_tree(),
-            Place::Parents => self.take_parent_or_author(),
-            Place::Committer => self.take_committer(),
-            Place::Rest => self.take_rest(),
+            Place::Tree => Some(self.take_tree()),
+            Place::Parents => Some(self.take_parent_or_author()),
+            Place::Committer => Some(self.take_committer()),
+            Place::Rest => Some(self.take_rest()),
             Place::End => None,
         }
     }

@@ -24,6 +24,8 @@ pub mod SomeOrder
 pub mod ReadsWhole
 -- A commit that reads whole has the parents that its text names.
 pub mod TextParents
+-- What the next parent among a commit's items says of all its parents, and of its committer.
+mod NextParents
 -- What was drawn to its end, one answer after the other.
 pub mod Drained
 -- A fault of a committer is found exactly where no commit is read.

@@ -1,5 +1,5 @@
 -- What a list has in which each is pending when it comes: exactly what is reached. A beginning of one has only what is reached.
-use Rattle.std.proofs.Common.{◌≡◌, ◌⊎◌, List, [], ◌∷◌, ◌++◌, Bool, true, false, cond, Contains, find, Some, None, refl, sym, subst, ⊎_elim, ◌∙◌, true≢false, flat_map}
+use Rattle.std.proofs.Common.{◌≡◌, List, [], ◌∷◌, ◌++◌, Bool, true, false, cond, Contains, find, Some, None, refl, sym, subst, ⊎_elim, ◌∙◌, true≢false, flat_map}
 use Rattle.std.proofs.lemmas.Bool.{true_from_ne_false}
 use Rattle.std.proofs.lemmas.List.Elements.{Contains-append_left, Contains-append_right, Contains-append_cases, Contains-push_cases}
 use Rattle.gix_revwalk.proofs.Common.{ObjectId, IsBeginningBy, IsListBy, named_by, IsPending, Reaches, start, step, among_from, among_is, Contains-here, Contains-there, Contains-cons_cases, no_member}

@@ -39,28 +39,27 @@ pub fn scan(
     ensures succeeds { length (scanned parents (commit_items_left items.entry)).0 ≤ 1 → IsOk result }
 {
     let mut parent_ids = ParentIds::new(alloc);
-    while let Some(item) = items.next() {
-        match item {
-            Ok(Token::Tree { .. }) => {}
-            Ok(Token::Parent { id }) => {
+    loop {
+        match items.next_parent() {
+            Ok(Some(id)) => {
                 parent_ids.push(id)?;
-                if parents == Parents::First {
-                    break;
+                if let Parents::First = parents {
+                    return Ok(Scanned {
+                        parent_ids,
+                        fault: None,
+                    });
                 }
             }
-            Ok(Token::Author { .. } | Token::Committer { .. } | Token::Rest { .. }) => break,
+            Ok(None) => return Ok(Scanned {
+                parent_ids,
+                fault: None,
+            }),
             Err(fault) => {
-                return Ok(Scanned {
-                    parent_ids,
-                    fault: Some(fault),
-                });
+                let fault = Some(fault);
+                return Ok(Scanned { parent_ids, fault });
             }
         }
     }
-    Ok(Scanned {
-        parent_ids,
-        fault: None,
-    })
 }
 
 /// All parents that a commit's items name, up to the first item after them, and the committer's time.
@@ -80,16 +79,11 @@ fn read_header(alloc: Global, mut items: CommitRefIter<'_>) -> Result<Header, Al
     ensures succeeds { length (scanned mode.All (commit_items_left items.entry)).0 ≤ 1 → IsOk result }
 {
     let mut parent_ids = ParentIds::new(alloc);
-    while let Some(item) = items.next() {
-        match item {
-            Ok(Token::Tree { .. }) => {}
-            Ok(Token::Parent { id }) => parent_ids.push(id)?,
-            Ok(Token::Author { .. } | Token::Rest { .. }) => {
+    loop {
+        match items.next_parent() {
+            Ok(Some(id)) => parent_ids.push(id)?,
+            Ok(None) => {
                 let time = committer_seconds(items);
-                return Ok(Header { parent_ids, time });
-            }
-            Ok(Token::Committer { signature }) => {
-                let time = Ok(signature.seconds());
                 return Ok(Header { parent_ids, time });
             }
             Err(fault) => {
@@ -98,8 +92,6 @@ fn read_header(alloc: Global, mut items: CommitRefIter<'_>) -> Result<Header, Al
             }
         }
     }
-    let time = Err(decode::Error::Missing);
-    Ok(Header { parent_ids, time })
 }
 
 /// Looks a commit up, and reads its header in one pass over its text, which `text` then holds.

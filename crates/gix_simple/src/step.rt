@@ -247,6 +247,7 @@ impl<F: Find + Drop, P: Predicate + Drop> Simple<F, P> {
     }
 
     /// The answer after the parents of a commit were treated.
+    #[inline(always)]
     fn conclude(
         &mut self,
         taken: Pending,

@@ -8,11 +8,11 @@ abbrev pub behind : List ObjectId → List ObjectId × Option Error → List Obj
 behind ids r = (ids ++ r.0, r.1)
 
 -- what was read and what is left are the whole
-abbrev pub invariant-loop-item : goal.invariant-loop-item
-invariant-loop-item l = record {
+abbrev pub invariant-loop-id : goal.invariant-loop-id
+invariant-loop-id l = record {
   shown : behind l.parent_ids.items (scanned l.parents (commit_items_left l.items)) ≡ scanned l.parents (commit_items_left l.fn.items);
   inline : 1 ≤ l.parent_ids.capacity;
 }
 
-abbrev pub decreases-loop-item : goal.decreases-loop-item
-decreases-loop-item l = length (commit_items_left l.items)
+abbrev pub decreases-loop-id : goal.decreases-loop-id
+decreases-loop-id l = length (commit_items_left l.items)
