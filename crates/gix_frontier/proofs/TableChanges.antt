@@ -1,5 +1,5 @@
 -- What is known of an id by a change of the table, and by two of them.
-use Rattle.std.proofs.Common.{◌≡◌, ◌+◌, ℕ, ◌∷◌, true, false, cond, Some, IsPermutation, refl, sym, ap, ◌∙◌, arith}
+use Rattle.std.proofs.Common.{◌≡◌, ◌+◌, ℕ, ◌∷◌, true, false, cond, if◌then◌else◌, Some, IsPermutation, refl, sym, ap, ◌∙◌, arith}
 use Rattle.std.specs.FinMap as map
 use Rattle.gix_hash.specs.declared.ObjectId.{ObjectId}
 use Rattle.gix_hash.specs.Id.{id_cmp}
@@ -9,7 +9,7 @@ use Rattle.gix_frontier.specs.declared.Progress.TheVariants.{Queued}
 use Rattle.gix_frontier.specs.declared.Frontier.{Frontier}
 use Rattle.gix_frontier.specs.Inside.Known.{Known}
 use Rattle.gix_frontier.specs.Inside.Waiting.{waiting_by}
-use Rattle.gix_frontier.specs.Inside.Frontier.{is_seen, known_or, known_of, with_progress, MeetsParent, seen, unseen}
+use Rattle.gix_frontier.specs.Inside.Frontier.{is_seen, known_or, known_of, met_again, with_progress, MeetsParent, seen, unseen}
 
 -- what was put in is known
 pub known_put : (those : map.FinMap id_cmp Known) (i : ObjectId) (known : Known) → known_of (map.insert those i known) i ≡ known
@@ -23,6 +23,12 @@ put_twice those i first later = map.same_map id_total id_apart (map.insert (map.
 -- an id with one child more
 abbrev pub counted : Known → Known
 counted known = record known { indegree = known.indegree + 1 }
+
+pub again_seen : (known : Known) → is_seen known.tips ≡ true → met_again known ≡ counted known
+again_seen known met = ap (λ b. record known { tips = if b then known.tips else Queued; indegree = known.indegree + 1 }) met
+
+pub again_unseen : (known : Known) → is_seen known.tips ≡ false → met_again known ≡ with_progress Tips Queued (counted known)
+again_unseen known new = ap (λ b. record known { tips = if b then known.tips else Queued; indegree = known.indegree + 1 }) new
 
 abbrev with_table : Frontier → map.FinMap id_cmp Known → Frontier
 with_table f known = record f { known = known }

@@ -110,9 +110,19 @@ impl Model for Known {
 }
 
 impl Known {
-    ghost use Rattle.std.specs.Prelude.{true, false, ◌||◌};
+    ghost use Rattle.std.specs.Prelude.{true, false, not, ◌||◌, OnSome};
     ghost use Rattle.gix_frontier.specs.declared.Progress.TheVariants as progress;
-    ghost use Rattle.gix_frontier.specs.Inside.Frontier.{is_seen, is_done, progress_of, with_progress};
+    ghost use Rattle.gix_frontier.specs.Inside.Frontier.{is_seen, is_done, met_again, progress_of, unknown, with_progress};
+
+    /// What is known of an id that wasn't met.
+    fn new() -> Known
+        ensures { result ≡ unknown }
+    {
+        Known {
+            marks: Marks::empty(),
+            indegree: 0,
+        }
+    }
 
     /// A copy by hand, since `Copy` needs marks that can be told from what contracts see.
     fn copy(&self) -> Known
@@ -180,13 +190,42 @@ impl Known {
         }
     }
 
-    fn with_indegree(self, indegree: usize) -> Known
-        ensures { result ≡ record self { indegree = indegree } }
+    /// One child more, which the tips' search meets. Whether it is new to that search. None where no memory could hold its indegree.
+    fn count(&mut self) -> Option<bool>
+        ensures new { IfSome result (λ is_new. is_new ≡ not (is_seen self.old.tips)) }
+        ensures counts { OnSome result (self.new ≡ met_again self.old) }
     {
-        Known {
-            marks: self.marks,
-            indegree,
+        self.indegree = self.indegree.checked_add(1)?;
+        if !matches!(self.progress(Side::Tips), Progress::Unseen) {
+            return Some(false);
         }
+        *self = self.copy().with_met(Side::Tips);
+        Some(true)
+    }
+
+    /// A search has read its parents.
+    fn finish(&mut self, side: Side)
+        ensures { self.new ≡ with_progress side progress.Done self.old }
+    {
+        *self = self.copy().with_done(side);
+    }
+
+    /// It becomes ready.
+    fn mark_ready(&mut self)
+        ensures { self.new ≡ record self.old { was_ready = true } }
+    {
+        *self = self.copy().with_was_ready();
+    }
+
+    /// One child less, if it has one: what is known then.
+    fn uncount(&mut self) -> Option<Known>
+        ensures less { IfSome result (λ left. self.old.indegree ≡ left.indegree + 1) }
+        ensures left { IfSome result (λ left. left ≡ self.new) }
+        ensures new { IfSome result (λ left. self.new ≡ record self.old { indegree = left.indegree }) }
+        ensures none { IfNone result (self.old.indegree ≡ 0) }
+    {
+        self.indegree = self.indegree.checked_sub(1)?;
+        Some(self.copy())
     }
 }
 
@@ -219,10 +258,10 @@ pub struct Frontier {
 }
 
 impl Frontier {
-    ghost use Rattle.std.specs.Prelude.{false, ◌∷◌, IsPermutation};
+    ghost use Rattle.std.specs.Prelude.{false, not, ◌∷◌, IsPermutation};
     ghost use Rattle.gix_frontier.specs.declared.Side.TheVariants as side;
     ghost use Rattle.gix_frontier.specs.declared.Progress.TheVariants as progress;
-    ghost use Rattle.gix_frontier.specs.Inside.Frontier.{is_seen, progress_of, with_progress};
+    ghost use Rattle.gix_frontier.specs.Inside.Frontier.{is_seen, met_again, progress_of, with_progress};
     ghost use Rattle.gix_frontier.specs.Inside.Waiting.{waiting_by};
 
     /// Neither search has met anything. The table of ids has these keys. It takes no memory yet.
@@ -242,10 +281,7 @@ impl Frontier {
     {
         match self.known.get(id) {
             Some(known) => known.copy(),
-            None => Known {
-                marks: Marks::empty(),
-                indegree: 0,
-            },
+            None => Known::new(),
         }
     }
 
@@ -290,6 +326,30 @@ impl Frontier {
         self.wait(generation, id, side, known, near)
     }
 
+    /// One more child of an id, which the tips' search meets. Whether it is new to that search.
+    ///
+    /// # Errors
+    ///
+    /// An indegree that no memory could hold is out of memory.
+    fn count_known(&mut self, id: &ObjectId) -> Result<bool, AllocError>
+        ensures new { IfOk result (λ is_new. is_new ≡ not (is_seen (known_of self.old.known id.now).tips)) }
+        ensures known { OnOk result (self.new.known ≡ map.insert self.old.known id.now (met_again (known_of self.old.known id.now))) }
+        ensures queue { self.new.queue ≡ self.old.queue }
+    {
+        match self.known.change(id, |known| known.count()) {
+            Some(Some(is_new)) => Ok(is_new),
+            Some(None) => Err(AllocError),
+            None => {
+                let known = Known {
+                    marks: Marks::empty(),
+                    indegree: 1,
+                };
+                self.known.insert(*id, known.with_met(Side::Tips))?;
+                Ok(true)
+            }
+        }
+    }
+
     /// One more child of an id, which the tips' search meets.
     ///
     /// # Errors
@@ -298,16 +358,11 @@ impl Frontier {
     fn count(&mut self, generation: u32, id: ObjectId, near: u32) -> Result<(), AllocError>
         ensures { OnOk result (MeetsParent side.Tips self.old generation id self.new) }
     {
-        let known = self.known(&id);
-        let Some(indegree) = known.indegree.checked_add(1) else {
-            return Err(AllocError);
-        };
-        let known = known.with_indegree(indegree);
-        if !matches!(known.progress(Side::Tips), Progress::Unseen) {
-            self.known.insert(id, known)?;
-            return Ok(());
+        if self.count_known(&id)? {
+            let side = Side::Tips;
+            self.queue.insert(generation, Waiting { id, side, near })?;
         }
-        self.wait(generation, id, Side::Tips, known, near)
+        Ok(())
     }
 
     /// A parent of a commit whose parents a side reads. `near` is where to look first for its row.
@@ -331,24 +386,14 @@ impl Frontier {
         }
     }
 
-    /// One child of an id less: what is known of it then. None where there was none, and then nothing changes.
-    ///
-    /// # Errors
-    ///
-    /// `AllocError` when out of memory. The frontier may hold anything then.
-    pub fn uncount(&mut self, id: ObjectId) -> Result<Option<Known>, AllocError>
-        ensures less { IfOk result (λ left. IfSome left (λ known. (known_of self.old.known id).indegree ≡ known.indegree + 1)) }
-        ensures known { IfOk result (λ left. IfSome left (λ known. known ≡ known_of self.new.known id)) }
-        ensures counts { OnOk result (Uncounts self.old id self.new) }
-        ensures none { IfOk result (λ left. IfNone left ((known_of self.old.known id).indegree ≡ 0)) }
+    /// One child of an id less: what is known of it then. None where there was none.
+    pub fn uncount(&mut self, id: &ObjectId) -> Option<Known>
+        ensures less { IfSome result (λ known. (known_of self.old.known id.now).indegree ≡ known.indegree + 1) }
+        ensures known { IfSome result (λ known. known ≡ known_of self.new.known id.now) }
+        ensures counts { Uncounts self.old id.now self.new }
+        ensures none { IfNone result ((known_of self.old.known id.now).indegree ≡ 0) }
     {
-        let known = self.known(&id);
-        let Some(indegree) = known.indegree.checked_sub(1) else {
-            return Ok(None);
-        };
-        let known = known.with_indegree(indegree);
-        self.known.insert(id, known.copy())?;
-        Ok(Some(known))
+        self.known.change(id, |known| known.uncount())?
     }
 
     /// An id becomes ready.
@@ -359,8 +404,10 @@ impl Frontier {
     pub fn mark_ready(&mut self, id: ObjectId) -> Result<(), AllocError>
         ensures { OnOk result (MarksReady self.old id self.new) }
     {
-        let known = self.known(&id);
-        self.known.insert(id, known.with_was_ready())?;
+        if self.known.change(&id, |known| known.mark_ready()).is_some() {
+            return Ok(());
+        }
+        self.known.insert(id, Known::new().with_was_ready())?;
         Ok(())
     }
 
@@ -372,8 +419,10 @@ impl Frontier {
     pub fn finish(&mut self, id: ObjectId, side: Side) -> Result<(), AllocError>
         ensures { OnOk result (Finishes self.old id side self.new) }
     {
-        let known = self.known(&id);
-        self.known.insert(id, known.with_done(side))?;
+        if self.known.change(&id, |known| known.finish(side)).is_some() {
+            return Ok(());
+        }
+        self.known.insert(id, Known::new().with_done(side))?;
         Ok(())
     }
 }

@@ -4,3 +4,5 @@ pub mod HexDigits
 pub mod Reach
 -- What a keyed hasher computes.
 pub mod Keyed
+-- What a change of one value makes of a map.
+pub mod Changes

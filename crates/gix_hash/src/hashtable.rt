@@ -1,9 +1,11 @@
 //! Sets and maps of ids. No other module knows which container holds them.
-ghost use Rattle.std.specs.Prelude.{◌≡◌, ◌↔◌, IsTrue, false, not, None, is_some, IfOk, OnOk, OnErr, OnSome, IfNone};
+ghost use Rattle.std.specs.Prelude.{◌≡◌, ◌↔◌, IsTrue, false, not, None, is_some, IfOk, OnOk, OnErr, OnSome, IfSome, IfNone};
 ghost use Rattle.std.specs.Option.{option_copied};
 ghost use Rattle.std.specs.FinSet as set;
 ghost use Rattle.std.specs.FinMap as map;
 ghost use Rattle.gix_hash.specs.Id.{is_among};
+ghost use Rattle.gix_hash.specs.Changes.{Changes};
+ghost use Rattle.std.specs.Fn.{FnOnceReturnsAtMut};
 
 use crate::{Keys, ObjectId};
 use std::alloc::{AllocError, Global};
@@ -162,6 +164,20 @@ impl<T> IdMap<T> {
             return None;
         };
         Some(mem::replace(place, value))
+    }
+
+    /// Changes the value of an id that has one, and returns what the change returns. Where the id has no value, the answer is None and the map
+    /// stays. The id is looked up once, and no memory is taken.
+    #[inline(always)]
+    pub fn change<R, C: FnOnce(&mut T) -> R>(&mut self, id: &ObjectId, change: C) -> Option<R>
+    where
+        requires { C.IsAlwaysCallable change }
+        ensures found { is_some result ≡ is_some (map.get self.old id.now) }
+        ensures some { IfSome result (λ r. Changes (λ old new. FnOnceReturnsAtMut C.FnOnce change old r new) self.old id.now self.new) }
+        ensures none { IfNone result (self.new ≡ self.old) }
+    {
+        let value = self.values.get_mut(id)?;
+        Some(change(value))
     }
 
     /// Takes the value of an id out and returns it. None where the id has none.

@@ -128,10 +128,8 @@ impl<F: Find + Drop> Walk<F> {
         ensures fault { IfErr result (IsReleaseFault F.objects F.faulty self.old id.now) }
         ensures same { plan_of self.new ≡ plan_of self.old }
     {
-        let left = match self.counting.frontier.uncount(*id) {
-            Ok(Some(left)) => left,
-            Ok(None) => return Err(Error::MissingIndegreeUnexpected),
-            Err(_) => return Err(Error::Memory),
+        let Some(left) = self.counting.frontier.uncount(id) else {
+            return Err(Error::MissingIndegreeUnexpected);
         };
         if !is_due(left.indegree, &left) {
             return Ok(());

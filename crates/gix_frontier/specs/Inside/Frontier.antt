@@ -1,5 +1,5 @@
 -- Two searches over one queue.
-use Rattle.std.specs.Prelude.{◌≡◌, ◌⊎◌, ℕ, ◌+◌, ◌==◌, List, [], ◌∷◌, Bool, true, false, not, ◌&&◌, cond, Option, Some, None, Contains, IsPermutation}
+use Rattle.std.specs.Prelude.{◌≡◌, ◌⊎◌, ℕ, ◌+◌, ◌==◌, List, [], ◌∷◌, Bool, true, false, not, ◌&&◌, cond, if◌then◌else◌, Option, Some, None, Contains, IsPermutation}
 use Rattle.std.specs.FinMap as map
 use Rattle.gix_hash.specs.declared.ObjectId.{ObjectId}
 use Rattle.gix_hash.specs.Id.{id_cmp, is_same}
@@ -51,6 +51,10 @@ progress_of Ends known = known.ends
 abbrev pub with_progress : Side → Progress → Known → Known
 with_progress Tips progress known = record known { tips = progress }
 with_progress Ends progress known = record known { ends = progress }
+
+-- what is known of an id that the tips' search meets with one child more
+abbrev pub met_again : Known → Known
+met_again known = record known { tips = if is_seen known.tips then known.tips else Queued; indegree = known.indegree + 1 }
 
 -- how far a search has come with an id
 abbrev pub reached : map.FinMap id_cmp Known → Side → ObjectId → Progress
