@@ -17,57 +17,26 @@ use Rattle.gix_statement.proofs.LayersOnce.{layers_once}
 use Rattle.gix_graph_pages.specs.GraphPages.{AreSoundLayers, Layer, all_rows}
 use Rattle.gix_graph_pages.proofs.SameLayers.{layers_have_rows}
 use Rattle.gix_commands.specs.Pages.{page_rows}
-use Rattle.gix_commands.proofs.FileLayers.{NoFaults, chain_read, layers_are, split_all}
+use Rattle.gix_commands.proofs.FileLayers.{NoFaults, chain_read, first_layer, last_rows, layers_are, rows_grow, split_all}
 use Rattle.gix_commands.proofs.FileOrder.{chain_layers, no_faults}
 
 -- ---- as the reader has them
 
-read_then : {A B : Type 0} (read : Result A Error) (more : A → Result B Error) (b : B) → (read >>= more) ≡ Ok b → (a : A) × (more a ≡ Ok b)
-read_then (Ok a) more b e = (a, e)
-read_then (Err f) more b e = cc
-
-otherwise_read : {A : Type 0} (b : Bool) (f : Error) (other : Result A Error) (a : A) → cond b (Err f) other ≡ Ok a → other ≡ Ok a
-otherwise_read true f other a e = cc
-otherwise_read false f other a e = e
-
--- a layer's rows come behind those below
-next_rows : (number : ℕ) (lower : Lower) (file : List ℕ) (next : Lower) → with_layer number lower file ≡ Ok next → (rows : List GraphRow) × (next.rows ≡ lower.rows ++ rows)
-unfolding with_layer
-next_rows number lower file next e =
-    let parts = read_then (read_layer number file) (with_parts lower file) next e in
-    let kind = otherwise_read (not (is_kind lower.kind parts.0.kind)) error.Kind _ next parts.1 in
-    let base = otherwise_read (not (bytes_eq (base_of file) lower.hashes)) error.Base _ next kind in
-    let rows = read_then (layer_rows (length lower.rows + parts.0.count) parts.0) (λ rows. Ok (with_rows lower file parts.0.kind rows)) next base in
-    let is : ◌≡◌ {A = Result Lower Error} (Ok (with_rows lower file parts.0.kind rows.0)) (Ok next) = rows.1 in
-    let same : with_rows lower file parts.0.kind rows.0 ≡ next = cc in
-    (rows.0, ap (λ (x : Lower). x.rows) (sym same))
-
 abbrev IsFront : (rows all : List GraphRow) → Type 0
 IsFront rows all = (rest : List GraphRow) × (all ≡ rows ++ rest)
 
-same_front : (rows front all : List GraphRow) → ◌≡◌ {A = Result (List GraphRow) ChainError} (Ok rows) (Ok front) → ◌≡◌ {A = Result (List GraphRow) ChainError} (Ok rows) (Ok all) → IsFront front all
-same_front rows front all f a = ([], let same : all ≡ front = cc in same ∙ sym (append-nil front))
-
--- one layer is read for both
-got_layer : (number : ℕ) (read : Result Lower Error) (some more : Lower → Result (List GraphRow) ChainError) (front all : List GraphRow) → layer_then number read some ≡ Ok front → layer_then number read more ≡ Ok all
-    → (next : Lower) × (read ≡ Ok next) × (some next ≡ Ok front) × (more next ≡ Ok all)
-got_layer number (Ok next) some more front all f a = (next, refl, f, a)
-got_layer number (Err e) some more front all f a = cc
-
 read_front : (passed number : ℕ) (lower : Lower) (files : List (List ℕ)) (front all : List GraphRow) → chain_from number lower (take passed files) ≡ Ok front → chain_from number lower files ≡ Ok all → IsFront front all
-unfolding chain_from
-read_front zero number lower [] front all f a = same_front lower.rows front all f a
-read_front (suc passed) number lower [] front all f a = same_front lower.rows front all f a
+read_front zero number lower [] front all f a = ([], last_rows number lower all a ∙ sym (last_rows number lower front f) ∙ sym (append-nil front))
+read_front (suc passed) number lower [] front all f a = ([], last_rows number lower all a ∙ sym (last_rows number lower front f) ∙ sym (append-nil front))
 read_front zero number lower (file ∷ files) front all f a =
-    let go = λ (next : Lower). chain_from (number + 1) next files in
-    let g = got_layer number (with_layer number lower file) go go all all a a in
-    let own = next_rows number lower file g.0 g.1 in
-    let more = read_front zero (number + 1) g.0 files g.0.rows all refl g.3 in
-    let same : lower.rows ≡ front = let is : ◌≡◌ {A = Result (List GraphRow) ChainError} (Ok lower.rows) (Ok front) = f in cc in
-    (own.0 ++ more.0, more.1 ∙ ap (λ rows. rows ++ more.0) own.1 ∙ append_assoc lower.rows own.0 more.0 ∙ ap (λ rows. rows ++ (own.0 ++ more.0)) same)
+    let more = rows_grow number lower (file ∷ files) all a in
+    (more.0, more.1 ∙ ap (λ rows. rows ++ more.0) (sym (last_rows number lower front f)))
 read_front (suc passed) number lower (file ∷ files) front all f a =
-    let g = got_layer number (with_layer number lower file) (λ (next : Lower). chain_from (number + 1) next (take passed files)) (λ (next : Lower). chain_from (number + 1) next files) front all f a in
-    read_front passed (number + 1) g.0 files front all g.2 g.3
+    let one = first_layer number lower file (take passed files) front f in
+    let other = first_layer number lower file files all a in
+    let both : ◌≡◌ {A = Result Lower Error} (Ok one.0) (Ok other.0) = sym one.1 ∙ other.1 in
+    let same : one.0 ≡ other.0 = cc in
+    read_front passed (number + 1) other.0 files front all (subst (λ (next : Lower). chain_from (number + 1) next (take passed files) ≡ Ok front) same one.2) other.2
 
 -- ---- as the page has them
 

@@ -238,7 +238,7 @@ adds number files lower file next counted small below e =
     }
 
 -- a layer's rows come behind those below
-next_rows : (number : ℕ) (lower : Lower) (file : List ℕ) (next : Lower) → with_layer number lower file ≡ Ok next → (rows : List GraphRow) × (next.rows ≡ lower.rows ++ rows)
+pub next_rows : (number : ℕ) (lower : Lower) (file : List ℕ) (next : Lower) → with_layer number lower file ≡ Ok next → (rows : List GraphRow) × (next.rows ≡ lower.rows ++ rows)
 unfolding with_layer
 next_rows number lower file next e =
     let a = then_is (read_layer number file) _ next e in
@@ -249,15 +249,15 @@ layer_then_is : (number : ℕ) (read : Result Lower Error) (more : Lower → Res
 layer_then_is number (Ok next) more all e = (next, refl, e)
 layer_then_is number (Err f) more all e = absurd (let no : ◌≡◌ {A = Result (List GraphRow) ChainError} (Err (chain.Layer number f)) (Ok all) = e in cc)
 
-last_rows : (number : ℕ) (lower : Lower) (all : List GraphRow) → chain_from number lower [] ≡ Ok all → all ≡ lower.rows
+pub last_rows : (number : ℕ) (lower : Lower) (all : List GraphRow) → chain_from number lower [] ≡ Ok all → all ≡ lower.rows
 unfolding chain_from
 last_rows number lower all e = let is : ◌≡◌ {A = Result (List GraphRow) ChainError} (Ok lower.rows) (Ok all) = e in cc
 
-first_layer : (number : ℕ) (lower : Lower) (file : List ℕ) (files : List (List ℕ)) (all : List GraphRow) → chain_from number lower (file ∷ files) ≡ Ok all → (next : Lower) × (with_layer number lower file ≡ Ok next) × (chain_from (number + 1) next files ≡ Ok all)
+pub first_layer : (number : ℕ) (lower : Lower) (file : List ℕ) (files : List (List ℕ)) (all : List GraphRow) → chain_from number lower (file ∷ files) ≡ Ok all → (next : Lower) × (with_layer number lower file ≡ Ok next) × (chain_from (number + 1) next files ≡ Ok all)
 unfolding chain_from
 first_layer number lower file files all e = layer_then_is number (with_layer number lower file) (λ (next : Lower). chain_from (number + 1) next files) all e
 
-rows_grow : (number : ℕ) (lower : Lower) (files : List (List ℕ)) (all : List GraphRow) → chain_from number lower files ≡ Ok all → (rest : List GraphRow) × (all ≡ lower.rows ++ rest)
+pub rows_grow : (number : ℕ) (lower : Lower) (files : List (List ℕ)) (all : List GraphRow) → chain_from number lower files ≡ Ok all → (rest : List GraphRow) × (all ≡ lower.rows ++ rest)
 rows_grow number lower [] all e = ([], last_rows number lower all e ∙ sym (append-nil lower.rows))
 rows_grow number lower (file ∷ files) all e =
     let a = first_layer number lower file files all e in

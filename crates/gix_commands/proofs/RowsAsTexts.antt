@@ -9,6 +9,7 @@ use Rattle.std.specs.Option.{option_or}
 use Rattle.std.proofs.lemmas.List.Elements.{All-from_recursion}
 use Rattle.std.proofs.lemmas.List.Kept.{AllPairs-cons}
 use Rattle.std.proofs.lemmas.Option.{none-some, same_Some, slice_get_within}
+pub use Rattle.gix_topo.proofs.Readiness.ReadyIds.{from_map}
 use Rattle.gix_hash.specs.declared.ObjectId.{ObjectId}
 use Rattle.gix_hash.specs.Id.{id_cmp}
 use Rattle.gix_hash.proofs.Ids.Membership.{Contains-here, Contains-there, Contains-cons_cases, no_member, same_from}
@@ -61,11 +62,6 @@ pub text_moves : (objects others : page.Objects) (r : Row) → ((o : page.Object
 text_moves objects others r on (id, lines, rest, spells, parents, time, is) = (id, lines, rest, spells, parents, time, on _ is)
 
 -- ---- lists of rows
-
-pub from_map : {X Y : Type 0} (f : X → Y) (xs : List X) (y : Y) → Contains (map f xs) y → (x : X) × Contains xs x × (f x ≡ y)
-from_map f [] y c = absurd (no_member y c)
-from_map f (x ∷ xs) y c =
-    ⊎_elim (λ e. (x, Contains-here x xs, e)) (λ t. let m = from_map f xs y t in (m.0, Contains-there m.0 x xs m.1, m.2)) (Contains-cons_cases y (f x) (map f xs) c)
 
 pub into_map : {X Y : Type 0} (f : X → Y) (xs : List X) (x : X) → Contains xs x → Contains (map f xs) (f x)
 into_map f [] x c = absurd (no_member x c)
