@@ -1,8 +1,8 @@
 //! The items of a commit: its tree, its parents, its author and committer, and the rest of its bytes.
-ghost use Rattle.std.specs.Prelude.{◌≡◌, ◌==◌, false, codes, drop, length, min, None, Some, Err, []};
+ghost use Rattle.std.specs.Prelude.{◌≡◌, ◌==◌, ◌+◌, ◌*◌, ◌<◌, ◌≤◌, false, codes, drop, length, min, None, Some, Err, []};
 ghost use Rattle.std.specs.Option.{option_map, option_copied};
 ghost use Rattle.std.specs.Iterator.{YieldsFirstBy, item_count};
-ghost use Rattle.memchr.specs.Find.{IsFirstByte, is_byte};
+ghost use Rattle.memchr.specs.Find.{IsFirstByte, Nowhere, Passes, is_byte};
 ghost use Rattle.gix_object.specs.declared.commit.Place.TheVariants as state;
 ghost use Rattle.gix_object.specs.CommitItems.{AtTree, AtEnd, Found, Rest, after_word, line_at, id_line_at, text_line_at, tree_front, author_front, committer_front, parent_front, front, commit_items};
 ghost use Rattle.gix_object.specs.CommitText.{behind_last, without_spaces, digits_from, signed_seconds, seconds_of};
@@ -34,11 +34,29 @@ impl Signature<'_> {
     }
 }
 
+/// A length of the bytes that leaves out no `>`. The last 16 bytes are looked at in one step, as in most lines they are seconds and an
+/// offset.
+fn angles_end(bytes: &[u8]) -> usize
+    ensures within { result ≤ length bytes.now }
+    ensures none { Nowhere (Passes (is_byte 62) bytes.now) result (length bytes.now) }
+{
+    let Some(at) = bytes.len().checked_sub(16) else {
+        return bytes.len();
+    };
+    let angles = u8x16::from_slice(&bytes[at..])
+        .simd_eq(u8x16::splat(b'>'))
+        .to_bitmask();
+    if angles != 0 {
+        return bytes.len();
+    }
+    at
+}
+
 /// The bytes behind the last `>`.
 fn behind_last(bytes: &[u8]) -> Option<&[u8]>
     ensures { option_copied result ≡ behind_last None bytes.now }
 {
-    let end = memrchr(b'>', bytes)?;
+    let end = memrchr(b'>', &bytes[..angles_end(bytes)])?;
     Some(&bytes[end + 1..])
 }
 
@@ -52,6 +70,18 @@ fn without_spaces(mut bytes: &[u8]) -> &[u8]
     bytes
 }
 
+/// Behind the digits of a number one more digit, capped at the greatest of 64 bits.
+#[inline(always)]
+fn with_digit(number: u64, digit: u8) -> u64
+    requires { digit < 10 }
+    ensures { result ≡ min (10 * number + digit) u64.MAX }
+{
+    if number < 1 << 60 {
+        return 10 * number + u64::from(digit);
+    }
+    number.saturating_mul(10).saturating_add(u64::from(digit))
+}
+
 /// The number that the digits at the front say, capped at the greatest of 64 bits.
 fn number_at(bytes: &[u8]) -> u64
     ensures { result ≡ min (digits_from 0 bytes.now) u64.MAX }
@@ -61,9 +91,7 @@ fn number_at(bytes: &[u8]) -> u64
         if !b.is_ascii_digit() {
             return number;
         }
-        number = number
-            .saturating_mul(10)
-            .saturating_add(u64::from(b - b'0'));
+        number = with_digit(number, b - b'0');
     }
     number
 }

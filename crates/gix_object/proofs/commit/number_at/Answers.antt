@@ -8,7 +8,7 @@ loop-b-preserved c =
     let bytes = c.args.bytes.now in
     let i : ℕ = c.loop-b.b-index in
     let n : ℕ = 10 * c.loop-b.number + (get_or bytes i 0 - 48) in
-    let capped : c.saturating_add-number.result ≡ min n (2 ^ 64 - 1) = omega arith in (
+    let capped : c.with_digit-number.result ≡ min n (2 ^ 64 - 1) = omega arith in (
       omega arith,
       ap (λ k. min (digits_from k (drop (i + 1) bytes)) (2 ^ 64 - 1)) capped
           ∙ digits_from-min (2 ^ 64 - 1) n (drop (i + 1) bytes)
