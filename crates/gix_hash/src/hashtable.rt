@@ -66,8 +66,16 @@ impl IdSet {
         Ok(self.ids.insert(id)?)
     }
 
-    /// Takes an id out, and says whether it was in the set.
+    /// Takes an id out, and says whether it was in the set. For an empty set the id isn't hashed.
+    #[inline(always)]
     pub fn remove(&mut self, id: &ObjectId) -> bool
+        ensures removed { result ≡ set.contains self.old id.now }
+        ensures set { self.new ≡ set.remove self.old id.now }
+    {
+        !self.ids.is_empty() && self.take_out(id)
+    }
+
+    fn take_out(&mut self, id: &ObjectId) -> bool
         ensures removed { result ≡ set.contains self.old id.now }
         ensures set { self.new ≡ set.remove self.old id.now }
     {
@@ -128,8 +136,18 @@ impl<T> IdMap<T> {
         *self.values.hasher()
     }
 
-    /// The value of an id, and None where it has none.
+    /// The value of an id, and None where it has none. For an empty map the id isn't hashed.
+    #[inline(always)]
     pub fn get(&self, id: &ObjectId) -> Option<&T>
+        ensures { option_copied result ≡ map.get self.now id.now }
+    {
+        if self.values.is_empty() {
+            return None;
+        }
+        self.look_up(id)
+    }
+
+    fn look_up(&self, id: &ObjectId) -> Option<&T>
         ensures { option_copied result ≡ map.get self.now id.now }
     {
         self.values.get(id)

@@ -51,6 +51,19 @@ module _ (E : ObjectId → ObjectId → Bool) (same : E ≡ is_same) where
       let new = sym (has keys k) ∙ absent k keys h.0 in
       set.len-insert id_total _ k ∙ ap (λ b. cond b (set.len (set.from_list {R = id_cmp} keys)) (set.len (set.from_list {R = id_cmp} keys) + 1)) new ∙ ap (λ n. n + 1) (counted keys h.1) ∙ omega arith
 
+  -- a set without an id
+  pub none_in_empty : (keys : List ObjectId) (q : ObjectId) → length keys ≡ 0 → set.contains (set.from_list {R = id_cmp} keys) q ≡ false
+  none_in_empty [] q e = sym (has [] q)
+  none_in_empty (k ∷ keys) q e = absurd (omega arith)
+
+  either_false : (b : Bool) → false ≡ cond b false false
+  either_false true = refl
+  either_false false = refl
+
+  pub none_removed : (keys : List ObjectId) (k : ObjectId) → length keys ≡ 0 → set.from_list {R = id_cmp} keys ≡ set.remove (set.from_list keys) k
+  none_removed [] k e = removed [] [] k (λ q. either_false (E k q))
+  none_removed (x ∷ keys) k e = absurd (omega arith)
+
   -- maps
   module _ {X : Type 0} where
     find_is_lookup : (q : ObjectId) (es : List (ObjectId × X)) → map.find id_cmp q es ≡ lookup (is_same q) es
@@ -59,6 +72,10 @@ module _ (E : ObjectId → ObjectId → Bool) (same : E ≡ is_same) where
 
     pub holds : (es : List (ObjectId × X)) (q : ObjectId) → lookup (E q) es ≡ map.get (map.from_entries {R = id_cmp} es) q
     holds es q = ap (λ f. lookup (f q) es) same ∙ sym (map.get-from_entries id_total es q ∙ find_is_lookup q es)
+
+    pub nothing_in_empty : (es : List (ObjectId × X)) (q : ObjectId) → length es ≡ 0 → None ≡ map.get (map.from_entries {R = id_cmp} es) q
+    nothing_in_empty [] q e = holds [] q
+    nothing_in_empty (x ∷ es) q e = absurd (omega arith)
 
     pub updated : (old new : List (ObjectId × X)) (k : ObjectId) (v : X) → ((q : ObjectId) → lookup (E q) new ≡ cond (E k q) (Some v) (lookup (E q) old))
         → map.from_entries {R = id_cmp} new ≡ map.insert (map.from_entries old) k v
