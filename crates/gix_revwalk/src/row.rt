@@ -1,5 +1,5 @@
 //! What a commit's row says, as long as the rows of the commit-graph are in use.
-ghost use Rattle.std.specs.Prelude.{◌≡◌, ◌≤◌, ◌<◌, Some, IfOk, IfSome, IsOk, OnErr, length};
+ghost use Rattle.std.specs.Prelude.{◌≡◌, ◌≤◌, ◌<◌, true, Some, IfOk, IfSome, IsOk, OnErr, length};
 ghost use Rattle.std.specs.Option.{option_map};
 ghost use Rattle.gix_commitgraph.specs.GraphCommit.{rows_of_commit, row_of_commit};
 ghost use Rattle.gix_commitgraph.specs.Rows.{GraphRow, row_of};
@@ -108,6 +108,7 @@ pub struct RowRead {
 /// # Errors
 ///
 /// `AllocError` when out of memory. The rows are in use if they were.
+#[inline(always)]
 pub fn read_row(
     alloc: Global,
     graph: Option<&Graph>,
@@ -122,9 +123,26 @@ pub fn read_row(
     if !*in_use {
         return Ok(None);
     }
-    let Some(graph) = graph else {
-        return Ok(None);
-    };
+    match graph {
+        Some(graph) => read_row_of(alloc, graph, in_use, id, near),
+        None => Ok(None),
+    }
+}
+
+/// The same of rows in use. It is a call of its own, so that where there are none the test is inlined.
+#[inline(never)]
+fn read_row_of(
+    alloc: Global,
+    graph: &Graph,
+    in_use: &mut bool,
+    id: &ObjectId,
+    near: u32,
+) -> Result<Option<RowRead>, AllocError>
+    requires { in_use.old ≡ true }
+    ensures reads { IfOk result (λ read. ReadsRow graph.now in_use.old id.now read in_use.new) }
+    ensures err { OnErr result (in_use.new ≡ in_use.old) }
+    ensures fails { OnErr result ((row : GraphRow) × (row_of graph.now id.now ≡ Some row) × (1 < length row.parents)) }
+{
     let Some(commit) = find_row(graph, id, near) else {
         return Ok(None);
     };
