@@ -79,6 +79,7 @@ impl PendingQueue {
     }
 
     /// One more becomes pending. When out of memory none is left.
+    #[inline(always)]
     pub(super) fn push(
         &mut self,
         order: Option<CommitTimeOrder>,

@@ -122,13 +122,13 @@ impl<F: Find + Drop, P: Predicate + Drop> Simple<F, P> {
     }
 
     /// Whether an id that a tip or a parent list names is neither hidden nor seen. It is seen from now on.
-    fn meet(&mut self, id: ObjectId) -> Result<bool, AllocError>
-        ensures { Meets F.objects F.faulty P.answers self.old id result self.new }
+    fn meet(&mut self, id: &ObjectId) -> Result<bool, AllocError>
+        ensures { Meets F.objects F.faulty P.answers self.old id.now result self.new }
     {
-        if self.hidden.contains(&id) {
+        if self.hidden.contains(id) {
             return Ok(false);
         }
-        Ok(self.seen.insert(id)?)
+        Ok(self.seen.insert(*id)?)
     }
 
     /// Asks about an id, unless it was asked about and a yes is remembered.
@@ -209,7 +209,7 @@ impl<F: Find + Drop, P: Predicate + Drop> Simple<F, P> {
         ensures treats { Treats F.objects F.faulty P.answers self.old (in_rows times) id (how_ended result) self.new }
         ensures asks { P.can_accept self.new.predicate }
     {
-        let is_new = self.meet(id)?;
+        let is_new = self.meet(&id)?;
         if !is_new {
             return Ok(());
         }
