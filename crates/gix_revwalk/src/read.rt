@@ -30,6 +30,7 @@ pub struct Scanned {
 /// # Errors
 ///
 /// `AllocError` when out of memory. The items are dropped.
+#[inline(always)]
 pub fn scan(
     alloc: Global,
     parents: Parents,

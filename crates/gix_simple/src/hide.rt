@@ -34,6 +34,8 @@ fn visible(
 
 impl<F: Find + Drop, P: Predicate + Drop> Simple<F, P> {
     /// The first step: what is hidden is painted first.
+    #[cold]
+    #[inline(never)]
     pub(super) fn first_step(&mut self) -> Option<Result<Info, Error>>
         requires { P.can_accept self.old.predicate }
         ensures steps { FirstStep F.objects F.faulty P.answers (record self.old { begun = true }) result self.new }

@@ -99,6 +99,7 @@ impl PendingQueue {
     }
 
     /// Takes out the one whose turn it is. When out of memory none is left.
+    #[inline(always)]
     pub(super) fn pop(
         &mut self,
         order: Option<CommitTimeOrder>,
