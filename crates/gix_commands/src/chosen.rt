@@ -168,10 +168,20 @@ impl<'a> Chooser<'a> {
         ensures ok { OnOk result (lines.new.items ≡ lines.old.items ++ line_in self.now.objects self.now.shown id.now) }
         ensures err { IfErr result (λ e. (e ≡ Fault.Memory) × (lines.new.items ≡ lines.old.items)) }
     {
-        let has = self.shown.line;
+        let has = &self.shown.line;
         if has.id && !has.time && !has.parents && has.format.is_empty() {
             return Ok(add_id(lines, id, has.ending)?);
         }
+        self.add_full_line(lines, id)
+    }
+
+    /// Adds the line of a commit, which is read.
+    #[inline(never)]
+    fn add_full_line(&self, lines: &mut Vec<u8>, id: &ObjectId) -> Result<(), Fault>
+        ensures ok { OnOk result (lines.new.items ≡ lines.old.items ++ line_in self.now.objects self.now.shown id.now) }
+        ensures err { IfErr result (λ e. (e ≡ Fault.Memory) × (lines.new.items ≡ lines.old.items)) }
+    {
+        let has = self.shown.line;
         let mut text = Vec::new(self.alloc);
         let header = look_at(self.alloc, &self.objects, id, &mut text)?;
         text.clear();

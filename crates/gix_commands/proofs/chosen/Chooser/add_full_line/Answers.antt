@@ -6,8 +6,8 @@ use Rattle.gix_revwalk.specs.Texts.{text_next}
 use Rattle.gix_words.specs.Formats.{format_bytes}
 use Rattle.gix_commands.specs.Chosen.{Choosing, commit_with, page_line, seconds_or_zero}
 use Rattle.gix_commands.specs.Pages.{page_objects}
-use Rattle.gix_commands.proofs.chosen.Chooser.add_line.Goals as goal
-use Rattle.gix_commands.proofs.chosen.Chooser.add_line.Goals.{then-not-is_empty+in_ok-read_text, else-not-is_empty}
+use Rattle.gix_commands.proofs.chosen.Chooser.add_full_line.Goals as goal
+use Rattle.gix_commands.proofs.chosen.Chooser.add_full_line.Goals.{then-not-is_empty+in_ok-read_text, else-not-is_empty}
 
 pub returns-clause-ok : goal.returns-clause-ok
 returns-clause-ok c =
