@@ -60,6 +60,7 @@ impl Find for Lent<'_> {
 
     ghost faulty = { λ _ _. ⊥ };
 
+    #[inline(always)]
     fn find_into(&self, id: &ObjectId, buf: &mut Vec<u8>) -> Result<Option<Kind>, find::Error> {
         let Some(kind) = self.store.find_into(id, buf)? else {
             return Ok(None);

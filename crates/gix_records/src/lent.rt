@@ -97,6 +97,7 @@ impl Find for LentStore<'_> {
 
     ghost faulty = { λ _ _. ⊥ };
 
+    #[inline(always)]
     fn find_into(&self, id: &ObjectId, buf: &mut Vec<u8>) -> Result<Option<Kind>, Error> {
         let Some(stored) = place_of(&self.objects, id) else {
             return Ok(None);
