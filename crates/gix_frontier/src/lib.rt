@@ -203,11 +203,14 @@ impl Known {
         Some(true)
     }
 
-    /// A search has read its parents.
-    fn finish(&mut self, side: Side)
-        ensures { self.new ≡ with_progress side progress.Done self.old }
+    /// A search has read its parents. Whether one had before.
+    fn finish(&mut self, side: Side) -> bool
+        ensures before { result ≡ (is_done self.old.tips || is_done self.old.ends) }
+        ensures done { self.new ≡ with_progress side progress.Done self.old }
     {
+        let was_done = self.is_done();
         *self = self.copy().with_done(side);
+        was_done
     }
 
     /// It becomes ready.
@@ -258,10 +261,10 @@ pub struct Frontier {
 }
 
 impl Frontier {
-    ghost use Rattle.std.specs.Prelude.{false, not, ◌∷◌, IsPermutation};
+    ghost use Rattle.std.specs.Prelude.{false, not, ◌||◌, ◌∷◌, IsPermutation};
     ghost use Rattle.gix_frontier.specs.declared.Side.TheVariants as side;
     ghost use Rattle.gix_frontier.specs.declared.Progress.TheVariants as progress;
-    ghost use Rattle.gix_frontier.specs.Inside.Frontier.{is_seen, met_again, progress_of, with_progress};
+    ghost use Rattle.gix_frontier.specs.Inside.Frontier.{is_seen, is_done, met_again, progress_of, with_progress};
     ghost use Rattle.gix_frontier.specs.Inside.Waiting.{waiting_by};
 
     /// Neither search has met anything. The table of ids has these keys. It takes no memory yet.
@@ -411,18 +414,19 @@ impl Frontier {
         Ok(())
     }
 
-    /// An id whose parents were all met.
+    /// An id whose parents were all met. Whether a search had read them before.
     ///
     /// # Errors
     ///
     /// `AllocError` when out of memory. The frontier may hold anything then.
-    pub fn finish(&mut self, id: ObjectId, side: Side) -> Result<(), AllocError>
-        ensures { OnOk result (Finishes self.old id side self.new) }
+    pub fn finish(&mut self, id: ObjectId, side: Side) -> Result<bool, AllocError>
+        ensures before { IfOk result (λ was_done. let known = known_of self.old.known id in was_done ≡ (is_done known.tips || is_done known.ends)) }
+        ensures finishes { OnOk result (Finishes self.old id side self.new) }
     {
-        if self.known.change(&id, |known| known.finish(side)).is_some() {
-            return Ok(());
+        if let Some(was_done) = self.known.change(&id, |known| known.finish(side)) {
+            return Ok(was_done);
         }
         self.known.insert(id, Known::new().with_done(side))?;
-        Ok(())
+        Ok(false)
     }
 }

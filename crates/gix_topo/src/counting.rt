@@ -223,17 +223,16 @@ impl<F: Find + Drop> Counting<F> {
         Ok(())
     }
 
-    /// One id more whose parents are read, unless a side has read them before.
+    /// One id more whose parents were read, unless a side had read them before.
     ///
     /// # Errors
     ///
     /// A number that no memory could hold is out of memory.
-    fn count(&mut self, id: &ObjectId) -> Result<(), AllocError>
+    fn count(&mut self, was_done: bool) -> Result<(), AllocError>
         ensures same { self.new ≡ record self.old { expanded = self.new.expanded } }
-        ensures expanded { OnOk result (let known = known_of self.old.frontier.known id.now in
-            self.new.expanded ≡ self.old.expanded + cond (is_done known.tips || is_done known.ends) 0 1) }
+        ensures expanded { OnOk result (self.new.expanded ≡ self.old.expanded + cond was_done 0 1) }
     {
-        if self.frontier.known(id).is_done() {
+        if was_done {
             return Ok(());
         }
         match self.expanded.checked_add(1) {
@@ -255,9 +254,9 @@ impl<F: Find + Drop> Counting<F> {
         };
         let Waiting { id, side, near } = waiting;
         let ids = self.read(&id, side, near)?;
-        self.count(&id)?;
         self.follow(ids.as_slice(), side)?;
-        self.frontier.finish(id, side)?;
+        let was_done = self.frontier.finish(id, side)?;
+        self.count(was_done)?;
         Ok(())
     }
 

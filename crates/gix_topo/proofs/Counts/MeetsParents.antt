@@ -1,7 +1,7 @@
 -- What a side does by meeting ids, to what is known of all and to what waits.
-use Rattle.std.proofs.Common.{◌≡◌, ◌≤◌, ◌⊎◌, ℕ, suc, ◌+◌, List, [], ◌∷◌, ◌&&◌, Bool, true, false, not, cond, Contains, IsPermutation, length, sum_by, refl, sym, ap, subst, inl, inr, ⊎_elim, ◌∙◌, arith}
+use Rattle.std.proofs.Common.{◌≡◌, ◌≤◌, ◌⊎◌, ℕ, suc, ◌+◌, List, [], ◌∷◌, ◌&&◌, ◌||◌, Bool, true, false, not, cond, Contains, IsPermutation, length, sum_by, refl, sym, ap, subst, inl, inr, ⊎_elim, ◌∙◌, arith}
 use Rattle.gix_topo.proofs.Common.{Contains-permutation, IsPermutation-sym, length_permutation, ObjectId, is_same, is_among, same_is, same_itself, Contains-here, Contains-there, Contains-cons_cases, only_member, GraphRow, Side, Tips}
-use Rattle.gix_topo.proofs.Common.{Ends, Queued, Waiting, waiting_by, Frontier, known_generation, is_side, is_seen, known_of, with_progress, reached, waiting, Meets, seen, Counts, Follows, MeetsAll, met, meets}
+use Rattle.gix_topo.proofs.Common.{Ends, Queued, Waiting, waiting_by, Frontier, known_generation, is_side, is_seen, is_done, known_of, with_progress, reached, waiting, Meets, seen, Counts, Follows, MeetsAll, met, meets}
 use Rattle.std.specs.FinMap as map
 use Rattle.gix_frontier.specs.Inside.Frontier.{unseen}
 use Rattle.gix_topo.specs.Inside.Exploring.{none, more}
@@ -110,3 +110,7 @@ module _ (rows : List GraphRow) where
   parents_met {side = Ends} {old = old} none = met_none Ends old
   parents_met {side = Tips} {old = old} (more {mid = mid} {i = i} n f) = met_more (met_counted i old n.0 mid n.1 (met_one n.2)) (parents_met f)
   parents_met {side = Ends} (more n f) = met_more (met_one n) (parents_met f)
+
+  -- to meet parents finishes no id
+  pub follows_done : {side : Side} {old : Frontier} {ids : List ObjectId} {new : Frontier} → Follows rows side old ids new → (i : ObjectId) → (is_done (reached new.known Tips i) || is_done (reached new.known Ends i)) ≡ (is_done (reached old.known Tips i) || is_done (reached old.known Ends i))
+  follows_done f i = grind (arith, (parents_met f).moved Tips i, (parents_met f).moved Ends i)
