@@ -1,5 +1,5 @@
 -- The ids that are asked about: how they are looked up, and which is the lowest.
-use Rattle.std.proofs.Common.{Bor, ◌≡◌, ◌≢◌, ◌⊎◌, ◌≤◌, ℕ, suc, Bool, List, [], ◌∷◌, ◌++◌, length, true, false, Option, Some, None, Contains, IfSome, IsPermutation, IsSome, refl, sym, ap, subst, inl, inr, ⊎_elim, ◌∙◌, is_lt, nat_cmp, arith}
+use Rattle.std.proofs.Common.{Bor, ◌≡◌, ◌≢◌, ◌⊎◌, ◌≤◌, ℕ, suc, Bool, List, [], ◌∷◌, ◌++◌, length, slice_get, true, false, Option, Some, None, Contains, IfSome, IsPermutation, IsSome, sym, subst, inl, inr, ⊎_elim, ◌∙◌, is_lt, nat_cmp, arith}
 use Rattle.std.specs.FinSet as set
 use Rattle.std.specs.BinaryHeap.{IsUpperBound}
 use Rattle.std.specs.declared.cmp.Reverse.{Reverse}
@@ -14,8 +14,7 @@ use Rattle.gix_hash.proofs.Ids.Membership.{Contains-cons_cases, Contains-here, C
 use Rattle.gix_hash.proofs.Lists.{only_member}
 use Rattle.gix_object.specs.Object.{Objects}
 use Rattle.gix_commitgraph.specs.Rows.{GraphRow, row_of}
-use Rattle.gix_paint.specs.Inside.Painter.{FailsAmong}
-use Rattle.gix_contained.specs.Inside.Search.{AreAsked, AreLookedUp, AskedId, IsUnrowed, Knows, Queued}
+use Rattle.gix_contained.specs.Inside.Search.{AskFails, AreLookedUp, AskedId, IsUnrowed, Knows, Queued}
 use Rattle.gix_object.specs.declared.find.existing_iter.Error.TheVariants as existing
 use Rattle.gix_paint.specs.declared.Hidden.{Hidden}
 use Rattle.gix_paint.specs.declared.Hidden.TheVariants as hidden_by
@@ -24,6 +23,10 @@ use Rattle.gix_paint.specs.Painting.{IsFaultAt}
 use Rattle.gix_revwalk.specs.Agreeing.{rows_in}
 use Rattle.gix_revwalk.specs.Commits.{commit_at}
 use Rattle.gix_revwalk.specs.PriorityQueue.{keys}
+
+pub first_member : {X : Type 0} (xs : List X) (x : X) → slice_get xs 0 ≡ Some x → Contains xs x
+first_member [] x e = cc
+first_member (y ∷ xs) x e = let same : y ≡ x = cc in subst (λ z. Contains (z ∷ xs) x) (sym same) (Contains-here x xs)
 
 -- the order of generations, the least first
 abbrev pub falling : Reverse ℕ → Reverse ℕ → Rattle.std.specs.declared.cmp.Ordering.Ordering
@@ -79,7 +82,7 @@ module _ (objects : Objects) (rows : List GraphRow) where
 -- what was looked up by the same store and graph, while rows are in use
 module _ {F : Type 0} (objects : F → Objects) (faulty : F → ObjectId → Type 0) {a b : Bor F} {g h : Option (Bor (List GraphRow))} {in_use : Bool} (same : a ≡ b) (graph : g ≡ h) (used : in_use ≡ true) where
   pub fails_among : (ids : List ObjectId) (i : ObjectId) (why : Hidden) → Contains ids i → (why ≢ hidden_by.Find existing.Memory → IsUnrowed (rows_in g) in_use i × IsFaultAt (objects a.now) (faulty a.now) i why)
-      → FailsAmong (objects b.now) (faulty b.now) (rows_in h) ids why
+      → AskFails (objects b.now) (faulty b.now) (rows_in h) ids why
   fails_among ids i why m f n =
       let k = f n in
       (i, m, ⊎_elim (λ r. transport (λ j. row_of (rows_in (graph j)) i ≡ None) r) (λ u. absurd (false≢true (sym u ∙ used))) k.0, transport (λ j. IsFaultAt (objects (same j).now) (faulty (same j).now) i why) k.1)

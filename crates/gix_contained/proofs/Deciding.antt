@@ -5,24 +5,22 @@ use Rattle.std.specs.FinSet as set
 use Rattle.std.proofs.lemmas.Bool.{false≢true, or_left, or_right}
 use Rattle.std.proofs.lemmas.List.Sorted.{Contains-permutation, IsPermutation-sym, length_permutation}
 use Rattle.gix_hash.specs.declared.ObjectId.{ObjectId}
-use Rattle.gix_hash.specs.Id.{id_cmp, is_among}
+use Rattle.gix_hash.specs.Id.{is_among}
 use Rattle.gix_hash.specs.Reach.{Reaches, start, step}
-use Rattle.gix_hash.proofs.Ids.Membership.{among-append, among_from, Contains-cons_cases, Contains-here, Contains-there, no_member}
-use Rattle.gix_object.specs.declared.find.existing_iter.Error.TheVariants as existing
+use Rattle.gix_hash.proofs.Ids.Membership.{among-append, among_from, Contains-here, Contains-there, no_member}
 use Rattle.gix_object.specs.Object.{Object, Objects}
 use Rattle.gix_commitgraph.specs.Rows.{GraphRow, row_of}
 use Rattle.gix_contained.specs.declared.search.Search.{Search}
 use Rattle.gix_contained.specs.declared.source.Waiting.{Waiting}
-use Rattle.gix_contained.specs.Contained.{DropsBy, IsContainedFault}
+use Rattle.gix_contained.specs.Contained.{DropsBy}
 use Rattle.gix_paint.specs.Inside.Painter.{Reads}
-use Rattle.gix_contained.specs.Inside.Search.{AreAsked, brings, by_row, by_store, Decides, drops, FollowFails, Follows, GivesParents, brought, looked_up, IsLowest, IsPassed, IsUnrowed, Knows, MeetFails, Meets, AskedId, SearchFails, Queued, room}
+use Rattle.gix_contained.specs.Inside.Search.{AreAsked, brings, by_row, by_store, Decides, drops, FollowFails, Follows, GivesParents, brought, looked_up, IsLowest, IsPassed, MeetFails, Meets, AskedId, SearchFails, Queued, room}
 use Rattle.gix_contained.proofs.Holding.{Holds, blank, dropped_for, given_there, met, passed_by, popped, unreached, all_read}
 use Rattle.gix_paint.specs.declared.Hidden.{Hidden}
-use Rattle.gix_paint.specs.declared.Hidden.TheVariants as hidden_by
 use Rattle.gix_revwalk.specs.Infos.{generation_in}
 use Rattle.gix_paint.specs.Painting.{IsFaultAt, IsHistory}
 use Rattle.gix_revwalk.specs.Agreeing.{rows_in}
-use Rattle.gix_revwalk.specs.Commits.{commit_at, commit_of_object, parents_in, parents_of}
+use Rattle.gix_revwalk.specs.Commits.{commit_of_object, parents_in, parents_of}
 use Rattle.gix_revwalk.specs.Ids.{new_ids}
 use Rattle.gix_revwalk.specs.Reading.{DropsRows}
 use Rattle.gix_revwalk.proofs.NewIds.{among_flat}

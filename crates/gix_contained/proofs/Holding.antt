@@ -1,8 +1,7 @@
 -- What holds while the search goes on, of each history that agrees with the rows and has the store's commits.
-use Rattle.std.proofs.Common.{◌≡◌, ◌⊎◌, ◌-◌, ◌^◌, ◌<◌, ◌≤◌, ℕ, List, [], ◌∷◌, Bool, true, false, ◌||◌, Option, Some, None, Contains, IsPermutation, IsSome, refl, sym, ap, subst, inl, inr, ⊎_elim, ◌∙◌, le_refl, arith}
+use Rattle.std.proofs.Common.{◌≡◌, ◌⊎◌, ◌-◌, ◌^◌, ◌<◌, ◌≤◌, ℕ, List, [], ◌∷◌, Bool, true, false, Option, Some, None, Contains, IsPermutation, IsSome, refl, sym, ap, subst, inl, inr, ⊎_elim, ◌∙◌, le_refl, arith}
 use Rattle.std.specs.FinSet as set
-use Rattle.std.proofs.Math.Nat.{le_trans}
-use Rattle.std.proofs.lemmas.Bool.{false≢true, true_from_ne_false, or_left, or_right}
+use Rattle.std.proofs.lemmas.Bool.{false≢true, or_left, or_right}
 use Rattle.std.proofs.lemmas.List.Sorted.{Contains-permutation, IsPermutation-sym}
 use Rattle.gix_hash.specs.declared.ObjectId.{ObjectId}
 use Rattle.gix_hash.specs.Id.{id_cmp, is_among}
@@ -17,7 +16,7 @@ use Rattle.gix_paint.specs.Inside.Painter.{Reads}
 use Rattle.gix_contained.specs.Inside.Search.{brings, by_row, by_store, drops, GivesParents, brought, looked_up, Knows, Meets, Queued, generation_if}
 use Rattle.gix_revwalk.specs.Infos.{generation_in}
 use Rattle.gix_paint.specs.Painting.{IsHistory}
-use Rattle.gix_revwalk.specs.Agreeing.{IsAgreeing, RowAgrees, rows_in}
+use Rattle.gix_revwalk.specs.Agreeing.{RowAgrees, rows_in}
 use Rattle.gix_revwalk.specs.Commits.{commit_at, parents_in, parents_of}
 use Rattle.gix_revwalk.specs.Reading.{DropsRows}
 use Rattle.gix_revwalk.proofs.ReadsWhole.{corrupt_row, parent_below, row_parents, row_stands}

@@ -1,5 +1,5 @@
 -- To meet ids one by one is to meet them all.
-use Rattle.std.proofs.Common.{◌≡◌, ◌≢◌, ◌⊎◌, suc, List, [], ◌∷◌, ◌++◌, length, Bool, true, false, ◌||◌, None, Contains, IsPermutation, refl, sym, ap, subst, inl, inr, ⊎_elim, ◌∙◌, le_refl, arith}
+use Rattle.std.proofs.Common.{◌≡◌, suc, List, [], ◌∷◌, ◌++◌, length, Bool, true, false, ◌||◌, None, Result, Ok, Err, Contains, IfErr, IsErrAnd, IsPermutation, refl, sym, ap, subst, inl, inr, ⊎_elim, ◌∙◌, le_refl, arith}
 use Rattle.std.specs.FinSet as set
 use Rattle.std.proofs.Math.Nat.{le_trans}
 use Rattle.std.proofs.Math.Path.{transport}
@@ -20,6 +20,10 @@ use Rattle.gix_paint.specs.Painting.{IsFaultAt}
 use Rattle.gix_revwalk.specs.Agreeing.{rows_in}
 use Rattle.gix_revwalk.specs.Ids.{new_ids}
 use Rattle.gix_revwalk.proofs.NewIds.{fresh_agree, new_less}
+
+pub fails_as : {T : Type 0} (P : Hidden → Type 0) (r : Result T Hidden) {why : Hidden} → IsErrAnd r (λ e. e ≡ why) → P why → IfErr r P
+fails_as P (Ok done) h x = absurd h
+fails_as P (Err e) h x = subst P (sym h) x
 
 or_between : (a b c : Bool) → (b || (a || c)) ≡ ((a || b) || c)
 or_between true true c = refl

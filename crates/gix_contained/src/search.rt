@@ -3,8 +3,7 @@ ghost use Rattle.std.specs.Prelude.{◌≡◌, ◌≤◌, ◌⊎◌, ◌∷◌, 
 ghost use Rattle.std.specs.FinSet as set;
 ghost use Rattle.gix_hash.specs.declared.ObjectId.{ObjectId};
 ghost use Rattle.gix_revwalk.specs.Agreeing.{rows_in};
-ghost use Rattle.gix_paint.specs.Inside.Painter.{FailsAmong};
-ghost use Rattle.gix_contained.specs.Inside.Search.{AskedId, AreAsked, AreLookedUp, IsLowest, Decides, SearchFails, Meets, MeetFails, Follows, FollowFails};
+ghost use Rattle.gix_contained.specs.Inside.Search.{AskFails, AskedId, AreAsked, AreLookedUp, IsLowest, Decides, SearchFails, Meets, MeetFails, Follows, FollowFails};
 
 use crate::source::{Key, Named, Source, Waiting};
 use gix_commitgraph::Graph;
@@ -28,7 +27,7 @@ pub(super) fn look_up_all<'a, F: Find>(
     ids: &[ObjectId],
 ) -> Result<AskedIds, Hidden>
     ensures ok { IfOk result (AreLookedUp (F.objects objects.now) (rows_in graph.entry) ids.now) }
-    ensures fault { IfErr result (FailsAmong (F.objects objects.now) (F.faulty objects.now) (rows_in graph.entry) ids.now) }
+    ensures fault { IfErr result (AskFails (F.objects objects.now) (F.faulty objects.now) (rows_in graph.entry) ids.now) }
 {
     let mut source = Source {
         objects,

@@ -16,7 +16,7 @@ use Rattle.gix_object.specs.Object.{Objects}
 use Rattle.gix_commitgraph.specs.Rows.{GraphRow}
 use Rattle.gix_paint.specs.declared.Hidden.TheVariants as hidden_by
 use Rattle.gix_paint.proofs.Invariant.{reads_parents}
-use Rattle.gix_paint.proofs.WholeOrFault.{header_read}
+use Rattle.gix_paint.proofs.WholeOrFault.{front_read}
 use Rattle.gix_merge_base.specs.declared.Error.{Error}
 use Rattle.gix_merge_base.specs.declared.Error.TheVariants as error
 use Rattle.gix_merge_base.specs.Errors.{error_of_find}
@@ -25,12 +25,8 @@ use Rattle.gix_revwalk.specs.declared.read.Header.{Header}
 use Rattle.gix_revwalk.specs.declared.row.RowRead.{RowRead}
 use Rattle.gix_revwalk.specs.Commits.{parents_of}
 use Rattle.gix_revwalk.specs.Either.{seconds_told}
-use Rattle.gix_revwalk.specs.Reading.{ReadsHeader, ReadsRow, is_read, absent, corrupt, dropped}
+use Rattle.gix_revwalk.specs.Reading.{ReadsFront, ReadsRow, is_read, absent, corrupt, dropped}
 use Rattle.gix_revwalk.proofs.ReadsWhole.{row_parents}
-
-told_fault : (r : Result (List ℕ) DecodeError) (e : DecodeError) → seconds_told r ≡ Err e → r ≡ Err e
-told_fault (Ok signature) e h = cc
-told_fault (Err f) e h = cc
 
 module _ (objects : Objects) (rows : List GraphRow) (i : ObjectId) where
   -- by the row
@@ -43,8 +39,8 @@ module _ (objects : Objects) (rows : List GraphRow) (i : ObjectId) where
   row_gives read (dropped d) is = λ agreeing. cc
 
   -- or from the store
-  pub store_gives : (header : Header) {time : ℤ} → ReadsHeader objects i header → header.time ≡ Ok time → ReadsParents objects rows i header.parent_ids.items
-  store_gives header {time = time} h is = λ agreeing. reads_parents objects i header.parent_ids.items (header_read objects i header h time is).0
+  pub store_gives : (read : Result (List ObjectId) DecodeError) (ids : List ObjectId) → ReadsFront objects i read → read ≡ Ok ids → ReadsParents objects rows i ids
+  store_gives read ids h is = λ agreeing. reads_parents objects i ids (front_read objects i ids (subst (ReadsFront objects i) is h))
 
 module _ (objects : Objects) (faulty : ObjectId → Type 0) (i : ObjectId) {T : Type 0} where
   -- the commit isn't found
@@ -53,9 +49,11 @@ module _ (objects : Objects) (faulty : ObjectId → Type 0) (i : ObjectId) {T : 
   unfound result e f same is h = subst (λ (r : Result T Error). IfErr r (λ e. e ≢ error.Memory → ReadFails objects faulty i e)) (sym same) (λ ne. (hidden_by.Find f, h (λ m. ne (is ∙ ap error_of_find m)), is))
 
   -- or it is broken
-  pub unread : (result : Result T Error) (e : Error) (f : DecodeError) (header : Header) → result ≡ Err e → e ≡ error.ObjectDecode f → ReadsHeader objects i header → header.time ≡ Err f
+  pub unread : (result : Result T Error) (e : Error) (f : DecodeError) (read : Result (List ObjectId) DecodeError) → result ≡ Err e → e ≡ error.ObjectDecode f → ReadsFront objects i read → read ≡ Err f
       → IfErr result (λ e. e ≢ error.Memory → ReadFails objects faulty i e)
-  unread result e f header same is h t = subst (λ (r : Result T Error). IfErr r (λ e. e ≢ error.Memory → ReadFails objects faulty i e)) (sym same) (λ ne. (hidden_by.ObjectDecode f, (h.bytes, h.stored, told_fault (first_committer (commit_items (kind_of i) h.bytes)) f (sym h.time ∙ t)), is))
+  unread result e f read same is h t =
+      let front = subst (ReadsFront objects i) t h in
+      subst (λ (r : Result T Error). IfErr r (λ e. e ≢ error.Memory → ReadFails objects faulty i e)) (sym same) (λ ne. (hidden_by.ObjectDecode f, (front.bytes, front.stored, front.fault), is))
 
   pub unread_among : (ids : List ObjectId) (result : Result T Error) (e f : Error) → Contains ids i → result ≡ Err e → e ≡ f → (f ≢ error.Memory → ReadFails objects faulty i f) → IfErr result (λ e. e ≢ error.Memory → ReadFailsAmong objects faulty ids e)
   unread_among ids result e f m same is h = subst (λ (r : Result T Error). IfErr r (λ e. e ≢ error.Memory → ReadFailsAmong objects faulty ids e)) (sym same) (λ ne. (i, m, subst (ReadFails objects faulty i) (sym is) (h (λ x. ne (is ∙ x)))))

@@ -23,7 +23,7 @@ use gix_hash::{Keys, ObjectId};
 use gix_object::decode;
 use gix_object::find::{Find, existing_iter};
 use gix_paint::Hidden;
-use gix_revwalk::read::find_header;
+use gix_revwalk::read::find_parents;
 use gix_revwalk::row::{NOWHERE, read_row};
 use gix_revwalk::{Info, ParentIds, Unfiltered};
 use gix_simple::Simple;
@@ -325,7 +325,6 @@ fn parents_at<F: Find>(
         return Ok(row.parent_ids);
     }
     let mut text = Vec::new(alloc);
-    let header = find_header(alloc, objects, id, &mut text)?;
-    let _ = header.time?;
-    Ok(header.parent_ids)
+    let read = find_parents(alloc, objects, id, &mut text)?;
+    Ok(read?)
 }

@@ -2,7 +2,7 @@
 pub use Rattle.std.specs.FinSet.{contains, contains-insert, contains-remove}
 pub use Rattle.std.proofs.lemmas.List.Elements.{Contains-append_cases, Contains-append_left, Contains-append_right}
 pub use Rattle.std.proofs.lemmas.List.Sorted.{Contains-permutation, IsPermutation-sym, length_permutation}
-pub use Rattle.std.proofs.lemmas.Result.{err_from_is_err_and, IfOk-weaker}
+pub use Rattle.std.proofs.lemmas.Result.{err_from_is_err_and, IfErr-weaker, IfOk-weaker}
 pub use Rattle.gix_commitgraph.specs.Rows.{GraphRow, row_of}
 pub use Rattle.gix_hash.specs.Id.{id_cmp, is_among, is_same, kind_of}
 pub use Rattle.gix_hash.specs.Reach.{IsAtBoundary, Reaches, start, step}
@@ -12,15 +12,13 @@ pub use Rattle.gix_revwalk.specs.Commits.{commit_of_object, HasTime, parents_in,
 pub use Rattle.gix_revwalk.specs.Ids.{ids_of, new_ids}
 pub use Rattle.gix_revwalk.specs.RowParents.{ids_at, IsUnrowed}
 pub use Rattle.gix_hash.proofs.Ids.Membership.{among-append, among_from, Contains-cons_cases, Contains-here, Contains-there, id_apart, id_total, no_member, same_is, same_itself}
-pub use Rattle.gix_paint.specs.Inside.Painter.{AllMarks, Becomes, brought, by_row, by_store, covers, drops, FailsAmong, frontier_without, GivesParents, graph_in_use, hidden_of, Hides, hides, is_hidden, is_told, is_turn, is_turn_on, IsQueued}
-pub use Rattle.gix_paint.specs.Inside.Painter.{IsReadFor, IsSettled, IsTidy, IsWaiting, Knows, looked_up, Meets, Open, opens, Pops, Queues, Read, ReadFails, Reads, reads, ReadsParents, room, skips, State, state_by, state_of, stays, Takes}
-pub use Rattle.gix_paint.specs.Inside.Painter.{TreatFails, TreatsEntry, Unmet}
+pub use Rattle.gix_paint.specs.Inside.Painter.{AllMarks, Becomes, by_row, by_store, covers, drops, frontier_without, generation_told, graph_in_use, hidden_of, hides, is_hidden, is_turn, is_turn_on, IsAhead, IsQueued, IsSettled, IsTidy, IsWaiting}
+pub use Rattle.gix_paint.specs.Inside.Painter.{mark_of, Meets, Pops, ReadFails, Reads, reads, ReadsParents, room, shows, skips, stays, Takes, TreatsEntry}
+pub use Rattle.gix_paint.specs.Inside.Queue.{AreAllTold, is_told, IsNoneAbove, QueueEntry}
 pub use Rattle.gix_revwalk.specs.Infos.{generation_in}
 pub use Rattle.gix_paint.specs.Painting.{DropsBy, hidden_commit, IsFaultAt, IsHiddenFault, IsHistory, IsOpenBelow, IsRead, Paints, shown_commit}
-pub use Rattle.gix_paint.specs.contracts.source.KeyOrd.TheImpl.{cmp-value}
-pub use Rattle.gix_paint.specs.declared.Entry.{Entry}
+pub use Rattle.gix_paint.specs.declared.queue.Entry.{Entry}
 pub use Rattle.gix_paint.specs.declared.Hidden.{Hidden}
 pub use Rattle.gix_paint.specs.declared.Painter.{Painter}
 pub use Rattle.gix_paint.specs.declared.Side.{Side}
-pub use Rattle.gix_paint.specs.declared.source.Generation.TheVariants.{Infinite, Told}
-pub use Rattle.gix_paint.specs.declared.source.Key.{Key}
+pub use Rattle.gix_paint.specs.declared.queue.Generation.TheVariants.{Infinite, Told}

@@ -1,12 +1,12 @@
 -- What holds while hidden tips are painted, and what each step keeps of it.
-use Rattle.std.proofs.Common.{◌≡◌, ◌≢◌, ◌⊎◌, List, ◌&&◌, Some, None, Contains, option_map, refl, sym, ap, subst, inl, inr, ⊎_elim, ◌∙◌, arith}
+use Rattle.std.proofs.Common.{◌≡◌, ◌≢◌, ◌⊎◌, List, ◌&&◌, Option, Some, None, Contains, IsSome, refl, sym, ap, subst, inl, inr, ⊎_elim, ◌∙◌, arith}
 use Rattle.std.specs.FinMap as map_of
 use Rattle.std.specs.FinSet as set
-use Rattle.gix_paint.proofs.Common.{ObjectId, id_cmp, Objects, GraphRow, row_of, Side, Key, Entry, Painter, parents_of, parents_in, IsHistory, DropsBy, AllMarks, hides, is_hidden, State, Unmet, Open, Read, Hides, state_of, Becomes}
-use Rattle.gix_paint.proofs.Common.{stays, opens, covers, graph_in_use, Reads, Knows, by_row, by_store, IsQueued, IsWaiting, IsTidy, Meets, Reaches, id_total, id_apart}
+use Rattle.gix_paint.proofs.Common.{ObjectId, id_cmp, Objects, GraphRow, row_of, Side, Painter, QueueEntry, parents_of, parents_in, IsHistory, DropsBy, AllMarks, hides, is_hidden, mark_of, Becomes}
+use Rattle.gix_paint.proofs.Common.{stays, shows, covers, graph_in_use, Reads, IsQueued, IsWaiting, IsTidy, Meets, Reaches, id_total, id_apart}
 use Rattle.gix_paint.specs.declared.Side.TheVariants as side
-use Rattle.gix_paint.specs.declared.source.LookedUp.{LookedUp}
 use Rattle.gix_revwalk.specs.Agreeing.{IsAgreeing}
+use Rattle.gix_revwalk.specs.Commits.{commit_at}
 use Rattle.gix_paint.specs.Inside.Painter.{hidden_of, rows_in}
 
 -- the ids that are marked hidden, as a set
@@ -20,33 +20,22 @@ contains-hidden marks i =
 pub hidden-empty : (marks : AllMarks) → marks ≡ map_of.empty → hidden_of marks ≡ set.empty
 hidden-empty marks e = set.same_set id_total id_apart _ _ (λ i. contains-hidden marks i ∙ ap (λ m. is_hidden m i) e ∙ ap hides (map_of.get-empty id_cmp i) ∙ sym (set.contains-empty id_cmp i))
 
--- the parents that an entry brings are its commit's
-pub brought_read : {objects : Objects} {rows : List GraphRow} {i : ObjectId} {known : LookedUp} → Knows objects rows i known → (ids : List ObjectId) → option_map (λ ids. ids.items) known.parent_ids ≡ Some ids → Reads objects i ids
-brought_read (by_row r k t n) ids e = let none : None ≡ Some ids = sym (ap (option_map (λ ids. ids.items)) n) ∙ e in cc
-brought_read (by_store {ids = those} r k t m s) ids e = let same : ids ≡ those = cc in (s.0, s.1, same ∙ s.2)
-
--- an entry without a row was read from the store
-unrowed_read : {objects : Objects} {rows : List GraphRow} {i : ObjectId} {known : LookedUp} → Knows objects rows i known → row_of rows i ≡ None → (ids : List ObjectId) × Reads objects i ids
-unrowed_read (by_row {row = row} r k t n) e = let none : None ≡ Some row = sym e ∙ r in cc
-unrowed_read (by_store {ids = ids} r k t m s) e = (ids, s)
-
 pub reads_parents : (objects : Objects) (i : ObjectId) (ids : List ObjectId) → Reads objects i ids → ids ≡ parents_of objects i
 reads_parents objects i ids r = r.2 ∙ sym (ap parents_in r.1)
 
--- states go on from the unmet to the hidden
-pub record Later (s : Side) (met queued : Type 0) (a b : State) : Type 0 where
-  pub met_stays : a ≢ Unmet → b ≢ Unmet
-  pub met_now : met → b ≢ Unmet
-  pub was_met : b ≢ Unmet → (a ≢ Unmet) ⊎ queued
-  pub was_read : b ≡ Read → a ≡ Read
-  pub hidden_stays : a ≡ Hides → b ≡ Hides
-  pub hidden_now : s ≡ side.Hidden → met → b ≡ Hides
-  pub was_hidden : b ≡ Hides → (a ≡ Hides) ⊎ ((s ≡ side.Hidden) × met × queued)
+-- an id that was met stays so, and so does a hidden one
+pub record Later (s : Side) (met queued : Type 0) (a b : Option Side) : Type 0 where
+  pub met_stays : a ≢ None → b ≢ None
+  pub met_now : met → b ≢ None
+  pub was_visible : b ≡ Some side.Visible → (a ≡ Some side.Visible) ⊎ ((s ≡ side.Visible) × met × queued)
+  pub hidden_stays : a ≡ Some side.Hidden → b ≡ Some side.Hidden
+  pub hidden_now : s ≡ side.Hidden → met → b ≡ Some side.Hidden
+  pub was_hidden : b ≡ Some side.Hidden → (a ≡ Some side.Hidden) ⊎ ((s ≡ side.Hidden) × met × queued)
 
-pub later : {s : Side} {met queued : Type 0} {a b : State} → Becomes s met queued a b → Later s met queued a b
-later (stays f) = record { met_stays = λ n. n; met_now = λ m. (f m).0; was_met = λ n. inl n; was_read = λ e. e; hidden_stays = λ e. e; hidden_now = λ e m. (f m).1 e; was_hidden = λ e. inl e }
-later (opens v m q) = record { met_stays = λ n e. cc; met_now = λ k e. cc; was_met = λ n. inr q; was_read = λ e. cc; hidden_stays = λ e. cc; hidden_now = λ e k. cc; was_hidden = λ e. cc }
-later (covers v m q) = record { met_stays = λ n e. cc; met_now = λ k e. cc; was_met = λ n. inr q; was_read = λ e. cc; hidden_stays = λ e. refl; hidden_now = λ e k. refl; was_hidden = λ e. inr (v, m, q) }
+pub later : {s : Side} {met queued : Type 0} {a b : Option Side} → Becomes s met queued a b → Later s met queued a b
+later (stays f) = record { met_stays = λ n. n; met_now = λ m. (f m).0; was_visible = λ e. inl e; hidden_stays = λ e. e; hidden_now = λ e m. (f m).1 e; was_hidden = λ e. inl e }
+later (shows v m q) = record { met_stays = λ n e. cc; met_now = λ k e. cc; was_visible = λ e. inr (v, m, q); hidden_stays = λ e. cc; hidden_now = λ e k. cc; was_hidden = λ e. cc }
+later (covers v m q) = record { met_stays = λ n e. cc; met_now = λ k e. cc; was_visible = λ e. cc; hidden_stays = λ e. refl; hidden_now = λ e k. refl; was_hidden = λ e. inr (v, m, q) }
 
 abbrev pub nobody : Side → ObjectId → Type 0
 nobody s i = ⊥
@@ -59,6 +48,10 @@ own_history objects faulty rows agrees = record { agreeing = agrees; read = λ i
 pub in_history : {objects history : Objects} {rows : List GraphRow} → IsHistory objects rows history → (i : ObjectId) (ids : List ObjectId) → Reads objects i ids → Reads history i ids
 in_history h i ids r = (r.0, h.read i r.0 r.1, r.2)
 
+-- what waits on a side still waits after ids were met, but for a visible one that is hidden now
+pub waiting_stays : {F : Type 0} {s : Side} {ids : List ObjectId} {p new : Painter F} → Meets s ids p new → (t : Side) (i : ObjectId) → (t ≡ side.Visible → mark_of new i ≢ Some side.Hidden) → IsWaiting p t i → IsWaiting new t i
+waiting_stays m t i shown w = record { entry = w.entry; queued = m.keeps w.entry w.queued; on_side = w.on_side; of_id = w.of_id; ahead = λ v told. m.keeps_ahead i (w.ahead v told) (shown v) }
+
 -- what holds whatever the rows say
 module _ {F : Type 0} (objects : F → Objects) (store : F) (rows : List GraphRow) where
   abbrev pub RowsInUse : Painter F → Type 0
@@ -67,24 +60,17 @@ module _ {F : Type 0} (objects : F → Objects) (store : F) (rows : List GraphRo
   pub record IsSafe (p : Painter F) : Type 0 where
     pub same_store : p.source.objects.now ≡ store
     pub either : (rows_in (graph_in_use p.source) ≡ rows) ⊎ (graph_in_use p.source ≡ None)
-    pub queued : RowsInUse p → (q : Key × Entry) → Contains p.queue q → IsQueued (objects store) rows q
-    pub brings : (q : Key × Entry) → Contains p.queue q → (ids : List ObjectId) → option_map (λ ids. ids.items) q.1.parent_ids ≡ Some ids → Reads (objects store) q.1.id ids
-    pub read : (q : Key × Entry) → Contains p.queue q → row_of rows q.1.id ≡ None → (ids : List ObjectId) × Reads (objects store) q.1.id ids
+    pub queued : RowsInUse p → (q : QueueEntry) → Contains p.queue q → IsQueued rows q
 
-  module _ {s : Side} {ids : List ObjectId} {p new : Painter F} (m : Meets objects s ids p new) where
+  module _ {s : Side} {ids : List ObjectId} {p new : Painter F} (m : Meets s ids p new) where
     pub still_stand : RowsInUse new → RowsInUse p
-    still_stand r = ap rows_in (sym m.graph_stays) ∙ r
-
-    added : IsSafe p → (q : Key × Entry) → Contains new.queue q → Contains p.queue q ⊎ (Contains ids q.1.id × (q.1.side ≡ s) × IsQueued (objects store) (rows_in (graph_in_use p.source)) q)
-    added safe q c = ⊎_elim (λ o. inl o) (λ a. inr (a.0, a.1, subst (λ f. IsQueued (objects f) (rows_in (graph_in_use p.source)) q) safe.same_store a.2)) (m.adds q c)
+    still_stand r = ap (λ source. rows_in (graph_in_use source)) (sym m.source_stays) ∙ r
 
     pub safe_meets : IsSafe p → IsSafe new
     safe_meets h = record {
-      same_store = ap (λ o. o.now) m.objects_stay ∙ h.same_store;
-      either = ⊎_elim (λ e. inl (ap rows_in m.graph_stays ∙ e)) (λ e. inr (m.graph_stays ∙ e)) h.either;
-      queued = λ r q c. ⊎_elim (λ o. h.queued (still_stand r) q o) (λ a. subst (λ rs. IsQueued (objects store) rs q) (still_stand r) a.2) (added h q c);
-      brings = λ q c those e. ⊎_elim (λ o. h.brings q o those e) (λ a. brought_read a.2 those e) (added h q c);
-      read = λ q c e. ⊎_elim (λ o. h.read q o e) (λ a. unrowed_read a.2 (⊎_elim (λ k. ap (λ rs. row_of rs q.1.id) k ∙ e) (λ n. ap (λ g. row_of (rows_in g) q.1.id) n) h.either)) (added h q c);
+      same_store = ap (λ source. source.objects.now) m.source_stays ∙ h.same_store;
+      either = subst (λ source. (rows_in (graph_in_use source) ≡ rows) ⊎ (graph_in_use source ≡ None)) (sym m.source_stays) h.either;
+      queued = λ r q c. ⊎_elim (λ o. h.queued (still_stand r) q o) (λ a. subst (λ rs. IsQueued rs q) (still_stand r) a.2) (m.adds q c);
     }
 
 module _ {F : Type 0} (objects : F → Objects) (store : F) (history : Objects) (rows : List GraphRow) (tips hidden_tips : List ObjectId) where
@@ -103,60 +89,67 @@ module _ {F : Type 0} (objects : F → Objects) (store : F) (history : Objects) 
   abbrev pub IsBorder : ObjectId → Type 0
   IsBorder i = Contains tips i ⊎ ((c : ObjectId) × Reaches (parents_of history) tips c × IsOutside c × Contains (parents_of history c) i)
 
-  -- what is known of an id by its state, while the parents of a busy one are still to be met
-  abbrev pub Fact : (Side → ObjectId → Type 0) → Painter F → ObjectId → State → Type 0
-  Fact busy p i Unmet = Unit {0}
-  Fact busy p i Open = Reaches (parents_of history) tips i × IsWaiting p side.Visible i × (InUse p → IsBorder i)
-  Fact busy p i Read = Reaches (parents_of history) tips i × (busy side.Visible i ⊎ ((c : ObjectId) → Contains (parents_of history i) c → state_of p c ≢ Unmet)) × (InUse p → IsOutside i)
-  Fact busy p i Hides = Reaches (parents_of history) hidden_tips i × (busy side.Hidden i ⊎ (IsWaiting p side.Hidden i ⊎ ((c : ObjectId) → Contains (parents_of history i) c → state_of p c ≡ Hides)))
+  -- the store has the commit, if it has no row
+  abbrev pub WasRead : ObjectId → Type 0
+  WasRead i = row_of rows i ≡ None → IsSome (commit_at (objects store) i)
+
+  -- what is known of an id by its mark: it waits, or it was read, while the parents of a busy one are still to be met
+  abbrev pub Fact : (Side → ObjectId → Type 0) → Painter F → ObjectId → Option Side → Type 0
+  Fact busy p i None = Unit {0}
+  Fact busy p i (Some side.Visible) = Reaches (parents_of history) tips i
+      × (IsWaiting p side.Visible i ⊎ ((busy side.Visible i ⊎ ((c : ObjectId) → Contains (parents_of history i) c → mark_of p c ≢ None)) × (InUse p → IsOutside i) × WasRead i))
+  Fact busy p i (Some side.Hidden) = Reaches (parents_of history) hidden_tips i
+      × (IsWaiting p side.Hidden i ⊎ ((busy side.Hidden i ⊎ ((c : ObjectId) → Contains (parents_of history i) c → mark_of p c ≡ Some side.Hidden)) × WasRead i))
 
   -- what holds where the rows agree
   pub record Stands (busy : Side → ObjectId → Type 0) (p : Painter F) : Type 0 where
-    pub facts : (i : ObjectId) → Fact busy p i (state_of p i)
+    pub facts : (i : ObjectId) → Fact busy p i (mark_of p i)
     pub tidy : IsTidy p
-    pub reached : (q : Key × Entry) → Contains p.queue q → Reaches (parents_of history) (starts_of q.1.side) q.1.id
-    pub waits : (q : Key × Entry) → Contains p.queue q → q.1.side ≡ side.Hidden → state_of p q.1.id ≡ Hides
+    pub reached : (q : QueueEntry) → Contains p.queue q → Reaches (parents_of history) (starts_of q.1.side) q.1.id
+    pub waits : (q : QueueEntry) → Contains p.queue q → q.1.side ≡ side.Hidden → mark_of p q.1.id ≡ Some side.Hidden
+    pub border : (q : QueueEntry) → Contains p.queue q → q.1.side ≡ side.Visible → InUse p → IsBorder q.1.id
     pub dropped : (InUse p → ⊥) → DropsBy (parents_of history) rows tips hidden_tips
-    pub read : (i : ObjectId) → row_of rows i ≡ None → state_of p i ≢ Unmet → (ids : List ObjectId) × Reads (objects store) i ids
 
   -- the tips and the hidden tips were met
   pub record IsStarted (p : Painter F) : Type 0 where
-    pub shown : (i : ObjectId) → Contains tips i → state_of p i ≢ Unmet
-    pub hidden : (i : ObjectId) → Contains hidden_tips i → state_of p i ≡ Hides
+    pub shown : (i : ObjectId) → Contains tips i → mark_of p i ≢ None
+    pub hidden : (i : ObjectId) → Contains hidden_tips i → mark_of p i ≡ Some side.Hidden
 
-  module _ {s : Side} {ids : List ObjectId} {p new : Painter F} (m : Meets objects s ids p new) where
+  module _ {s : Side} {ids : List ObjectId} {p new : Painter F} (m : Meets s ids p new) where
     pub started_meets : IsStarted p → IsStarted new
-    started_meets h = record { shown = λ i c. (later (m.states i)).met_stays (h.shown i c); hidden = λ i c. (later (m.states i)).hidden_stays (h.hidden i c) }
-
-    waiting_stays : (t : Side) (i : ObjectId) → IsWaiting p t i → IsWaiting new t i
-    waiting_stays t i w = (w.0, m.keeps w.0 w.1, w.2, w.3)
+    started_meets h = record { shown = λ i c. (later (m.marks i)).met_stays (h.shown i c); hidden = λ i c. (later (m.marks i)).hidden_stays (h.hidden i c) }
 
     -- what is met is known, and nobody is busy any more
-    pub stands_meets : (busy : Side → ObjectId → Type 0) → IsSafe objects store rows p → Stands busy p
+    pub stands_meets : (busy : Side → ObjectId → Type 0) → Stands busy p
         → ((i : ObjectId) → Contains ids i → Reaches (parents_of history) (starts_of s) i)
         → (s ≡ side.Visible → InUse p → (i : ObjectId) → Contains ids i → IsBorder i)
         → ((t : Side) (i : ObjectId) → busy t i → (t ≡ s) × ((c : ObjectId) → Contains (parents_of history i) c → Contains ids c))
         → Stands nobody new
-    stands_meets busy safe h reach border done = record {
-      facts = λ i. fact i (m.states i) (h.facts i);
+    stands_meets busy h reach border done = record {
+      facts = λ i. fact i (m.marks i) refl (h.facts i);
       tidy = m.tidies h.tidy;
       reached = λ q c. ⊎_elim (λ o. h.reached q o) (λ a. subst (λ t. Reaches (parents_of history) (starts_of t) q.1.id) (sym a.1) (reach q.1.id a.0)) (m.adds q c);
-      waits = λ q c e. ⊎_elim (λ o. (later (m.states q.1.id)).hidden_stays (h.waits q o e)) (λ a. (later (m.states q.1.id)).hidden_now (sym a.1 ∙ e) a.0) (m.adds q c);
-      dropped = λ n. h.dropped (λ r. n (ap rows_in m.graph_stays ∙ r));
-      read = λ i e n. ⊎_elim (h.read i e) (whole i e) ((later (m.states i)).was_met n);
+      waits = λ q c e. ⊎_elim (λ o. (later (m.marks q.1.id)).hidden_stays (h.waits q o e)) (λ a. (later (m.marks q.1.id)).hidden_now (sym a.1 ∙ e) a.0) (m.adds q c);
+      border = λ q c e r. ⊎_elim (λ o. h.border q o e (still_stand objects store rows m r)) (λ a. border (sym a.1 ∙ e) (still_stand objects store rows m r) q.1.id a.0) (m.adds q c);
+      dropped = λ n. h.dropped (λ r. n (ap (λ source. rows_in (graph_in_use source)) m.source_stays ∙ r));
     }
       where
-        fact : (i : ObjectId) {a b : State} → Becomes s (Contains ids i) (IsWaiting new s i) a b → Fact busy p i a → Fact nobody new i b
-        fact i (stays {s = Unmet} f) k = tt
-        fact i (stays {s = Open} f) k = (k.0, waiting_stays side.Visible i k.1, λ r. k.2 (still_stand objects store rows m r))
-        fact i (stays {s = Read} f) k =
-            (k.0, inr (⊎_elim (λ b c n. (later (m.states c)).met_now ((done side.Visible i b).1 c n)) (λ all c n. (later (m.states c)).met_stays (all c n)) k.1), λ r. k.2 (still_stand objects store rows m r))
-        fact i (stays {s = Hides} f) k =
-            (k.0, inr (⊎_elim (λ b. inr (λ c n. (later (m.states c)).hidden_now (sym (done side.Hidden i b).0) ((done side.Hidden i b).1 c n))) (λ o. ⊎_elim (λ w. inl (waiting_stays side.Hidden i w)) (λ all. inr (λ c n. (later (m.states c)).hidden_stays (all c n))) o) k.1))
-        fact i (opens v c w) k = (subst (λ t. Reaches (parents_of history) (starts_of t) i) v (reach i c), subst (λ t. IsWaiting new t i) v w, λ r. border v (still_stand objects store rows m r) i c)
-        fact i (covers v c w) k = (subst (λ t. Reaches (parents_of history) (starts_of t) i) v (reach i c), inr (inl (subst (λ t. IsWaiting new t i) v w)))
-
-        whole : (i : ObjectId) → row_of rows i ≡ None → IsWaiting new s i → (ids : List ObjectId) × Reads (objects store) i ids
-        whole i e w =
-            let k = (safe_meets objects store rows m safe).read w.0 w.1 (ap (row_of rows) w.3 ∙ e) in
-            (k.0, subst (λ j. Reads (objects store) j k.0) w.3 k.1)
+        fact : (i : ObjectId) {a b : Option Side} → Becomes s (Contains ids i) (IsWaiting new s i) a b → mark_of new i ≡ b → Fact busy p i a → Fact nobody new i b
+        fact i (stays {mark = None} f) e k = tt
+        fact i (stays {mark = Some side.Visible} f) e k = (
+          k.0,
+          ⊎_elim (λ w. inl (waiting_stays m side.Visible i (λ v hidden. cc) w)) (λ r. inr (
+            inr (⊎_elim (λ b c n. (later (m.marks c)).met_now ((done side.Visible i b).1 c n)) (λ all c n. (later (m.marks c)).met_stays (all c n)) r.0),
+            (λ u. r.1 (still_stand objects store rows m u)),
+            r.2,
+          )) k.1,
+        )
+        fact i (stays {mark = Some side.Hidden} f) e k = (
+          k.0,
+          ⊎_elim (λ w. inl (waiting_stays m side.Hidden i (λ v. cc) w)) (λ r. inr (
+            inr (⊎_elim (λ b c n. (later (m.marks c)).hidden_now (sym (done side.Hidden i b).0) ((done side.Hidden i b).1 c n)) (λ all c n. (later (m.marks c)).hidden_stays (all c n)) r.0),
+            r.1,
+          )) k.1,
+        )
+        fact i (shows v c w) e k = (subst (λ t. Reaches (parents_of history) (starts_of t) i) v (reach i c), inl (subst (λ t. IsWaiting new t i) v w))
+        fact i (covers v c w) e k = (subst (λ t. Reaches (parents_of history) (starts_of t) i) v (reach i c), inl (subst (λ t. IsWaiting new t i) v w))

@@ -1,18 +1,14 @@
 -- What an entry's turn keeps of what holds while hidden tips are painted.
-use Rattle.std.proofs.Common.{◌≡◌, ◌≢◌, ◌⊎◌, ◌<◌, ◌≤◌, ℕ, List, [], ◌∷◌, ◌++◌, true, Some, None, Contains, IsSome, suc, refl, sym, ap, subst, inl, inr, ⊎_elim, ◌∙◌, arith}
+use Rattle.std.proofs.Common.{◌≡◌, ◌≢◌, ◌⊎◌, ◌<◌, ◌≤◌, ℕ, List, [], ◌∷◌, ◌++◌, true, Option, Some, None, Contains, IsSome, suc, refl, sym, ap, subst, inl, inr, ⊎_elim, ◌∙◌, arith}
 use Rattle.std.specs.List.{list_any}
 use Rattle.std.specs.Ordering.{eq_by_cmp}
 use Rattle.std.proofs.lemmas.Bool.{or_left}
-use Rattle.gix_paint.proofs.Common.{Contains-append_left, Contains-append_right, Contains-permutation, IsPermutation-sym, ObjectId, id_cmp, Objects, GraphRow, row_of, cmp-value, Side, Told, Infinite, Key, Entry, Painter, DropsBy}
-use Rattle.gix_paint.proofs.Common.{generation_in, IsHistory, Open, Hides, state_of, graph_in_use, Knows, by_row, by_store, IsWaiting, IsSettled, is_told, Pops, parents_of, Reaches, start, step, ids_at, id_total, id_apart, same_itself}
+use Rattle.gix_paint.proofs.Common.{Contains-append_left, Contains-append_right, Contains-permutation, IsPermutation-sym, ObjectId, id_cmp, Objects, GraphRow, row_of, Side, Told, Infinite, QueueEntry, Painter, DropsBy}
+use Rattle.gix_paint.proofs.Common.{generation_in, generation_told, IsHistory, mark_of, graph_in_use, IsQueued, IsWaiting, IsSettled, is_told, IsNoneAbove, Pops, parents_of, Reaches, start, step, ids_at, id_total, id_apart, same_itself}
 use Rattle.gix_paint.proofs.Common.{Contains-here}
-use Rattle.std.specs.BinaryHeap.{IsUpperBound}
 use Rattle.std.specs.FinSet as set
-use Rattle.gix_revwalk.specs.PriorityQueue.{keys}
 use Rattle.gix_paint.specs.declared.Side.TheVariants as side
-use Rattle.gix_paint.specs.declared.source.LookedUp.{LookedUp}
-use Rattle.gix_paint.proofs.Invariant.{nobody, starts_of, RowsInUse, IsSafe, IsOutside, Fact, Stands, IsStarted}
-use Rattle.gix_paint.proofs.Keys.{told_below_top, IsBelow}
+use Rattle.gix_paint.proofs.Invariant.{nobody, starts_of, RowsInUse, IsSafe, IsOutside, IsBorder, Fact, Stands, IsStarted}
 use Rattle.gix_revwalk.proofs.ReadsWhole.{row_stands, parent_below, corrupt_row}
 use Rattle.gix_revwalk.proofs.Reached.{done_or_waits}
 use Rattle.gix_paint.proofs.Search.{told_below}
@@ -33,16 +29,22 @@ HasGeneration rows i n = (row : GraphRow) × (row_of rows i ≡ Some row) × (ro
 pub one_generation : (rows : List GraphRow) (i : ObjectId) {m : ℕ} {row : GraphRow} → HasGeneration rows i m → row_of rows i ≡ Some row → m ≡ row.generation
 one_generation rows i {row = row} a e = let same : a.0 ≡ row = (let s : Some a.0 ≡ Some row = sym a.1 ∙ e in cc) in sym a.2 ∙ ap (λ row. row.generation) same
 
--- the key of an id in the queue is its row's generation
-pub told_key : {objects : Objects} {rows : List GraphRow} {i : ObjectId} {m : ℕ} {known : LookedUp} → Knows objects rows i known → HasGeneration rows i m → known.key.generation ≡ Told m
-told_key (by_row {row = row} e k t n) g = k ∙ ap (λ x. Told x.generation) (let s : Some row ≡ Some g.0 = sym e ∙ g.1 in let same : row ≡ g.0 = cc in same) ∙ ap Told g.2
-told_key (by_store e k t n d) g = let bad : None ≡ Some g.0 = sym e ∙ g.1 in cc
+-- an id waits by its row's generation
+pub told_key : (rows : List GraphRow) (q : QueueEntry) {m : ℕ} → IsQueued rows q → HasGeneration rows q.1.id m → q.0 ≡ Told m
+told_key rows q k g = k ∙ ap generation_told g.1 ∙ ap Told g.2
 
-pub told_row : {objects : Objects} {rows : List GraphRow} {i : ObjectId} {known : LookedUp} → Knows objects rows i known → (n : ℕ) → known.key.generation ≡ Told n → HasGeneration rows i n
-told_row (by_row {row = row} e k t m) n f = (row, e, (let s : Told row.generation ≡ Told n = sym k ∙ f in cc))
-told_row (by_store e k t m d) n f = let bad : Infinite ≡ Told n = sym k ∙ f in cc
+pub told_row : (rows : List GraphRow) (q : QueueEntry) → IsQueued rows q → (n : ℕ) → q.0 ≡ Told n → HasGeneration rows q.1.id n
+told_row rows q k n e = go (row_of rows q.1.id) refl
+  where
+    go : (o : Option GraphRow) → row_of rows q.1.id ≡ o → HasGeneration rows q.1.id n
+    go None f = let bad : Infinite ≡ Told n = sym (k ∙ ap generation_told f) ∙ e in cc
+    go (Some row) f = let same : Told row.generation ≡ Told n = sym (k ∙ ap generation_told f) ∙ e in (row, f, cc)
 
-pub popped_there : {F : Type 0} {old new : Painter F} {top : Key × Entry} → Pops cmp-value.it old top new → Contains old.queue top
+-- all that waits has a row, of no greater generation
+abbrev pub IsBelow : {F : Type 0} → Painter F → ℕ → Type 0
+IsBelow p n = (q : QueueEntry) → Contains p.queue q → (m : ℕ) × (q.0 ≡ Told m) × (m ≤ n)
+
+pub popped_there : {F : Type 0} {old new : Painter F} {top : QueueEntry} → Pops old top new → Contains old.queue top
 popped_there {new = new} {top = top} pops = Contains-permutation _ _ top (IsPermutation-sym _ _ pops.queue) (Contains-here top new.queue)
 
 module _ {F : Type 0} (objects : F → Objects) (store : F) (history : Objects) (rows : List GraphRow) (tips hidden_tips : List ObjectId) where
@@ -53,12 +55,12 @@ module _ {F : Type 0} (objects : F → Objects) (store : F) (history : Objects) 
 
   -- a hidden id all of whose parents are
   abbrev IsDone : Painter F → ObjectId → Type 0
-  IsDone p i = (state_of p i ≡ Hides) × ((c : ObjectId) → Contains (parents_of history i) c → state_of p c ≡ Hides)
+  IsDone p i = (mark_of p i ≡ Some side.Hidden) × ((c : ObjectId) → Contains (parents_of history i) c → mark_of p c ≡ Some side.Hidden)
 
-  hidden_so : (p : Painter F) → Stands objects store history rows tips hidden_tips nobody p → (i : ObjectId) → state_of p i ≡ Hides → IsDone p i ⊎ IsWaiting p side.Hidden i
+  hidden_so : (p : Painter F) → Stands objects store history rows tips hidden_tips nobody p → (i : ObjectId) → mark_of p i ≡ Some side.Hidden → IsDone p i ⊎ IsWaiting p side.Hidden i
   hidden_so p h i e =
-      let f : Fact objects store history rows tips hidden_tips nobody p i Hides = subst (Fact objects store history rows tips hidden_tips nobody p i) e (h.facts i) in
-      ⊎_elim (λ b. absurd b) (λ o. ⊎_elim (λ w. inr w) (λ all. inl (e, all)) o) f.1
+      let f : Fact objects store history rows tips hidden_tips nobody p i (Some side.Hidden) = subst (Fact objects store history rows tips hidden_tips nobody p i) e (h.facts i) in
+      ⊎_elim (λ w. inr w) (λ r. ⊎_elim (λ b. absurd b) (λ all. inl (e, all)) r.0) f.1
 
   pub hidden_from : (p : Painter F) → Stands objects store history rows tips hidden_tips nobody p → IsStarted objects store history rows tips hidden_tips p → (i : ObjectId) → Reaches (parents_of history) hidden_tips i
       → IsDone p i ⊎ ((q : ObjectId) × IsWaiting p side.Hidden q × Reaches (parents_of history) (q ∷ []) i)
@@ -78,33 +80,34 @@ module _ {F : Type 0} (objects : F → Objects) (store : F) (history : Objects) 
       -- what a waiting id reaches has a row, and isn't above what waits
       pub waits_above : RowsInUse objects store rows w → (n : ℕ) → IsBelow w n → (s : Side) (q i : ObjectId) → IsWaiting w s q → Reaches (parents_of history) (q ∷ []) i → (m : ℕ) × HasGeneration rows i m × (m ≤ n) × ((q ≡ i) ⊎ (m < n))
       waits_above r n low s q i waits path =
-          let k : (m : ℕ) × (waits.0.0.generation ≡ Told m) × (m ≤ n) = low waits.0 waits.1 in
-          let under : (m : ℕ) × HasGeneration rows i m × (m ≤ k.0) × ((q ≡ i) ⊎ (m < k.0)) = below q k.0 (subst (λ j. HasGeneration rows j k.0) waits.3 (told_row (safe.queued r waits.0 waits.1) k.0 k.1)) i path in
+          let k : (m : ℕ) × (waits.entry.0 ≡ Told m) × (m ≤ n) = low waits.entry waits.queued in
+          let under : (m : ℕ) × HasGeneration rows i m × (m ≤ k.0) × ((q ≡ i) ⊎ (m < k.0)) = below q k.0 (subst (λ j. HasGeneration rows j k.0) waits.of_id (told_row rows waits.entry (safe.queued r waits.entry waits.queued) k.0 k.1)) i path in
           let most : k.0 ≤ n = k.2 in
           (under.0, under.1, (let le : under.0 ≤ k.0 = under.2 in omega arith), ⊎_elim (λ e. inl e) (λ l. inr (let lt : under.0 < k.0 = l in omega arith)) under.3)
 
       module _ (h : Stands objects store history rows tips hidden_tips nobody w) (started : IsStarted objects store history rows tips hidden_tips w) (r : RowsInUse objects store rows w)
-          (top : Key × Entry) (there : Contains w.queue top) (bound : IsUpperBound cmp-value.it top.0 (keys w.queue)) where
+          (top : QueueEntry) (there : Contains w.queue top) (greatest : IsNoneAbove top.0 w.queue) where
         -- nothing that waits is above the row of the entry that is taken
         pub all_below : (row : GraphRow) → row_of rows top.1.id ≡ Some row → IsBelow w row.generation
-        all_below row e = told_below_top top.0 w.queue bound row.generation (told_key (safe.queued r top there) (row, e, refl))
+        all_below row e = greatest row.generation (told_key rows top (safe.queued r top there) (row, e, refl))
 
         -- no id is taken that an unread id above it would hide
-        pub taken_outside : state_of w top.1.id ≢ Hides → IsOutside objects store history rows tips hidden_tips top.1.id
+        pub taken_outside : mark_of w top.1.id ≢ Some side.Hidden → IsOutside objects store history rows tips hidden_tips top.1.id
         taken_outside unhidden row e hidden =
             ⊎_elim (λ d. unhidden d.0) (λ q.
             let under = waits_above r row.generation (all_below row e) side.Hidden q.0 top.1.id q.1 q.2 in
             let same : under.0 ≡ row.generation = one_generation rows top.1.id under.1 e in
-            ⊎_elim (λ s. unhidden (ap (state_of w) (sym (q.1.3 ∙ s)) ∙ h.waits q.1.0 q.1.1 q.1.2)) (λ l. absurd (let lt : under.0 < row.generation = l in omega arith)) under.3)
+            ⊎_elim (λ s. unhidden (ap (mark_of w) (sym (q.1.of_id ∙ s)) ∙ h.waits q.1.entry q.1.queued q.1.on_side)) (λ l. absurd (let lt : under.0 < row.generation = l in omega arith)) under.3)
             (hidden_from w h started top.1.id hidden)
 
-        -- rows are dropped for the row of a greatest key, while an open id waits below
+        -- rows are dropped for the row of a greatest key, while a visible id waits below
         pub drop_reason : IsSome (graph_in_use w.source) → (IsSettled w → ⊥) → (row : GraphRow) → row_of rows top.1.id ≡ Some row → ids_at rows row.parents ≡ None → DropsBy (parents_of history) rows tips hidden_tips
         drop_reason graph unsettled row e corrupt =
             let x : (i : ObjectId) × (set.contains w.frontier i ≡ true) = member_of w.frontier (λ none. unsettled (inr (graph, none, λ q c. ap is_told (all_below row e q c).1))) in
-            let waits : state_of w x.0 ≡ Open = h.tidy x.0 x.1 in
-            let fact : Fact objects store history rows tips hidden_tips nobody w x.0 Open = subst (Fact objects store history rows tips hidden_tips nobody w x.0) waits (h.facts x.0) in
-            let low : (m : ℕ) × HasGeneration rows x.0 m × (m ≤ row.generation) × ((x.0 ≡ x.0) ⊎ (m < row.generation)) = waits_above r row.generation (all_below row e) side.Visible x.0 x.0 fact.1 (start (Contains-here x.0 [])) in
+            let opened = h.tidy x.0 x.1 in
+            let low : (m : ℕ) × HasGeneration rows x.0 m × (m ≤ row.generation) × ((x.0 ≡ x.0) ⊎ (m < row.generation)) =
+            waits_above r row.generation (all_below row e) side.Visible x.0 x.0 (record { entry = opened.1; queued = opened.2; on_side = opened.3; of_id = opened.4; ahead = λ v told. x.1 }) (start (Contains-here x.0 [])) in
+            let border = subst (IsBorder objects store history rows tips hidden_tips) opened.4 (h.border opened.1 opened.2 opened.3 r) in
             let stands : Contains rows row × (top.1.id ≡ row.id) = row_stands rows top.1.id row e in
             record {
               row = row;
@@ -113,17 +116,17 @@ module _ {F : Type 0} (objects : F → Objects) (store : F) (history : Objects) 
               reached = subst (Reaches (parents_of history) (tips ++ hidden_tips)) stands.1 (reaches_either top.1.side top.1.id (h.reached top there));
               bound = x.0;
               no_deeper = record {
-                at_boundary = ⊎_elim (λ t. inl t) (λ b. inr (b.0, b.1, (λ hidden. let k = over x.0 waits b.0 hidden b.3 in b.2 k.1.0 k.1.1 hidden), b.3)) (fact.2 r);
-                no_tip = λ m. let bad : Open ≡ Hides = sym waits ∙ started.hidden x.0 m in cc;
+                at_boundary = ⊎_elim (λ t. inl t) (λ b. inr (b.0, b.1, (λ hidden. let k = over x.0 opened.0 b.0 hidden b.3 in b.2 k.1.0 k.1.1 hidden), b.3)) border;
+                no_tip = λ m. let bad : Some side.Visible ≡ Some side.Hidden = sym opened.0 ∙ started.hidden x.0 m in cc;
                 below = under_row x.0 (low.0, low.1, low.2);
-                children_below = λ c reached m. under_row c (over x.0 waits c reached m);
+                children_below = λ c reached m. under_row c (over x.0 opened.0 c reached m);
               };
             }
           where
             under_row : (c : ObjectId) → (m : ℕ) × HasGeneration rows c m × (m ≤ row.generation) → generation_in (row_of rows c) < suc row.generation
             under_row c k = let told_as : generation_in (row_of rows c) ≡ k.0 = ap generation_in k.1.1 ∙ k.1.2 in let le : k.0 ≤ row.generation = k.2 in omega arith
 
-            -- a hidden commit over an open id waits, or is below what waits
-            over : (x : ObjectId) → state_of w x ≡ Open → (c : ObjectId) → Reaches (parents_of history) hidden_tips c → Contains (parents_of history c) x → (m : ℕ) × HasGeneration rows c m × (m ≤ row.generation)
+            -- a hidden commit over a visible id waits, or is below what waits
+            over : (x : ObjectId) → mark_of w x ≡ Some side.Visible → (c : ObjectId) → Reaches (parents_of history) hidden_tips c → Contains (parents_of history c) x → (m : ℕ) × HasGeneration rows c m × (m ≤ row.generation)
             over x waits c reached m =
-                ⊎_elim (λ d. let bad : Open ≡ Hides = sym waits ∙ d.1 x m in cc) (λ q. let k = waits_above r row.generation (all_below row e) side.Hidden q.0 c q.1 q.2 in (k.0, k.1, k.2)) (hidden_from w h started c reached)
+                ⊎_elim (λ d. let bad : Some side.Visible ≡ Some side.Hidden = sym waits ∙ d.1 x m in cc) (λ q. let k = waits_above r row.generation (all_below row e) side.Hidden q.0 c q.1 q.2 in (k.0, k.1, k.2)) (hidden_from w h started c reached)

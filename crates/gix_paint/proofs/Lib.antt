@@ -4,8 +4,8 @@ mod Common
 pub mod Search
 -- A commit is read whole, or a fault exists at its id.
 pub mod WholeOrFault
--- The order of the queue's keys.
-pub mod Keys
+-- What is put into the queue, and what comes first of it.
+pub mod Waits
 -- Meeting the ids of a list one by one meets all of them.
 pub mod Meets
 -- What holds while hidden tips are painted.

@@ -1,17 +1,19 @@
 -- Where painting begins and ends: the marks are whole.
 use Rattle.std.proofs.Common.{Bor, ◌≡◌, ◌≢◌, ◌⊎◌, ◌<◌, ◌≤◌, ℕ, List, [], ◌∷◌, ◌++◌, Bool, true, false, Option, Some, None, Contains, IsSome, is_some, if◌then◌else◌, refl, sym, ap, subst, inl, inr, ⊎_elim, ◌∙◌, arith}
-use Rattle.gix_paint.proofs.Common.{Contains-append_cases, ObjectId, id_cmp, Objects, GraphRow, row_of, Key, Told, Infinite, Entry, Painter, IsHistory, IsOpenBelow, IsRead, shown_commit, hidden_commit, generation_in, Paints, parents_of}
-use Rattle.gix_paint.proofs.Common.{IsAtBoundary, Reaches, start, step, hidden_of, State, Unmet, Open, Read, Hides, state_by, state_of, graph_in_use, IsWaiting, IsSettled, is_told, Meets, no_member, Contains-here}
+use Rattle.gix_paint.proofs.Common.{Contains-append_cases, ObjectId, id_cmp, Objects, GraphRow, row_of, Side, Told, Infinite, QueueEntry, Painter, IsHistory, IsOpenBelow, IsRead, shown_commit, hidden_commit, generation_in, Paints, parents_of}
+use Rattle.gix_paint.proofs.Common.{IsAtBoundary, Reaches, start, step, hidden_of, mark_of, graph_in_use, IsWaiting, IsSettled, is_told, Meets, no_member, Contains-here}
 use Rattle.std.specs.FinMap as map_of
 use Rattle.std.specs.FinSet as set
 use Rattle.gix_paint.specs.declared.Side.TheVariants as side
-use Rattle.gix_paint.specs.declared.source.Generation.{Generation}
+use Rattle.gix_paint.specs.declared.queue.Generation.{Generation}
 use Rattle.gix_revwalk.specs.Agreeing.{IsCorrupt}
+use Rattle.gix_revwalk.specs.Commits.{commit_at}
 use Rattle.gix_paint.specs.Inside.Painter.{rows_in}
-use Rattle.gix_paint.proofs.Invariant.{contains-hidden, later, nobody, RowsInUse, IsSafe, Fact, Stands, IsStarted, stands_meets, safe_meets}
+use Rattle.gix_paint.proofs.Invariant.{contains-hidden, later, nobody, RowsInUse, IsOutside, WasRead, IsSafe, Fact, Stands, IsStarted, stands_meets, safe_meets}
 use Rattle.gix_paint.proofs.KeptByTurn.{HasGeneration, one_generation, told_row, hidden_from, falls, below, waits_above}
 use Rattle.gix_paint.proofs.Order.{IsAbove, IsOrdered, HoldsOf, ordered_start}
 use Rattle.gix_revwalk.proofs.ReadsWhole.{row_stands}
+use Rattle.gix_revwalk.proofs.Rows.{IsSoundRow}
 
 module _ {F : Type 0} (objects : F → Objects) (store : F) (history : Objects) (rows : List GraphRow) (tips hidden_tips : List ObjectId) where
   abbrev Holds : Painter F → Type 0
@@ -29,63 +31,66 @@ module _ {F : Type 0} (objects : F → Objects) (store : F) (history : Objects) 
     pub queue : p.queue ≡ []
 
   module _ {p : Painter F} (blank : IsBlank p) where
-    pub safe_blank : IsSafe objects store rows p
-    safe_blank = record {
-      same_store = blank.same_store;
-      either = inl blank.graph;
-      queued = λ r q c. absurd (no_member q (subst (λ qs. Contains qs q) blank.queue c));
-      brings = λ q c. absurd (no_member q (subst (λ qs. Contains qs q) blank.queue c));
-      read = λ q c. absurd (no_member q (subst (λ qs. Contains qs q) blank.queue c));
-    }
+    none_queued : {P : Type 0} (q : QueueEntry) → Contains p.queue q → P
+    none_queued q c = absurd (no_member q (subst (λ qs. Contains qs q) blank.queue c))
 
-    unmet : (i : ObjectId) → state_of p i ≡ Unmet
-    unmet i = ap (λ o. state_by o (set.contains p.frontier i)) (ap (λ m. map_of.get m i) blank.marks ∙ map_of.get-empty id_cmp i)
+    pub safe_blank : IsSafe objects store rows p
+    safe_blank = record { same_store = blank.same_store; either = inl blank.graph; queued = λ r q c. none_queued q c }
+
+    unmet : (i : ObjectId) → mark_of p i ≡ None
+    unmet i = ap (λ m. map_of.get m i) blank.marks ∙ map_of.get-empty id_cmp i
 
     pub stands_blank : Holds p
     stands_blank = record {
       facts = λ i. subst (Fact objects store history rows tips hidden_tips nobody p i) (sym (unmet i)) tt;
       tidy = λ i c. let none : true ≡ false = sym c ∙ ap (λ f. set.contains f i) blank.frontier ∙ set.contains-empty id_cmp i in cc;
-      reached = λ q c. absurd (no_member q (subst (λ qs. Contains qs q) blank.queue c));
-      waits = λ q c. absurd (no_member q (subst (λ qs. Contains qs q) blank.queue c));
+      reached = λ q c. none_queued q c;
+      waits = λ q c. none_queued q c;
+      border = λ q c. none_queued q c;
       dropped = λ n. absurd (n blank.graph);
-      read = λ i e n. absurd (n (unmet i));
     }
 
-    -- the hidden tips are met first, and then the visible ones
-    module _ {mid new : Painter F} (covers : Meets objects side.Hidden hidden_tips p mid) (shows : Meets objects side.Visible tips mid new) where
+    -- the visible tips are met first, and then the hidden ones
+    module _ {mid new : Painter F} (shows : Meets side.Visible tips p mid) (covers : Meets side.Hidden hidden_tips mid new) where
       pub safe_start : IsSafe objects store rows new
-      safe_start = safe_meets objects store rows shows (safe_meets objects store rows covers safe_blank)
+      safe_start = safe_meets objects store rows covers (safe_meets objects store rows shows safe_blank)
 
       pub stands_start : Holds new
       stands_start =
-          stands_meets objects store history rows tips hidden_tips shows nobody (safe_meets objects store rows covers safe_blank)
-          (stands_meets objects store history rows tips hidden_tips covers nobody safe_blank stands_blank (λ i c. start c) (λ e. cc) (λ t i b. absurd b))
-          (λ i c. start c) (λ e r i c. inl c) (λ t i b. absurd b)
+          stands_meets objects store history rows tips hidden_tips covers nobody
+          (stands_meets objects store history rows tips hidden_tips shows nobody stands_blank (λ i c. start c) (λ e r i c. inl c) (λ t i b. absurd b))
+          (λ i c. start c) (λ e. cc) (λ t i b. absurd b)
 
       pub holds_start : HoldsOf objects store history rows tips hidden_tips new
       holds_start = (
         stands_start,
-        record { shown = λ i c. (later (shows.states i)).met_now c; hidden = λ i c. (later (shows.states i)).hidden_stays ((later (covers.states i)).hidden_now refl c) },
-        ordered_start objects store history rows tips hidden_tips unmet covers shows,
+        record { shown = λ i c. (later (covers.marks i)).met_stays ((later (shows.marks i)).met_now c); hidden = λ i c. (later (covers.marks i)).hidden_now refl c },
+        ordered_start objects store history rows tips hidden_tips unmet shows covers,
       )
 
   module _ (p : Painter F) (safe : IsSafe objects store rows p) (settled : IsSettled p) where
-    abbrev Known : ObjectId → State → Type 0
+    abbrev Known : ObjectId → Option Side → Type 0
     Known = Fact objects store history rows tips hidden_tips nobody p
 
-    -- no visible id waits any more: what is met was read, or is hidden
-    settled_state : Holds p → (i : ObjectId) → state_of p i ≢ Unmet → ((state_of p i ≡ Read) × Known i Read) ⊎ ((state_of p i ≡ Hides) × Known i Hides)
-    settled_state h i met = go (state_of p i) refl (h.facts i)
+    -- no visible id waits any more
+    shown_none : (i : ObjectId) → IsWaiting p side.Visible i → ⊥
+    shown_none i w =
+        ⊎_elim (λ none. no_member w.entry (subst (λ qs. Contains qs w.entry) none w.queued))
+        (λ s. let none : true ≡ false = sym (w.ahead refl (s.2 w.entry w.queued)) ∙ ap (λ f. set.contains f i) (set.empty_of_len p.frontier s.1) ∙ set.contains-empty id_cmp i in cc) settled
+
+    -- an id that was read for visible tips, and the parents of which are met
+    abbrev IsReadOnce : ObjectId → Type 0
+    IsReadOnce i = (mark_of p i ≡ Some side.Visible) × Reaches (parents_of history) tips i × ((c : ObjectId) → Contains (parents_of history i) c → mark_of p c ≢ None) × (RowsInUse objects store rows p → IsOutside objects store history rows tips hidden_tips i)
+        × WasRead objects store history rows tips hidden_tips i
+
+    -- what is met was read, or is hidden
+    settled_mark : Holds p → (i : ObjectId) → mark_of p i ≢ None → IsReadOnce i ⊎ ((mark_of p i ≡ Some side.Hidden) × Known i (Some side.Hidden))
+    settled_mark h i met = go (mark_of p i) refl (h.facts i)
       where
-        go : (s : State) → state_of p i ≡ s → Known i s → ((state_of p i ≡ Read) × Known i Read) ⊎ ((state_of p i ≡ Hides) × Known i Hides)
-        go Unmet e k = absurd (met e)
-        go Open e k =
-            absurd (⊎_elim (λ none. no_member k.1.0 (subst (λ qs. Contains qs k.1.0) none k.1.1))
-            (λ s. let waits : set.contains p.frontier i ≡ true = grind arith in
-            let none : true ≡ false = sym waits ∙ ap (λ f. set.contains f i) (set.empty_of_len p.frontier s.1) ∙ set.contains-empty id_cmp i in cc)
-            settled)
-        go Read e k = inl (e, k)
-        go Hides e k = inr (e, k)
+        go : (m : Option Side) → mark_of p i ≡ m → Known i m → IsReadOnce i ⊎ ((mark_of p i ≡ Some side.Hidden) × Known i (Some side.Hidden))
+        go None e k = absurd (met e)
+        go (Some side.Visible) e k = inl (⊎_elim (λ w. absurd (shown_none i w)) (λ r. (e, k.0, ⊎_elim (λ b. absurd b) (λ all. all) r.0, r.1, r.2)) k.1)
+        go (Some side.Hidden) e k = inr (e, k)
 
     -- the rows are in use where the queue isn't empty
     in_use : IsSome (graph_in_use p.source) → RowsInUse objects store rows p
@@ -93,53 +98,55 @@ module _ {F : Type 0} (objects : F → Objects) (store : F) (history : Objects) 
 
     module _ (known : IsHistory (objects store) rows history) (h : Holds p) (started : Started p) where
       -- what waits has a row, and what it reaches has one
-      rowed : IsSome (graph_in_use p.source) → ((q : Key × Entry) → Contains p.queue q → is_told q.0.generation ≡ true) → (q i : ObjectId) → IsWaiting p side.Hidden q → Reaches (parents_of history) (q ∷ []) i → (row : GraphRow) × (row_of rows i ≡ Some row)
-      rowed some told q i w path =
-          let k : (n : ℕ) × (w.0.0.generation ≡ Told n) = told_some w.0.0.generation (told w.0 w.1) in
-          let b = below objects store history rows tips hidden_tips known q k.0 (subst (λ j. HasGeneration rows j k.0) w.3 (told_row (safe.queued (in_use some) w.0 w.1) k.0 k.1)) i path in
-          (b.1.0, b.1.1)
+      rowed : (q i : ObjectId) → IsWaiting p side.Hidden q → Reaches (parents_of history) (q ∷ []) i → RowsInUse objects store rows p × (row : GraphRow) × (row_of rows i ≡ Some row)
+      rowed q i w path =
+          ⊎_elim (λ none. absurd (no_member w.entry (subst (λ qs. Contains qs w.entry) none w.queued))) (λ s.
+          let k : (n : ℕ) × (w.entry.0 ≡ Told n) = told_some w.entry.0 (s.2 w.entry w.queued) in
+          let b = below objects store history rows tips hidden_tips known q k.0 (subst (λ j. HasGeneration rows j k.0) w.of_id (told_row rows w.entry (safe.queued (in_use s.0) w.entry w.queued) k.0 k.1)) i path in
+          (in_use s.0, b.1.0, b.1.1)) settled
         where
           told_some : (g : Generation) → is_told g ≡ true → (n : ℕ) × (g ≡ Told n)
           told_some (Told n) e = (n, refl)
           told_some Infinite e = cc
 
+      -- an id without a row doesn't wait
+      unrowed_none : (i : ObjectId) → row_of rows i ≡ None → IsWaiting p side.Hidden i → ⊥
+      unrowed_none i e w = let k = rowed i i w (start (Contains-here i [])) in let bad : None ≡ Some k.1 = sym e ∙ k.2 in cc
+
       -- a met id that hidden tips reach is hidden
-      all_hidden : (i : ObjectId) → state_of p i ≢ Unmet → Reaches (parents_of history) hidden_tips i → state_of p i ≡ Hides
+      all_hidden : (i : ObjectId) → mark_of p i ≢ None → Reaches (parents_of history) hidden_tips i → mark_of p i ≡ Some side.Hidden
       all_hidden i met hidden =
-          ⊎_elim (λ k.
-          absurd (⊎_elim (λ d. let bad : Read ≡ Hides = sym k.0 ∙ d.0 in cc)
-          (λ q. ⊎_elim (λ none. no_member q.1.0 (subst (λ qs. Contains qs q.1.0) none q.1.1)) (λ s. let row : (row : GraphRow) × (row_of rows i ≡ Some row) = rowed s.0 s.2 q.0 i q.1 q.2 in k.1.2 (in_use s.0) row.0 row.1 hidden) settled)
-          (hidden_from objects store history rows tips hidden_tips p h started i hidden)))
-          (λ k. k.0) (settled_state h i met)
+          ⊎_elim (λ k. absurd (⊎_elim (λ d. let bad : Some side.Visible ≡ Some side.Hidden = sym k.0 ∙ d.0 in cc) (λ q. let row = rowed q.0 i q.1 q.2 in k.3 row.0 row.1 row.2 hidden) (hidden_from objects store history rows tips hidden_tips p h started i hidden))) (λ k. k.0)
+          (settled_mark h i met)
 
       -- what tips reach outside what is hidden is met, and so are its parents
-      all_met : (c : ObjectId) → Reaches (parents_of history) tips c → (Reaches (parents_of history) hidden_tips c → ⊥) → (state_of p c ≢ Unmet) × ((i : ObjectId) → Contains (parents_of history c) i → state_of p i ≢ Unmet)
+      all_met : (c : ObjectId) → Reaches (parents_of history) tips c → (Reaches (parents_of history) hidden_tips c → ⊥) → (mark_of p c ≢ None) × ((i : ObjectId) → Contains (parents_of history c) i → mark_of p i ≢ None)
       all_met c r out = (met c r out, λ i m. onward c (met c r out) out i m)
         where
-          onward : (c : ObjectId) → state_of p c ≢ Unmet → (Reaches (parents_of history) hidden_tips c → ⊥) → (i : ObjectId) → Contains (parents_of history c) i → state_of p i ≢ Unmet
-          onward c met out i m = ⊎_elim (λ k. ⊎_elim (λ b. absurd b) (λ all. all i m) k.1.1) (λ k. absurd (out k.1.0)) (settled_state h c met)
+          onward : (c : ObjectId) → mark_of p c ≢ None → (Reaches (parents_of history) hidden_tips c → ⊥) → (i : ObjectId) → Contains (parents_of history c) i → mark_of p i ≢ None
+          onward c met out i m = ⊎_elim (λ k. k.2 i m) (λ k. absurd (out k.1.0)) (settled_mark h c met)
 
-          met : (c : ObjectId) → Reaches (parents_of history) tips c → (Reaches (parents_of history) hidden_tips c → ⊥) → state_of p c ≢ Unmet
+          met : (c : ObjectId) → Reaches (parents_of history) tips c → (Reaches (parents_of history) hidden_tips c → ⊥) → mark_of p c ≢ None
           met c (start m) out = started.shown c m
           met c (step {c = d} r m) out = onward d (met d r (λ hidden. out (step hidden m))) (λ hidden. out (step hidden m)) c m
 
-      at_met : (i : ObjectId) → IsAtBoundary (parents_of history) tips hidden_tips i → state_of p i ≢ Unmet
+      at_met : (i : ObjectId) → IsAtBoundary (parents_of history) tips hidden_tips i → mark_of p i ≢ None
       at_met i at = ⊎_elim (λ t. started.shown i t) (λ b. (all_met b.0 b.1 b.2).1 i b.3) at
 
       pub whole : (i : ObjectId) → IsAtBoundary (parents_of history) tips hidden_tips i → Reaches (parents_of history) hidden_tips i → set.contains (hidden_of p.marks) i ≡ true
-      whole i at hidden = let marked = contains-hidden p.marks i in let e : state_of p i ≡ Hides = all_hidden i (at_met i at) hidden in grind arith
+      whole i at hidden = let marked = contains-hidden p.marks i in let e : mark_of p i ≡ Some side.Hidden = all_hidden i (at_met i at) hidden in grind arith
 
       pub sound : (i : ObjectId) → set.contains (hidden_of p.marks) i ≡ true → Reaches (parents_of history) hidden_tips i
       sound i c =
-          let e : state_of p i ≡ Hides = (let marked = contains-hidden p.marks i in grind arith) in
+          let e : mark_of p i ≡ Some side.Hidden = (let marked = contains-hidden p.marks i in grind arith) in
           (subst (Known i) e (h.facts i)).0
 
-      -- nothing without a row waits, and all of it is met
-      pub all_read : (i : ObjectId) → Reaches (parents_of history) (tips ++ hidden_tips) i → row_of rows i ≡ None → state_of p i ≢ Unmet
-      all_read i (start m) e = ⊎_elim (λ t. started.shown i t) (λ t. subst (λ s. s ≢ Unmet) (sym (started.hidden i t)) (λ k. cc)) (Contains-append_cases tips hidden_tips i m)
-      all_read i (step {c = c} r m) e =
-          ⊎_elim (λ k. ⊎_elim (λ b. absurd b) (λ all. all i m) k.1.1)
-          (λ k. ⊎_elim (λ b. absurd b) (λ o. ⊎_elim (λ w. absurd (none_waits w)) (λ all. subst (λ s. s ≢ Unmet) (sym (all i m)) (λ k. cc)) o) k.1.1) (settled_state h c (all_read c r unrowed))
+      -- all without a row is met
+      unrowed_met : (i : ObjectId) → Reaches (parents_of history) (tips ++ hidden_tips) i → row_of rows i ≡ None → mark_of p i ≢ None
+      unrowed_met i (start m) e = ⊎_elim (λ t. started.shown i t) (λ t. subst (λ s. s ≢ None) (sym (started.hidden i t)) (λ k. cc)) (Contains-append_cases tips hidden_tips i m)
+      unrowed_met i (step {c = c} r m) e =
+          ⊎_elim (λ k. k.2 i m)
+          (λ k. ⊎_elim (λ w. absurd (unrowed_none c unrowed w)) (λ o. ⊎_elim (λ b. absurd b) (λ all. subst (λ s. s ≢ None) (sym (all i m)) (λ k. cc)) o.0) k.1.1) (settled_mark h c (unrowed_met c r unrowed))
         where
           -- what names an id without a row has none itself
           unrowed : row_of rows c ≡ None
@@ -149,10 +156,9 @@ module _ {F : Type 0} (objects : F → Objects) (store : F) (history : Objects) 
               go None f = f
               go (Some row) f = let k = falls objects store history rows tips hidden_tips known c i row.generation (row, f, refl) m in let bad : None ≡ Some k.1.0 = sym e ∙ k.1.1 in cc
 
-          none_waits : IsWaiting p side.Hidden c → ⊥
-          none_waits w =
-              ⊎_elim (λ none. no_member w.0 (subst (λ qs. Contains qs w.0) none w.1))
-              (λ s. let k : (row : GraphRow) × (row_of rows c ≡ Some row) = rowed s.0 s.2 c c w (start (Contains-here c [])) in let bad : None ≡ Some k.0 = sym unrowed ∙ k.1 in cc) settled
+      -- and all of it was read
+      pub all_read : (i : ObjectId) → Reaches (parents_of history) (tips ++ hidden_tips) i → row_of rows i ≡ None → IsSome (commit_at (objects store) i)
+      all_read i r e = ⊎_elim (λ k. k.4 e) (λ k. ⊎_elim (λ w. absurd (unrowed_none i e w)) (λ o. o.1 e) k.1.1) (settled_mark h i (unrowed_met i r e))
 
       -- rows that are left had no corrupt one among those that had to be read
       module _ (ordered : IsOrdered objects store history rows tips hidden_tips p) (stands : RowsInUse objects store rows p) where
@@ -170,13 +176,17 @@ module _ {F : Type 0} (objects : F → Objects) (store : F) (history : Objects) 
                 let most : under.0 ≤ other.generation = under.2 in
                 omega arith
 
+        -- what was read for visible tips is above what waits, and has no corrupt row
+        shown : (i : ObjectId) → mark_of p i ≡ Some side.Visible → IsAbove objects store history rows tips hidden_tips p i × (RowsInUse objects store rows p → IsSoundRow rows i)
+        shown i e = ⊎_elim (λ w. absurd (shown_none i w)) (λ k. k) (ordered.shown i e)
+
         not_open : (i : ObjectId) (row : GraphRow) → row_of rows i ≡ Some row → (q : ObjectId) → IsWaiting p side.Hidden q → Reaches (parents_of history) (q ∷ []) i → (bound : ObjectId) → IsOpenBelow (parents_of history) rows tips hidden_tips row.generation bound → ⊥
         not_open i row e q w path bound opened =
-            ⊎_elim (λ k. not_above i row e q w path bound opened.below (ordered.shown bound k.0).0)
-            (λ k. ⊎_elim opened.no_tip (λ c. not_above i row e q w path c.0 (opened.children_below c.0 c.1 c.2) c.3) (ordered.hidden bound k.0)) (settled_state h bound (at_met bound opened.at_boundary))
+            ⊎_elim (λ k. not_above i row e q w path bound opened.below (shown bound k.0).0)
+            (λ k. ⊎_elim opened.no_tip (λ c. not_above i row e q w path c.0 (opened.children_below c.0 c.1 c.2) c.3) (ordered.hidden bound k.0)) (settled_mark h bound (at_met bound opened.at_boundary))
 
         keeps : (i : ObjectId) (row : GraphRow) → row_of rows i ≡ Some row → IsRead (parents_of history) rows tips hidden_tips i row.generation → IsCorrupt row → ⊥
-        keeps i row e (shown_commit reached out) corrupt = ⊎_elim (λ k. (ordered.shown i k.0).1 stands row e corrupt) (λ k. out k.1.0) (settled_state h i (all_met i reached out).0)
+        keeps i row e (shown_commit reached out) corrupt = ⊎_elim (λ k. (shown i k.0).1 stands row e corrupt) (λ k. out k.1.0) (settled_mark h i (all_met i reached out).0)
         keeps i row e (hidden_commit {bound = bound} reached opened) corrupt =
             ⊎_elim (λ d. ⊎_elim (λ w. not_open i row e i w (start (Contains-here i [])) bound opened) (λ sound. sound stands row e corrupt) (ordered.sound i d.0)) (λ q. not_open i row e q.0 q.1 q.2 bound opened)
             (hidden_from objects store history rows tips hidden_tips p h started i reached)
@@ -191,7 +201,7 @@ module _ {F : Type 0} (objects : F → Objects) (store : F) (rows : List GraphRo
     rows_left = either_rows (is_some (graph_in_use p.source));
     rowless = λ history known i r e.
         let k = holds history known in
-        ap is_some (k.0.read i e (all_read objects store history rows tips hidden_tips p safe settled known k.0 k.1 i r e)).1.1;
+        all_read objects store history rows tips hidden_tips p safe settled known k.0 k.1 i r e;
     marked = λ history known.
         let k = holds history known in
         record {

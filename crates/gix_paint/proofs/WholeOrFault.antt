@@ -1,31 +1,21 @@
 -- How painting reads a commit: by its row, or whole from the store.
-use Rattle.std.proofs.Common.{Bor, ◌≡◌, ℕ, ℤ, List, Bool, true, false, if◌then◌else◌, Option, Some, None, Result, Ok, Err, refl, sym, ap, subst, ◌∙◌}
-use Rattle.gix_paint.proofs.Common.{ObjectId, kind_of, Objects, GraphRow, commit_of_object, time_of, HasTime, Reads, ReadsParents, by_row, by_store, drops, IsUnrowed}
-use Rattle.gix_object.specs.declared.decode.Error.{Error as DecodeError}
-use Rattle.gix_object.specs.CommitItems.{commit_items}
-use Rattle.gix_object.specs.CommitRefIter.{first_committer}
+use Rattle.std.proofs.Common.{Bor, ◌≡◌, List, Bool, true, false, if◌then◌else◌, Option, Some, None, Ok, refl, sym, ap, subst, ◌∙◌}
+use Rattle.gix_paint.proofs.Common.{ObjectId, kind_of, Objects, GraphRow, commit_of_object, HasTime, Reads, ReadsParents, by_row, by_store, drops, IsUnrowed}
 use Rattle.gix_object.specs.CommitText.{read_commit, seconds_of}
 use Rattle.gix_revwalk.specs.declared.Parents.TheVariants as mode
-use Rattle.gix_revwalk.specs.declared.read.Header.{Header}
 use Rattle.gix_revwalk.specs.declared.row.RowRead.{RowRead}
 use Rattle.gix_revwalk.specs.Agreeing.{rows_in}
-use Rattle.gix_revwalk.specs.Reading.{ReadsHeader, ReadsRow, is_read, absent, corrupt, dropped}
-use Rattle.gix_revwalk.specs.Either.{seconds_told}
+use Rattle.gix_revwalk.specs.Reading.{ReadsFront, ReadsRow, is_read, absent, corrupt, dropped}
 use Rattle.gix_revwalk.proofs.Rows.{passes}
-use Rattle.gix_revwalk.proofs.CommitterTime.{committer_read, time_read}
+use Rattle.gix_revwalk.proofs.CommitterTime.{committer_read}
 use Rattle.gix_revwalk.proofs.ReadsWhole.{scan_is}
 
-committer_told : (r : Result (List ℕ) DecodeError) (time : ℤ) → Ok time ≡ seconds_told r → (signature : List ℕ) × (r ≡ Ok signature) × (time ≡ seconds_of signature)
-committer_told (Ok signature) time h = (signature, refl, cc)
-committer_told (Err e) time h = cc
-
--- a commit whose committer is read is read whole, and that is its time
-pub header_read : (objects : Objects) (i : ObjectId) (header : Header) → ReadsHeader objects i header → (time : ℤ) → header.time ≡ Ok time → Reads objects i header.parent_ids.items × (time ≡ time_of objects i)
-header_read objects i header h time is =
-    let told : (signature : List ℕ) × (first_committer (commit_items (kind_of i) h.bytes) ≡ Ok signature) × (time ≡ seconds_of signature) = committer_told (first_committer (commit_items (kind_of i) h.bytes)) time (sym is ∙ h.time) in
-    let tip : HasTime objects i (seconds_of told.0) = committer_read objects i h.bytes h.stored told.0 told.1 in
+-- a commit whose committer is read is read whole
+pub front_read : (objects : Objects) (i : ObjectId) (ids : List ObjectId) → ReadsFront objects i (Ok ids) → Reads objects i ids
+front_read objects i ids h =
+    let tip : HasTime objects i (seconds_of h.committer.0) = committer_read objects i h.bytes h.stored h.committer.0 h.committer.1 in
     let read : read_commit (kind_of i) h.bytes ≡ Some tip.commit = sym (ap (commit_of_object i) h.stored) ∙ tip.stored in
-    ((tip.commit, tip.stored, h.parents ∙ ap (λ p. p.0) (scan_is (kind_of i) h.bytes tip.commit read mode.All)), told.2 ∙ sym (time_read objects i _ tip))
+    (tip.commit, tip.stored, h.parents ∙ ap (λ p. p.0) (scan_is (kind_of i) h.bytes tip.commit read mode.All))
 
 module _ (objects : Objects) where
   -- the parents of a row that was read

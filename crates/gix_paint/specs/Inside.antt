@@ -1,2 +1,3 @@
 -- What painting holds while it goes on.
+pub mod Queue
 pub mod Painter

@@ -1,15 +1,15 @@
 //! What hidden tips reach, as far as a walk can meet it.
 #![tactic(auto)]
 
-ghost use Rattle.std.specs.Prelude.{◌≡◌, ◌≢◌, ◌↔◌, ◌∷◌, [], IsTrue, IfOk, IfErr, IfSome, IfNone, if◌then◌else◌};
+ghost use Rattle.std.specs.Prelude.{◌≡◌, ◌≢◌, ◌↔◌, ◌∷◌, [], IsTrue, IfOk, IfErr, OnOk, IfSome, IfNone, if◌then◌else◌};
 ghost use Rattle.std.specs.FinSet as set;
 ghost use Rattle.gix_object.specs.declared.find.existing_iter.Error.TheVariants as existing;
-ghost use Rattle.gix_paint.specs.declared.source.Key.{Key};
 ghost use Rattle.gix_paint.specs.Painting.{IsHiddenFault, Paints};
 ghost use Rattle.gix_revwalk.specs.Ids.{ids_of};
 ghost use Rattle.gix_paint.specs.Inside.Painter as painter;
-ghost use Rattle.gix_paint.specs.Inside.Painter.{rows_in, graph_in_use, FailsAmong, Queues, Meets, is_turn, Takes, TreatsEntry, TreatFails, IsSettled, Pops};
+ghost use Rattle.gix_paint.specs.Inside.Painter.{rows_in, graph_in_use, Meets, is_turn, Takes, TreatsEntry, ReadFails, IsSettled, Pops};
 
+mod queue;
 mod source;
 
 use gix_commitgraph::Graph;
@@ -17,9 +17,9 @@ use gix_hash::hashtable::{IdMap, IdSet};
 use gix_hash::{Keys, ObjectId};
 use gix_object::decode;
 use gix_object::find::{Find, existing_iter};
-use gix_revwalk::queue::PriorityQueue;
-use gix_revwalk::{ParentIds, Pending};
-use source::{Generation, Key, LookedUp, Source};
+use gix_revwalk::Pending;
+use queue::{Entry, Generation, Queue};
+use source::Source;
 use std::alloc::{AllocError, Global};
 use std::collections::VecDeque;
 use std::marker::Model;
@@ -117,77 +117,61 @@ fn is_hidden(marks: &IdMap<Side>, id: &ObjectId) -> bool
     matches!(marks.get(id), Some(Side::Hidden))
 }
 
-/// A commit that waits to be read.
-#[derive(Drop)]
-struct Entry {
-    id: ObjectId,
-    side: Side,
-    parent_ids: Option<ParentIds>,
-}
-
 /// What was marked, and what waits to be read.
 #[derive(Drop)]
 struct Painter<'a, F> {
     source: Source<'a, F>,
     /// Each id that was met: for hidden tips as soon as one of them was found to reach it.
     marks: IdMap<Side>,
-    /// The queued ids that no hidden tip was found to reach.
+    /// The ids that have a row, wait for visible tips, and that no hidden tip was found to reach.
     frontier: IdSet,
-    queue: PriorityQueue<Key, Entry>,
+    queue: Queue,
 }
 
 impl<'a, F: Find> Painter<'a, F> {
-    /// Puts a commit into the queue.
-    fn enqueue(&mut self, id: ObjectId, side: Side) -> Result<(), Hidden>
-        ensures ok { IfOk result (λ _. Queues F.objects self.old id side self.new) }
-        ensures fault { IfErr result (FailsAmong (F.objects self.old.source.objects.now) (F.faulty self.old.source.objects.now)
-            (rows_in (graph_in_use self.old.source)) (id ∷ [])) }
-    {
-        let LookedUp { key, parent_ids } = self.source.look_up(&id)?;
-        self.queue.insert(
-            key,
-            Entry {
-                id,
-                side,
-                parent_ids,
-            },
-        )?;
-        Ok(())
-    }
-
     /// An id that visible tips reach is queued once. One that is hidden already is left to the hidden side.
-    fn show(&mut self, id: ObjectId) -> Result<(), Hidden>
-        ensures ok { IfOk result (λ _. Meets F.objects Side.Visible (id ∷ []) self.old self.new) }
-        ensures fault { IfErr result (FailsAmong (F.objects self.old.source.objects.now) (F.faulty self.old.source.objects.now)
-            (rows_in (graph_in_use self.old.source)) (id ∷ [])) }
+    fn show(&mut self, id: ObjectId) -> Result<(), AllocError>
+        ensures { OnOk result (Meets Side.Visible (id ∷ []) self.old self.new) }
     {
         if self.marks.get(&id).is_some() {
             return Ok(());
         }
         self.marks.insert(id, Side::Visible)?;
-        self.frontier.insert(id)?;
-        self.enqueue(id, Side::Visible)
+        let generation = self.source.generation(&id);
+        if let Generation::Told(_) = generation {
+            self.frontier.insert(id)?;
+        }
+        self.queue.insert(
+            generation,
+            Entry {
+                id,
+                side: Side::Visible,
+            },
+        )
     }
 
     /// An id that hidden tips reach is queued once for them, whatever visible tips did.
-    fn hide(&mut self, id: ObjectId) -> Result<(), Hidden>
-        ensures ok { IfOk result (λ _. Meets F.objects Side.Hidden (id ∷ []) self.old self.new) }
-        ensures fault { IfErr result (FailsAmong (F.objects self.old.source.objects.now) (F.faulty self.old.source.objects.now)
-            (rows_in (graph_in_use self.old.source)) (id ∷ [])) }
+    fn hide(&mut self, id: ObjectId) -> Result<(), AllocError>
+        ensures { OnOk result (Meets Side.Hidden (id ∷ []) self.old self.new) }
     {
         if is_hidden(&self.marks, &id) {
             return Ok(());
         }
         self.marks.insert(id, Side::Hidden)?;
+        let generation = self.source.generation(&id);
         self.frontier.remove(&id);
-        self.enqueue(id, Side::Hidden)
+        self.queue.insert(
+            generation,
+            Entry {
+                id,
+                side: Side::Hidden,
+            },
+        )
     }
 
     /// Ids that are reached on a side, in order.
-    fn meet_all(&mut self, mut ids: &[ObjectId], side: Side) -> Result<(), Hidden>
-        ensures ok { IfOk result (λ _. Meets F.objects side ids.entry.now self.old self.new) }
-        ensures fault { IfErr result (FailsAmong (F.objects self.old.source.objects.now) (F.faulty self.old.source.objects.now)
-            (rows_in (graph_in_use self.old.source)) ids.entry.now) }
+    fn meet_all(&mut self, mut ids: &[ObjectId], side: Side) -> Result<(), AllocError>
+        ensures { OnOk result (Meets side ids.entry.now self.old self.new) }
     {
         while let Some((id, rest)) = ids.split_first() {
             match side {
@@ -199,10 +183,8 @@ impl<'a, F: Find> Painter<'a, F> {
         Ok(())
     }
 
-    fn show_all(&mut self, tips: &VecDeque<Pending>) -> Result<(), Hidden>
-        ensures ok { IfOk result (λ _. Meets F.objects Side.Visible (ids_of tips.now.items) self.old self.new) }
-        ensures fault { IfErr result (FailsAmong (F.objects self.old.source.objects.now) (F.faulty self.old.source.objects.now)
-            (rows_in (graph_in_use self.old.source)) (ids_of tips.now.items)) }
+    fn show_all(&mut self, tips: &VecDeque<Pending>) -> Result<(), AllocError>
+        ensures { OnOk result (Meets Side.Visible (ids_of tips.now.items) self.old self.new) }
     {
         for tip in tips.iter() {
             self.show(tip.id)?;
@@ -211,54 +193,58 @@ impl<'a, F: Find> Painter<'a, F> {
     }
 
     /// Whether an entry that was taken is to be read. Where a hidden tip reached a visible id meanwhile, the hidden side reads it.
-    fn begins(&mut self, entry: &Entry) -> bool
-        ensures turn { result ≡ is_turn entry.now self.old.frontier }
-        ensures takes { Takes self.old entry.now self.new }
+    fn begins(&mut self, generation: Generation, entry: &Entry) -> bool
+        ensures turn { result ≡ is_turn self.old.marks entry.now }
+        ensures takes { Takes self.old (generation, entry.now) self.new }
         ensures graph { graph_in_use self.new.source ≡ graph_in_use self.old.source }
     {
         match entry.side {
-            Side::Visible => self.frontier.remove(&entry.id),
+            Side::Visible => {
+                if let Generation::Told(_) = generation {
+                    self.frontier.remove(&entry.id);
+                }
+                !is_hidden(&self.marks, &entry.id)
+            }
             Side::Hidden => true,
         }
     }
 
-    /// The commit of an entry is read, and its parents are met on its side.
-    fn treat(&mut self, entry: Entry) -> Result<(), Hidden>
-        ensures ok { IfOk result (λ _. TreatsEntry F.objects self.old entry self.new) }
-        ensures fault { IfErr result (TreatFails (F.objects self.old.source.objects.now) (F.faulty self.old.source.objects.now)
-            (graph_in_use self.old.source) entry) }
+    /// The commit of an entry that was taken is read, and its parents are met on its side.
+    fn treat(&mut self, generation: Generation, entry: Entry) -> Result<(), Hidden>
+        ensures ok { IfOk result (λ _. TreatsEntry F.objects self.old (generation, entry) self.new) }
+        ensures fault { IfErr result (ReadFails (F.objects self.old.source.objects.now) (F.faulty self.old.source.objects.now)
+            (rows_in (graph_in_use self.old.source)) entry.id) }
     {
-        if !self.begins(&entry) {
+        if !self.begins(generation, &entry) {
             return Ok(());
         }
-        let side = entry.side;
-        let parent_ids = self.source.parents(entry)?;
-        self.meet_all(parent_ids.as_slice(), side)
+        let parent_ids = self.source.parents(&entry.id)?;
+        self.meet_all(parent_ids.as_slice(), entry.side)?;
+        Ok(())
     }
 
     /// Whether the marks are whole: nothing is queued, or, while the rows are in use, all that is queued is hidden and has a row.
     fn is_settled(&self) -> bool
         ensures { IsTrue result ↔ IsSettled self.now }
     {
-        let Some((key, _)) = self.queue.peek() else {
+        if !self.queue.has_rows_alone() {
+            return false;
+        }
+        if self.queue.is_empty() {
             return true;
-        };
-        self.source.graph_in_use().is_some()
-            && self.frontier.is_empty()
-            && matches!(key.generation, Generation::Told(_))
+        }
+        self.frontier.is_empty() && self.source.graph_in_use().is_some()
     }
 
     /// The entry whose turn it is, and None where the painting is settled.
-    fn next_entry(&mut self) -> Option<Entry>
+    fn next_entry(&mut self) -> Option<(Generation, Entry)>
         ensures none { IfNone result (IsSettled self.old × (self.new ≡ self.old)) }
-        ensures some { IfSome result (λ entry. ¬ (IsSettled self.old)
-            × ((key : Key) × Pops ⟦<Key as Ord>⟧.cmp self.old (key, entry) self.new)) }
+        ensures some { IfSome result (λ top. ¬ (IsSettled self.old) × Pops self.old top self.new) }
     {
         if self.is_settled() {
             return None;
         }
-        let (_, entry) = self.queue.pop()?;
-        Some(entry)
+        self.queue.pop()
     }
 }
 
@@ -302,12 +288,13 @@ pub fn paint<'a, F: Find>(
         },
         marks: IdMap::new(alloc, keys),
         frontier: IdSet::new(alloc, keys),
-        queue: PriorityQueue::new(alloc),
+        queue: Queue::new(alloc),
     };
-    painter.meet_all(hidden_tips, Side::Hidden)?;
+    // What is met last is read first: the hidden tips, so that without rows no commit is read twice.
     painter.show_all(tips)?;
-    while let Some(entry) = painter.next_entry() {
-        painter.treat(entry)?;
+    painter.meet_all(hidden_tips, Side::Hidden)?;
+    while let Some((generation, entry)) = painter.next_entry() {
+        painter.treat(generation, entry)?;
     }
     let Painter { source, marks, .. } = painter;
     Ok(Painting {

@@ -1,46 +1,17 @@
 //! Where painting reads commits: by their rows as long as these are in use, and else from the store.
-ghost use Rattle.std.specs.Prelude.{◌≡◌, ◌∷◌, [], IfOk, IfErr};
-ghost use Rattle.gix_revwalk.specs.Commits.{time_of};
-ghost use Rattle.gix_paint.specs.Inside.Painter.{rows_in, graph_in_use, FailsAt, FailsAmong, ReadFails, Reads, ReadsParents, GivesParents, Knows};
+ghost use Rattle.std.specs.Prelude.{◌≡◌, IfOk, IfErr};
+ghost use Rattle.gix_commitgraph.specs.Rows.{row_of};
+ghost use Rattle.gix_paint.specs.Inside.Painter.{rows_in, graph_in_use, generation_told, FailsAt, ReadFails, Reads, ReadsParents};
 
-use super::Entry;
 use crate::Hidden;
+use crate::queue::Generation;
 use gix_commitgraph::Graph;
 use gix_hash::ObjectId;
 use gix_object::find::Find;
 use gix_revwalk::ParentIds;
-use gix_revwalk::read::{Header, find_header};
+use gix_revwalk::read::find_parents;
 use gix_revwalk::row::{NOWHERE, read_row};
 use std::alloc::Global;
-
-/// The generation in a commit's row. Without a row it counts as greater than that of any row.
-#[derive(Clone, Copy, PartialEq, Eq, PartialOrd, Ord)]
-pub(super) enum Generation {
-    Told(u32),
-    Infinite,
-}
-
-/// The greatest key is taken first. Parents have lesser generations, so what is taken is reached by nothing that still waits.
-/// Among equal generations, as without rows, a greater time lets both sides meet early.
-#[derive(Clone, Copy, PartialEq, Eq, PartialOrd, Ord)]
-pub(super) struct Key {
-    pub(super) generation: Generation,
-    pub(super) time: i64,
-}
-
-/// What is known of a commit before it is queued: its key, and where the store was asked for it, its parents.
-#[derive(Drop)]
-pub(super) struct LookedUp {
-    pub(super) key: Key,
-    pub(super) parent_ids: Option<ParentIds>,
-}
-
-/// What the store says of a commit.
-#[derive(Drop)]
-struct Stored {
-    parent_ids: ParentIds,
-    time: i64,
-}
 
 /// Where commits are read: by their rows as long as these are in use, and else from the store.
 #[derive(Drop)]
@@ -61,57 +32,30 @@ impl<'a, F: Find> Source<'a, F> {
         if self.in_use { self.graph } else { None }
     }
 
-    /// Reads a commit from the store, its committer too.
-    fn read(&mut self, id: &ObjectId) -> Result<Stored, Hidden>
-        ensures objects { self.new.objects ≡ self.old.objects }
-        ensures graph { graph_in_use self.new ≡ graph_in_use self.old }
-        ensures read { IfOk result (λ stored. Reads (F.objects self.old.objects.now) id.now stored.parent_ids.items) }
-        ensures time { IfOk result (λ stored. stored.time ≡ time_of (F.objects self.old.objects.now) id.now) }
-        ensures fault { IfErr result (FailsAt (F.objects self.old.objects.now) (F.faulty self.old.objects.now) id.now) }
-    {
-        let Header { parent_ids, time } = find_header(
-            self.alloc,
-            self.objects,
-            id,
-            &mut self.text,
-        )?;
-        let time = time?;
-        Ok(Stored { parent_ids, time })
-    }
-
-    /// What is known of a commit by its row, whose places are left alone, or else by the store.
-    pub(super) fn look_up(&mut self, id: &ObjectId) -> Result<LookedUp, Hidden>
-        ensures objects { self.new.objects ≡ self.old.objects }
-        ensures graph { graph_in_use self.new ≡ graph_in_use self.old }
-        ensures known { IfOk result (Knows (F.objects self.old.objects.now) (rows_in (graph_in_use self.old)) id.now) }
-        ensures fault { IfErr result (FailsAmong (F.objects self.old.objects.now) (F.faulty self.old.objects.now)
-            (rows_in (graph_in_use self.old)) (id.now ∷ [])) }
+    /// The generation in the row of a commit, whose places are left alone.
+    pub(super) fn generation(&self, id: &ObjectId) -> Generation
+        ensures { result ≡ generation_told (row_of (rows_in (graph_in_use self.now)) id.now) }
     {
         if let Some(graph) = self.graph_in_use()
             && let Some(commit) = graph.commit_by_id(id)
         {
-            let key = Key {
-                generation: Generation::Told(commit.generation()),
-                time: commit.committer_timestamp(),
-            };
-            return Ok(LookedUp {
-                key,
-                parent_ids: None,
-            });
+            return Generation::Told(commit.generation());
         }
-        let Stored { parent_ids, time } = self.read(id)?;
-        let key = Key {
-            generation: Generation::Infinite,
-            time,
-        };
-        Ok(LookedUp {
-            key,
-            parent_ids: Some(parent_ids),
-        })
+        Generation::Infinite
+    }
+
+    /// The parents of a commit in the store, whose committer is read too.
+    fn stored_parents(&mut self, id: &ObjectId) -> Result<ParentIds, Hidden>
+        ensures objects { self.new.objects ≡ self.old.objects }
+        ensures graph { graph_in_use self.new ≡ graph_in_use self.old }
+        ensures read { IfOk result (λ ids. Reads (F.objects self.old.objects.now) id.now ids.items) }
+        ensures fault { IfErr result (FailsAt (F.objects self.old.objects.now) (F.faulty self.old.objects.now) id.now) }
+    {
+        Ok(find_parents(self.alloc, self.objects, id, &mut self.text)??)
     }
 
     /// The parents by the row, or else from the store.
-    fn parents_of(&mut self, id: &ObjectId) -> Result<ParentIds, Hidden>
+    pub(super) fn parents(&mut self, id: &ObjectId) -> Result<ParentIds, Hidden>
         ensures objects { self.new.objects ≡ self.old.objects }
         ensures parents { IfOk result (λ ids. ReadsParents (F.objects self.old.objects.now) (graph_in_use self.old) id.now ids.items
             (graph_in_use self.new)) }
@@ -121,21 +65,6 @@ impl<'a, F: Find> Source<'a, F> {
         if let Some(row) = read_row(self.alloc, self.graph, &mut self.in_use, id, NOWHERE)? {
             return Ok(row.parent_ids);
         }
-        Ok(self.read(id)?.parent_ids)
-    }
-
-    /// The parents of an entry's commit: those that it brings, or else those that are read now.
-    pub(super) fn parents(&mut self, entry: Entry) -> Result<ParentIds, Hidden>
-        ensures objects { self.new.objects ≡ self.old.objects }
-        ensures parents { IfOk result (λ ids. GivesParents (F.objects self.old.objects.now) (graph_in_use self.old) entry ids.items
-            (graph_in_use self.new)) }
-        ensures fault { IfErr result (ReadFails (F.objects self.old.objects.now) (F.faulty self.old.objects.now)
-            (rows_in (graph_in_use self.old)) entry.id) }
-    {
-        let Entry { id, parent_ids, .. } = entry;
-        match parent_ids {
-            Some(parent_ids) => Ok(parent_ids),
-            None => self.parents_of(&id),
-        }
+        self.stored_parents(id)
     }
 }

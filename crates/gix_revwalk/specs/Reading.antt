@@ -1,11 +1,12 @@
 -- How walks read a commit: by its row as long as rows are in use, or else from the store.
-use Rattle.std.specs.Prelude.{◌≡◌, ℕ, List, Bool, true, false, Option, Some, None}
+use Rattle.std.specs.Prelude.{◌≡◌, ℕ, List, Bool, true, false, Option, Some, None, Result, Ok, Err, IfOk, IfErr}
 use Rattle.std.specs.FinMap as map_of
 use Rattle.gix_hash.specs.declared.ObjectId.{ObjectId}
 use Rattle.gix_object.specs.declared.Kind.TheVariants as object
 use Rattle.gix_hash.specs.Id.{kind_of}
 use Rattle.gix_object.specs.Object.{Objects}
 use Rattle.gix_object.specs.CommitItems.{commit_items}
+use Rattle.gix_object.specs.declared.decode.Error.{Error as DecodeError}
 use Rattle.gix_object.specs.CommitRefIter.{first_committer}
 use Rattle.gix_commitgraph.specs.Rows.{GraphRow, row_of}
 use Rattle.gix_revwalk.specs.declared.Parents.TheVariants as mode
@@ -34,6 +35,21 @@ pub data ReadsRow (rows : List GraphRow) (in_use : Bool) (i : ObjectId) : Option
   absent : row_of rows i ≡ None → ReadsRow rows in_use i None in_use
   corrupt : in_use ≡ true → DropsRows rows i → ReadsRow rows in_use i None false
   dropped : in_use ≡ false → ReadsRow rows in_use i None in_use
+
+-- the parents and the committer of the commit that is stored at an id
+pub record IsFrontAt (objects : Objects) (i : ObjectId) (ids : List ObjectId) (committer : Result (List ℕ) DecodeError) : Type 0 where
+  pub bytes : List ℕ
+  pub stored : map_of.get objects i ≡ Some (record { kind = object.Commit; bytes = bytes })
+  pub parents : ids ≡ (scanned mode.All (commit_items (kind_of i) bytes)).0
+  pub told : committer ≡ first_committer (commit_items (kind_of i) bytes)
+
+-- its parents, if it has a committer, and else the first fault
+pub record ReadsFront (objects : Objects) (i : ObjectId) (read : Result (List ObjectId) DecodeError) : Type 0 where
+  pub bytes : List ℕ
+  pub stored : map_of.get objects i ≡ Some (record { kind = object.Commit; bytes = bytes })
+  pub parents : IfOk read (λ ids. ids ≡ (scanned mode.All (commit_items (kind_of i) bytes)).0)
+  pub committer : IfOk read (λ ids. (signature : List ℕ) × (first_committer (commit_items (kind_of i) bytes) ≡ Ok signature))
+  pub fault : IfErr read (λ e. first_committer (commit_items (kind_of i) bytes) ≡ Err e)
 
 -- a header is that of the commit that is stored at an id
 pub record ReadsHeader (objects : Objects) (i : ObjectId) (header : Header) : Type 0 where

@@ -1,17 +1,18 @@
 //! What a commit's bytes say of its parents and its committer.
 ghost use Rattle.std.specs.Prelude.{◌≡◌, ◌≢◌, ◌≤◌, IfOk, IfErr, IsOk, length};
-ghost use Rattle.gix_object.specs.CommitRefIter.{commit_items_left, first_committer};
+ghost use Rattle.std.specs.Result.{result_map_both};
+ghost use Rattle.gix_object.specs.CommitRefIter.{commit_items_left, first_committer, signature_shown};
 ghost use Rattle.gix_object.specs.declared.Kind.TheVariants as object;
 ghost use Rattle.gix_object.specs.declared.find.existing_iter.Error.TheVariants as existing;
 ghost use Rattle.gix_object.specs.Find.{IsExistingFault};
 ghost use Rattle.gix_revwalk.specs.declared.Parents.TheVariants as mode;
 ghost use Rattle.gix_revwalk.specs.Either.{seconds_told};
-ghost use Rattle.gix_revwalk.specs.Reading.{ReadsHeader};
+ghost use Rattle.gix_revwalk.specs.Reading.{IsFrontAt, ReadsFront, ReadsHeader};
 ghost use Rattle.gix_revwalk.specs.Texts.{scanned};
 
 use super::{ParentIds, Parents};
 use gix_hash::ObjectId;
-use gix_object::commit::{CommitRefIter, Token};
+use gix_object::commit::{CommitRefIter, Signature};
 use gix_object::decode;
 use gix_object::find::{Find, existing_iter};
 use std::alloc::{AllocError, Global};
@@ -73,10 +74,19 @@ pub struct Header {
     pub time: Result<i64, decode::Error>,
 }
 
+/// All parents that a commit's items name, up to the first item after them, and the committer.
+#[derive(Drop)]
+struct Front<'a> {
+    parent_ids: ParentIds,
+    /// Else the first fault, where it comes before a committer, and `Missing` where the items end before both.
+    committer: Result<Signature<'a>, decode::Error>,
+}
+
 /// Reads the parents and the committer in one pass, and ends there. Lists of at most one parent take no memory.
-fn read_header(alloc: Global, mut items: CommitRefIter<'_>) -> Result<Header, AllocError>
-    ensures parents { IfOk result (λ h. h.parent_ids.items ≡ (scanned mode.All (commit_items_left items.entry)).0) }
-    ensures time { IfOk result (λ h. h.time ≡ seconds_told (first_committer (commit_items_left items.entry))) }
+#[inline(always)]
+fn read_front<'a>(alloc: Global, mut items: CommitRefIter<'a>) -> Result<Front<'a>, AllocError>
+    ensures parents { IfOk result (λ f. f.parent_ids.items ≡ (scanned mode.All (commit_items_left items.entry)).0) }
+    ensures committer { IfOk result (λ f. signature_shown f.committer ≡ first_committer (commit_items_left items.entry)) }
     ensures succeeds { length (scanned mode.All (commit_items_left items.entry)).0 ≤ 1 → IsOk result }
 {
     let mut parent_ids = ParentIds::new(alloc);
@@ -84,14 +94,50 @@ fn read_header(alloc: Global, mut items: CommitRefIter<'_>) -> Result<Header, Al
         match items.next_parent() {
             Ok(Some(id)) => parent_ids.push(id)?,
             Ok(None) => {
-                let time = committer_seconds(items);
-                return Ok(Header { parent_ids, time });
+                let committer = items.committer();
+                return Ok(Front {
+                    parent_ids,
+                    committer,
+                });
             }
             Err(fault) => {
-                let time = Err(fault);
-                return Ok(Header { parent_ids, time });
+                let committer = Err(fault);
+                return Ok(Front {
+                    parent_ids,
+                    committer,
+                });
             }
         }
+    }
+}
+
+/// Looks a commit up, and reads its front, which `text` then holds.
+#[inline(always)]
+fn find_front<'a, F: Find>(
+    alloc: Global,
+    objects: &F,
+    id: &ObjectId,
+    text: &'a mut Vec<u8>,
+) -> Result<Front<'a>, existing_iter::Error>
+where
+    ensures found { IfOk result (λ f. IsFrontAt (F.objects objects.now) id.now f.parent_ids.items (signature_shown f.committer)) }
+    ensures fault { IfErr result (λ why. why ≢ existing.Memory
+        → IsExistingFault (F.objects objects.now) (F.faulty objects.now) id.now object.Commit why) }
+{
+    let items = objects.find_commit_iter(id, text)?;
+    match read_front(alloc, items) {
+        Ok(front) => Ok(front),
+        Err(_) => Err(existing_iter::Error::Memory),
+    }
+}
+
+/// The seconds of a committer.
+fn seconds_of(committer: Result<Signature<'_>, decode::Error>) -> Result<i64, decode::Error>
+    ensures { result ≡ seconds_told (signature_shown committer.entry) }
+{
+    match committer {
+        Ok(signature) => Ok(signature.seconds()),
+        Err(fault) => Err(fault),
     }
 }
 
@@ -113,19 +159,38 @@ pub fn find_header<F: Find>(
     ensures fault { IfErr result (λ why. why ≢ existing.Memory
         → IsExistingFault (F.objects objects.now) (F.faulty objects.now) id.now object.Commit why) }
 {
-    let items = objects.find_commit_iter(id, text)?;
-    match read_header(alloc, items) {
-        Ok(header) => Ok(header),
-        Err(_) => Err(existing_iter::Error::Memory),
-    }
+    let Front {
+        parent_ids,
+        committer,
+    } = find_front(alloc, objects, id, text)?;
+    Ok(Header {
+        parent_ids,
+        time: seconds_of(committer),
+    })
 }
 
-/// The seconds of the first committer among the items left.
-fn committer_seconds(items: CommitRefIter<'_>) -> Result<i64, decode::Error>
-    ensures { result ≡ seconds_told (first_committer (commit_items_left items.entry)) }
+/// Looks a commit up, and reads its parents in one pass over its text to the end of its committer. `text` holds the text then. A commit
+/// without a committer has no parents: the answer is the first fault, or `Missing`.
+///
+/// # Errors
+///
+/// As [`find_header`].
+pub fn find_parents<F: Find>(
+    alloc: Global,
+    objects: &F,
+    id: &ObjectId,
+    text: &mut Vec<u8>,
+) -> Result<Result<ParentIds, decode::Error>, existing_iter::Error>
+    ensures reads { IfOk result (λ read. ReadsFront (F.objects objects.now) id.now (result_map_both (λ ids. ids.items) (λ e. e) read)) }
+    ensures fault { IfErr result (λ why. why ≢ existing.Memory
+        → IsExistingFault (F.objects objects.now) (F.faulty objects.now) id.now object.Commit why) }
 {
-    match items.committer() {
-        Ok(signature) => Ok(signature.seconds()),
-        Err(fault) => Err(fault),
+    let Front {
+        parent_ids,
+        committer,
+    } = find_front(alloc, objects, id, text)?;
+    match committer {
+        Ok(_) => Ok(Ok(parent_ids)),
+        Err(fault) => Ok(Err(fault)),
     }
 }

@@ -34,6 +34,10 @@ pub data ReadsParents (objects : Objects) (rows : List GraphRow) (in_use : Bool)
 abbrev pub IsPassed : List GraphRow → Bool → ObjectId → Type 0
 IsPassed rows in_use i = (row_of rows i ≡ None) ⊎ (in_use ≡ false) ⊎ DropsRows rows i
 
+-- out of memory, or one of the ids, which has no row, can't be read
+abbrev pub AskFails : Objects → (ObjectId → Type 0) → List GraphRow → List ObjectId → Hidden → Type 0
+AskFails objects faulty rows ids why = why ≢ hidden_by.Find existing.Memory → (i : ObjectId) × Contains ids i × (row_of rows i ≡ None) × IsFaultAt objects faulty i why
+
 -- it has none, or rows aren't in use
 abbrev pub IsUnrowed : List GraphRow → Bool → ObjectId → Type 0
 IsUnrowed rows in_use i = (row_of rows i ≡ None) ⊎ (in_use ≡ false)

@@ -1,9 +1,6 @@
 -- What a painting holds while it goes on, and what its steps do.
 use Rattle.std.specs.Borrow.{Bor}
-use Rattle.std.specs.Prelude.{◌≡◌, ◌≢◌, ◌⊎◌, ◌+◌, ◌≤◌, ℕ, List, [], ◌∷◌, length, Bool, true, false, cond, if◌then◌else◌, is_some, Option, Some, None, Contains, IsSome, IsPermutation}
-use Rattle.std.specs.Option.{option_map}
-use Rattle.std.specs.BinaryHeap.{IsUpperBound}
-use Rattle.std.specs.declared.cmp.Ordering.{Ordering}
+use Rattle.std.specs.Prelude.{◌≡◌, ◌≢◌, ◌⊎◌, ◌+◌, ◌≤◌, ℕ, List, [], ◌∷◌, length, Bool, true, false, ◌&&◌, not, if◌then◌else◌, is_some, Option, Some, None, Contains, IsSome, IsPermutation}
 use Rattle.std.specs.FinMap as map_of
 use Rattle.std.specs.FinSet as set
 use Rattle.gix_hash.specs.declared.ObjectId.{ObjectId}
@@ -11,21 +8,19 @@ use Rattle.gix_object.specs.declared.find.existing_iter.Error.TheVariants as exi
 use Rattle.gix_object.specs.CommitText.{Commit}
 use Rattle.gix_hash.specs.Id.{id_cmp, is_among}
 use Rattle.gix_object.specs.Object.{Objects}
-use Rattle.gix_revwalk.specs.PriorityQueue.{keys}
 use Rattle.gix_commitgraph.specs.Rows.{GraphRow, row_of}
 use Rattle.gix_paint.specs.declared.Hidden.{Hidden}
 use Rattle.gix_paint.specs.declared.Hidden.TheVariants as hidden_by
 use Rattle.gix_paint.specs.declared.Side.{Side}
 use Rattle.gix_paint.specs.declared.Side.TheVariants as side
-use Rattle.gix_paint.specs.declared.source.Generation.{Generation}
-use Rattle.gix_paint.specs.declared.source.Generation.TheVariants.{Told, Infinite}
-use Rattle.gix_paint.specs.declared.source.Key.{Key}
-use Rattle.gix_paint.specs.declared.source.LookedUp.{LookedUp}
+use Rattle.gix_paint.specs.declared.queue.Generation.{Generation}
+use Rattle.gix_paint.specs.declared.queue.Generation.TheVariants.{Told, Infinite}
+use Rattle.gix_paint.specs.declared.queue.Entry.{Entry}
+use Rattle.gix_paint.specs.Inside.Queue.{QueueEntry, is_told, AreAllTold, IsNoneAbove}
 use Rattle.gix_paint.specs.declared.source.Source.{Source}
-use Rattle.gix_paint.specs.declared.Entry.{Entry}
 use Rattle.gix_paint.specs.declared.Painter.{Painter}
 pub use Rattle.gix_revwalk.specs.Agreeing.{rows_in}
-use Rattle.gix_revwalk.specs.Commits.{commit_at, time_of}
+use Rattle.gix_revwalk.specs.Commits.{commit_at}
 use Rattle.gix_paint.specs.Painting.{IsFaultAt}
 use Rattle.gix_revwalk.specs.Ids.{new_ids}
 use Rattle.gix_revwalk.specs.RowParents.{IsUnrowed, ids_at}
@@ -51,23 +46,17 @@ is_hidden marks i = hides (map_of.get marks i)
 unfoldable pub hidden_of : AllMarks → set.FinSet id_cmp
 hidden_of marks = set.retain (set.from_list (map_of.keys marks)) (is_hidden marks)
 
--- what became of an id: it waits to be read for visible tips, or was read for them, or a hidden tip reached it
-pub data State : Type 0 where
-  Unmet : State
-  Open : State
-  Read : State
-  Hides : State
+-- an id is unmet, visible or hidden
+abbrev pub mark_of : {F : Type 0} → Painter F → ObjectId → Option Side
+mark_of p i = map_of.get p.marks i
 
-abbrev pub state_by : Option Side → Bool → State
-state_by None waiting = Unmet
-state_by (Some mark) waiting = cond (hides (Some mark)) Hides (cond waiting Open Read)
+-- by which generation a commit waits, with a row or without
+abbrev pub generation_told : Option GraphRow → Generation
+generation_told None = Infinite
+generation_told (Some row) = Told row.generation
 
-abbrev pub state_of : {F : Type 0} → Painter F → ObjectId → State
-state_of p i = state_by (map_of.get p.marks i) (set.contains p.frontier i)
-
--- the frontier is of open ids alone
-abbrev pub IsTidy : {F : Type 0} → Painter F → Type 0
-IsTidy p = (i : ObjectId) → set.contains p.frontier i ≡ true → state_of p i ≡ Open
+abbrev pub IsQueued : List GraphRow → QueueEntry → Type 0
+IsQueued rows q = q.0 ≡ generation_told (row_of rows q.1.id)
 
 -- a commit that the store has whole, and its parents
 abbrev pub Reads : Objects → ObjectId → List ObjectId → Type 0
@@ -76,10 +65,6 @@ Reads objects i ids = (commit : Commit) × (commit_at objects i ≡ Some commit)
 -- out of memory, or the commit of an id can't be read
 abbrev pub FailsAt : Objects → (ObjectId → Type 0) → ObjectId → Hidden → Type 0
 FailsAt objects faulty i why = why ≢ hidden_by.Find existing.Memory → IsFaultAt objects faulty i why
-
--- out of memory, or one of the ids, which has no row, can't be read
-abbrev pub FailsAmong : Objects → (ObjectId → Type 0) → List GraphRow → List ObjectId → Hidden → Type 0
-FailsAmong objects faulty rows ids why = why ≢ hidden_by.Find existing.Memory → (i : ObjectId) × Contains ids i × (row_of rows i ≡ None) × IsFaultAt objects faulty i why
 
 -- out of memory, or an id can't be read that has no row or a corrupt one
 abbrev pub ReadFails : Objects → (ObjectId → Type 0) → List GraphRow → ObjectId → Hidden → Type 0
@@ -91,102 +76,75 @@ pub data ReadsParents (objects : Objects) (old : Option (Bor (List GraphRow))) (
   by_store : row_of (rows_in old) i ≡ None → Reads objects i ids → ReadsParents objects old i ids old
   drops : {row : GraphRow} → row_of (rows_in old) i ≡ Some row → ids_at (rows_in old) row.parents ≡ None → Reads objects i ids → ReadsParents objects old i ids None
 
--- an id with a row is queued by the row's generation and time, one without by the store's time alone, and with the parents that the store says
-pub data Knows (objects : Objects) (rows : List GraphRow) (i : ObjectId) : LookedUp → Type 0 where
-  by_row : {row : GraphRow} {known : LookedUp} → row_of rows i ≡ Some row → known.key.generation ≡ Told row.generation → known.key.time ≡ row.time → known.parent_ids ≡ None → Knows objects rows i known
-  by_store : {known : LookedUp} {ids : List ObjectId} → row_of rows i ≡ None → known.key.generation ≡ Infinite → known.key.time ≡ time_of objects i → option_map (λ ids. ids.items) known.parent_ids ≡ Some ids → Reads objects i ids → Knows objects rows i known
-
--- an entry of the queue is as the id was known when it was put there
-abbrev pub IsQueued : Objects → List GraphRow → Key × Entry → Type 0
-IsQueued objects rows q = Knows objects rows q.1.id (record { key = q.0; parent_ids = q.1.parent_ids })
-
 -- how many entries there are and can still come, of these ids
 abbrev pub room : {F : Type 0} → List ObjectId → Painter F → ℕ
 room named p = length (new_ids (λ i. is_some (map_of.get p.marks i)) named) + length (new_ids (is_hidden p.marks) named) + length p.queue
 
 -- what meeting an id on a side makes of it: it is marked for that side, and queued if it wasn't
-pub data Becomes (on : Side) (met : Type 0) (queued : Type 0) : State → State → Type 0 where
-  stays : {s : State} → (met → (s ≢ Unmet) × (on ≡ side.Hidden → s ≡ Hides)) → Becomes on met queued s s
-  opens : on ≡ side.Visible → met → queued → Becomes on met queued Unmet Open
-  covers : {s : State} → on ≡ side.Hidden → met → queued → Becomes on met queued s Hides
+pub data Becomes (on : Side) (met : Type 0) (queued : Type 0) : Option Side → Option Side → Type 0 where
+  stays : {mark : Option Side} → (met → (mark ≢ None) × (on ≡ side.Hidden → mark ≡ Some side.Hidden)) → Becomes on met queued mark mark
+  shows : on ≡ side.Visible → met → queued → Becomes on met queued None (Some side.Visible)
+  covers : {mark : Option Side} → on ≡ side.Hidden → met → queued → Becomes on met queued mark (Some side.Hidden)
 
--- an entry of the id waits on this side
-abbrev pub IsWaiting : {F : Type 0} → Painter F → Side → ObjectId → Type 0
-IsWaiting p side i = (q : Key × Entry) × Contains p.queue q × (q.1.side ≡ side) × (q.1.id ≡ i)
-
--- an id is put into the queue
-pub record Queues {F : Type 0} (objects : F → Objects) (old : Painter F) (i : ObjectId) (side : Side) (new : Painter F) : Type 0 where
-  pub objects_stay : new.source.objects ≡ old.source.objects
-  pub graph_stays : graph_in_use new.source ≡ graph_in_use old.source
-  pub marks_stay : new.marks ≡ old.marks
-  pub frontier_stays : new.frontier ≡ old.frontier
-  pub entry : Key × Entry
+-- an entry of the id waits on this side: a visible one that has a row is in the frontier
+pub record IsWaiting {F : Type 0} (p : Painter F) (on : Side) (i : ObjectId) : Type 0 where
+  pub entry : QueueEntry
+  pub queued : Contains p.queue entry
+  pub on_side : entry.1.side ≡ on
   pub of_id : entry.1.id ≡ i
-  pub of_side : entry.1.side ≡ side
-  pub known : IsQueued (objects old.source.objects.now) (rows_in (graph_in_use old.source)) entry
-  pub queue : IsPermutation (entry ∷ old.queue) new.queue
+  pub ahead : on ≡ side.Visible → is_told entry.0 ≡ true → set.contains p.frontier i ≡ true
+
+-- a visible id that waits, and has a row
+abbrev pub IsAhead : {F : Type 0} → Painter F → ObjectId → Type 0
+IsAhead p i = (map_of.get p.marks i ≡ Some side.Visible) × (q : QueueEntry) × Contains p.queue q × (q.1.side ≡ side.Visible) × (q.1.id ≡ i) × (is_told q.0 ≡ true)
+
+-- the frontier is of such ids
+abbrev pub IsTidy : {F : Type 0} → Painter F → Type 0
+IsTidy p = (i : ObjectId) → set.contains p.frontier i ≡ true → IsAhead p i
 
 -- some ids are met on a side
-pub record Meets {F : Type 0} (objects : F → Objects) (side : Side) (ids : List ObjectId) (old new : Painter F) : Type 0 where
-  pub objects_stay : new.source.objects ≡ old.source.objects
-  pub graph_stays : graph_in_use new.source ≡ graph_in_use old.source
-  pub states : (i : ObjectId) → Becomes side (Contains ids i) (IsWaiting new side i) (state_of old i) (state_of new i)
-  pub keeps : (q : Key × Entry) → Contains old.queue q → Contains new.queue q
-  pub adds : (q : Key × Entry) → Contains new.queue q → Contains old.queue q ⊎ (Contains ids q.1.id × (q.1.side ≡ side) × IsQueued (objects old.source.objects.now) (rows_in (graph_in_use old.source)) q)
+pub record Meets {F : Type 0} (on : Side) (ids : List ObjectId) (old new : Painter F) : Type 0 where
+  pub source_stays : new.source ≡ old.source
+  pub marks : (i : ObjectId) → Becomes on (Contains ids i) (IsWaiting new on i) (mark_of old i) (mark_of new i)
+  pub keeps : (q : QueueEntry) → Contains old.queue q → Contains new.queue q
+  pub adds : (q : QueueEntry) → Contains new.queue q → Contains old.queue q ⊎ (Contains ids q.1.id × (q.1.side ≡ on) × IsQueued (rows_in (graph_in_use old.source)) q)
+  pub keeps_ahead : (i : ObjectId) → set.contains old.frontier i ≡ true → mark_of new i ≢ Some side.Hidden → set.contains new.frontier i ≡ true
   pub tidies : IsTidy old → IsTidy new
   pub spends : (named : List ObjectId) → ((i : ObjectId) → Contains ids i → is_among i named ≡ true) → room named new ≤ room named old
 
--- the parents that an entry brings, or else those that are read now
-pub data GivesParents (objects : Objects) (old : Option (Bor (List GraphRow))) (entry : Entry) (ids : List ObjectId) : Option (Bor (List GraphRow)) → Type 0 where
-  brought : option_map (λ ids. ids.items) entry.parent_ids ≡ Some ids → GivesParents objects old entry ids old
-  looked_up : {new : Option (Bor (List GraphRow))} → entry.parent_ids ≡ None → ReadsParents objects old entry.id ids new → GivesParents objects old entry ids new
+-- a visible entry is to be read as long as its id isn't hidden, a hidden one always
+abbrev pub is_turn_on : Side → AllMarks → ObjectId → Bool
+is_turn_on side.Visible marks i = not (is_hidden marks i)
+is_turn_on side.Hidden marks i = true
 
--- an entry that was taken from the queue waits no more
-abbrev pub frontier_without : Side → set.FinSet id_cmp → ObjectId → set.FinSet id_cmp
-frontier_without side.Visible frontier i = set.remove frontier i
-frontier_without side.Hidden frontier i = frontier
+abbrev pub is_turn : AllMarks → Entry → Bool
+is_turn marks entry = is_turn_on entry.side marks entry.id
 
--- a visible entry is to be read as long as its id waits, a hidden one always
-abbrev pub is_turn_on : Side → set.FinSet id_cmp → ObjectId → Bool
-is_turn_on side.Visible frontier i = set.contains frontier i
-is_turn_on side.Hidden frontier i = true
+-- a visible entry that has a row leaves the frontier when it is taken
+abbrev pub frontier_without : QueueEntry → set.FinSet id_cmp → set.FinSet id_cmp
+frontier_without q frontier = if is_told q.0 && not (hides (Some q.1.side)) then set.remove frontier q.1.id else frontier
 
 -- an entry that was taken from the queue is treated, which may drop the rows
-pub record Takes {F : Type 0} (old : Painter F) (entry : Entry) (new : Painter F) : Type 0 where
+pub record Takes {F : Type 0} (old : Painter F) (top : QueueEntry) (new : Painter F) : Type 0 where
   pub objects_stay : new.source.objects ≡ old.source.objects
   pub marks_stay : new.marks ≡ old.marks
   pub queue_stays : new.queue ≡ old.queue
-  pub frontier : new.frontier ≡ frontier_without entry.side old.frontier entry.id
-
-abbrev pub is_turn : Entry → set.FinSet id_cmp → Bool
-is_turn entry frontier = is_turn_on entry.side frontier entry.id
+  pub frontier : new.frontier ≡ frontier_without top old.frontier
 
 -- the entry is left to the hidden side, or its parents are read and met
-pub data TreatsEntry {F : Type 0} (objects : F → Objects) (old : Painter F) (entry : Entry) : Painter F → Type 0 where
-  skips : {new : Painter F} → is_turn entry old.frontier ≡ false → Takes old entry new → graph_in_use new.source ≡ graph_in_use old.source → TreatsEntry objects old entry new
-  reads : {mid new : Painter F} {ids : List ObjectId} → is_turn entry old.frontier ≡ true → Takes old entry mid → GivesParents (objects old.source.objects.now) (graph_in_use old.source) entry ids (graph_in_use mid.source) → Meets objects entry.side ids mid new → TreatsEntry objects old entry new
-
--- the entry's own commit, which has no row or a corrupt one, or one of its parents, which has no row then
-abbrev pub IsReadFor : Objects → Option (Bor (List GraphRow)) → Entry → ObjectId → Type 0
-IsReadFor objects old entry i =
-    ((i ≡ entry.id) × IsUnrowed (rows_in old) i) ⊎ ((ids : List ObjectId) × (new : Option (Bor (List GraphRow))) × GivesParents objects old entry ids new × Contains ids i × (row_of (rows_in new) i ≡ None))
-
--- out of memory, or one of those can't be read
-abbrev pub TreatFails : Objects → (ObjectId → Type 0) → Option (Bor (List GraphRow)) → Entry → Hidden → Type 0
-TreatFails objects faulty old entry why = why ≢ hidden_by.Find existing.Memory → (i : ObjectId) × IsReadFor objects old entry i × IsFaultAt objects faulty i why
-
-abbrev pub is_told : Generation → Bool
-is_told (Told n) = true
-is_told Infinite = false
+pub data TreatsEntry {F : Type 0} (objects : F → Objects) (old : Painter F) (top : QueueEntry) : Painter F → Type 0 where
+  skips : {new : Painter F} → is_turn old.marks top.1 ≡ false → Takes old top new → graph_in_use new.source ≡ graph_in_use old.source → TreatsEntry objects old top new
+  reads : {mid new : Painter F} {ids : List ObjectId} → is_turn old.marks top.1 ≡ true → Takes old top mid → ReadsParents (objects old.source.objects.now) (graph_in_use old.source) top.1.id ids (graph_in_use mid.source)
+      → Meets top.1.side ids mid new → TreatsEntry objects old top new
 
 -- nothing is queued; or the rows are in use, and all that is queued is hidden and has a row
 abbrev pub IsSettled : {F : Type 0} → Painter F → Type 0
-IsSettled p = (p.queue ≡ []) ⊎ (IsSome (graph_in_use p.source) × (set.len p.frontier ≡ 0) × ((q : Key × Entry) → Contains p.queue q → is_told q.0.generation ≡ true))
+IsSettled p = (p.queue ≡ []) ⊎ (IsSome (graph_in_use p.source) × (set.len p.frontier ≡ 0) × AreAllTold p.queue)
 
 -- the next entry is taken from the queue
-pub record Pops {F : Type 0} (cmp : Key → Key → Ordering) (old : Painter F) (top : Key × Entry) (new : Painter F) : Type 0 where
+pub record Pops {F : Type 0} (old : Painter F) (top : QueueEntry) (new : Painter F) : Type 0 where
   pub source : new.source ≡ old.source
   pub marks : new.marks ≡ old.marks
   pub frontier : new.frontier ≡ old.frontier
   pub queue : IsPermutation old.queue (top ∷ new.queue)
-  pub greatest : IsUpperBound cmp top.0 (keys old.queue)
+  pub greatest : IsNoneAbove top.0 old.queue

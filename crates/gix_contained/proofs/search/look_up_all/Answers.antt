@@ -2,7 +2,7 @@ use Rattle.std.proofs.Common.{take, refl, ◌∙◌}
 use Rattle.std.proofs.lemmas.List.{take_more}
 use Rattle.std.proofs.lemmas.List.Elements.{Contains-get_or}
 use Rattle.gix_contained.proofs.Asking.{fails_among, known_there, looked_up}
-use Rattle.gix_paint.proofs.Meets.{fails_as}
+use Rattle.gix_contained.proofs.Meeting.{fails_as}
 use Rattle.gix_revwalk.specs.Agreeing.{rows_in}
 use Rattle.gix_contained.proofs.search.look_up_all.Goals as goal
 

@@ -1,7 +1,7 @@
 use Rattle.std.proofs.Common.{sym, inl, ⊎_elim, ◌∙◌, refl}
 use Rattle.gix_contained.proofs.Asking.{lowest_first, taken_left, taken_less, taken_within}
 use Rattle.gix_contained.proofs.search.lowest_left.Goals as goal
-use Rattle.gix_paint.proofs.Keys.{first_member}
+use Rattle.gix_contained.proofs.Asking.{first_member}
 
 pub returns-then-not-contains-clause-some : goal.returns-then-not-contains-clause-some
 returns-then-not-contains-clause-some c = (

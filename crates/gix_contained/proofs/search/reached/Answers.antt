@@ -3,7 +3,7 @@ use Rattle.gix_hash.specs.declared.ObjectId.{ObjectId}
 use Rattle.gix_contained.specs.declared.search.Search.{Search}
 use Rattle.gix_contained.specs.Inside.Search.{AreAsked, Decides}
 use Rattle.gix_contained.proofs.Deciding.{decided, goes_start, goes_by, by_less, goes_on, on_less, start_fails, turn_fails}
-use Rattle.gix_paint.proofs.Meets.{fails_as}
+use Rattle.gix_contained.proofs.Meeting.{fails_as}
 use Rattle.gix_revwalk.specs.Agreeing.{rows_in}
 use Rattle.gix_contained.proofs.search.reached.Goals as goal
 use Rattle.gix_contained.proofs.search.reached.Goals.{in-Some+in_default-pop, in_default}

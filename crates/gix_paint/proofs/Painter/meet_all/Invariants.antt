@@ -4,7 +4,7 @@ use Rattle.gix_paint.proofs.Painter.meet_all.Given as goal
 
 -- to meet the ids that are left is to meet them all
 abbrev pub invariant-loop-id : goal.invariant-loop-id
-invariant-loop-id g l = IsLeft g.F.Find.objects g.F.Find.faulty l.side l.fn.ids l.fn.self l.ids l.self
+invariant-loop-id g l = IsLeft l.side l.fn.ids l.fn.self l.ids l.self
 
 abbrev pub decreases-loop-id : goal.decreases-loop-id
 decreases-loop-id g l = length l.ids

@@ -6,4 +6,4 @@ use Rattle.gix_paint.proofs.Painter.show_all.Given as goal
 
 -- to meet the tips that are left is to meet them all
 abbrev pub invariant-loop-tip : goal.invariant-loop-tip
-invariant-loop-tip g l = IsLeft g.F.Find.objects g.F.Find.faulty side.Visible (ids_of l.fn.tips.items) l.fn.self (ids_of (deque_iter_rest l.tip-iterator)) l.self
+invariant-loop-tip g l = IsLeft side.Visible (ids_of l.fn.tips.items) l.fn.self (ids_of (deque_iter_rest l.tip-iterator)) l.self

@@ -1,6 +1,6 @@
-use Rattle.std.proofs.Common.{refl, sym, ◌∙◌}
-use Rattle.gix_paint.proofs.Common.{skips, IfOk-weaker}
-use Rattle.gix_paint.proofs.Meets.{treats}
+use Rattle.std.proofs.Common.{sym, ◌∙◌}
+use Rattle.std.proofs.Math.Path.{transport}
+use Rattle.gix_paint.proofs.Common.{graph_in_use, reads, ReadsParents, skips}
 use Rattle.gix_paint.proofs.Painter.treat.Goals as goal
 
 pub returns-then-not-begins-clause-ok : goal.returns-then-not-begins-clause-ok
@@ -8,5 +8,8 @@ returns-then-not-begins-clause-ok g c = skips (sym c.begins.ensures.turn ∙ c.i
 
 pub returns-clause-ok : goal.returns-clause-ok
 returns-clause-ok g c =
-    IfOk-weaker c.meet_all.result _ _ (λ x met. treats g.F.Find.objects g.F.Find.faulty c.args.entry c.as_slice.result.now c.in_ok-parent_ids.parent_ids.items (sym c.begins.ensures.turn ∙ c.if-not-begins.false) c.begins.ensures.takes c.begins.ensures.graph
-    c.in_ok-parent_ids.ensures.objects refl refl refl c.in_ok-parent_ids.ensures.parents c.as_slice.ensures met) c.meet_all.ensures.ok
+    let takes = c.begins.ensures.takes in
+    reads (sym c.begins.ensures.turn ∙ c.if-not-begins.false)
+    (record { objects_stay = c.in_ok-parent_ids.ensures.objects ∙ takes.objects_stay; marks_stay = takes.marks_stay; queue_stays = takes.queue_stays; frontier = takes.frontier })
+    (transport (λ k. ReadsParents (g.F.Find.objects (takes.objects_stay k).now) (c.begins.ensures.graph k) c.args.entry.id (sym c.as_slice.ensures k) (graph_in_use c.parents.new.self)) c.in_ok-parent_ids.ensures.parents)
+    c.in_ok-meet_all.ensures

@@ -1,5 +1,5 @@
 use Rattle.std.proofs.Common.{[], refl, rules}
-use Rattle.gix_paint.proofs.Meets.{fails_as}
+use Rattle.gix_contained.proofs.Meeting.{fails_as}
 use Rattle.gix_contained.proofs.Meeting.{met_before, met_new}
 use Rattle.gix_contained.proofs.search.Search.meet.Goals as goal
 use Rattle.gix_hash.proofs.Ids.Membership.{Contains-here}

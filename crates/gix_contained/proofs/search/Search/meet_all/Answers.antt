@@ -1,4 +1,4 @@
-use Rattle.gix_paint.proofs.Meets.{fails_as}
+use Rattle.gix_contained.proofs.Meeting.{fails_as}
 use Rattle.gix_contained.proofs.Meeting.{left_fails, left_step, none_left}
 use Rattle.gix_contained.proofs.search.Search.meet_all.Goals as goal
 

@@ -1,9 +1,8 @@
 use Rattle.std.proofs.Common.{◌≤◌, ◌+◌, ◌++◌, [], ◌∷◌, Err, sym, ap, ◌∙◌, arith, rules, append_assoc, append-nil, length, length-append}
 use Rattle.gix_revwalk.proofs.Common.{commit_items_left, scanned}
-use Rattle.gix_revwalk.specs.Either.{seconds_told}
 use Rattle.gix_revwalk.specs.declared.Parents.TheVariants as mode
 use Rattle.gix_revwalk.proofs.NextParents.{IsFault, next_says, parent_said, last_said, some_parent}
-use Rattle.gix_revwalk.proofs.read.read_header.Goals as goal
+use Rattle.gix_revwalk.proofs.read.read_front.Goals as goal
 
 pub loop-id-smaller : goal.loop-id-smaller
 loop-id-smaller c = (parent_said (commit_items_left c.loop-id.items) (commit_items_left c.next_parent.new.self) c.in-Ok-Some.field-0 c.in-Ok-Some.id c.in-Ok-Some.field-0-is c.in-Ok-Some.ensures.parent c.in-Ok-Some.ensures.left).fewer
@@ -34,17 +33,17 @@ returns-in-Ok-None-clause-parents c =
     let last = last_said (commit_items_left c.loop-id.items) (commit_items_left c.next_parent.new.self) c.in-Ok-None.field-0 c.in-Ok-None.field-0-is c.in-Ok-None.ensures.parent c.in-Ok-None.ensures.left in
     sym (append-nil c.loop-id.parent_ids.items) ∙ ap (λ r. c.loop-id.parent_ids.items ++ r.0) (sym (last.none mode.All)) ∙ c.loop-id.invariant.parents
 
-pub returns-in-Ok-None-clause-time : goal.returns-in-Ok-None-clause-time
-returns-in-Ok-None-clause-time c =
+pub returns-in-Ok-None-clause-committer : goal.returns-in-Ok-None-clause-committer
+returns-in-Ok-None-clause-committer c =
     let last = last_said (commit_items_left c.loop-id.items) (commit_items_left c.next_parent.new.self) c.in-Ok-None.field-0 c.in-Ok-None.field-0-is c.in-Ok-None.ensures.parent c.in-Ok-None.ensures.left in
-    c.committer_seconds-time.ensures ∙ ap seconds_told (sym last.committer ∙ c.loop-id.invariant.committer)
+    c.committer-committer.ensures ∙ sym last.committer ∙ c.loop-id.invariant.committer
 
 pub returns-in-Err-clause-parents : goal.returns-in-Err-clause-parents
 returns-in-Err-clause-parents c =
     let fault : IsFault (commit_items_left c.loop-id.items) c.in-Err.fault = next_says (commit_items_left c.loop-id.items) (commit_items_left c.next_parent.new.self) (Err c.in-Err.fault) c.in-Err.ensures.parent c.in-Err.ensures.left in
     sym (append-nil c.loop-id.parent_ids.items) ∙ ap (λ r. c.loop-id.parent_ids.items ++ r.0) (sym (fault.fault mode.All)) ∙ c.loop-id.invariant.parents
 
-pub returns-in-Err-clause-time : goal.returns-in-Err-clause-time
-returns-in-Err-clause-time c =
+pub returns-in-Err-clause-committer : goal.returns-in-Err-clause-committer
+returns-in-Err-clause-committer c =
     let fault : IsFault (commit_items_left c.loop-id.items) c.in-Err.fault = next_says (commit_items_left c.loop-id.items) (commit_items_left c.next_parent.new.self) (Err c.in-Err.fault) c.in-Err.ensures.parent c.in-Err.ensures.left in
-    ap seconds_told (sym fault.committer ∙ c.loop-id.invariant.committer)
+    sym fault.committer ∙ c.loop-id.invariant.committer

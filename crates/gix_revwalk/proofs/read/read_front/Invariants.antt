@@ -1,7 +1,7 @@
 use Rattle.std.proofs.Common.{◌≡◌, ◌≤◌, ◌++◌, length}
 use Rattle.gix_revwalk.proofs.Common.{commit_items_left, first_committer, scanned}
 use Rattle.gix_revwalk.specs.declared.Parents.TheVariants as mode
-use Rattle.gix_revwalk.proofs.read.read_header.Given as goal
+use Rattle.gix_revwalk.proofs.read.read_front.Given as goal
 
 -- what was read and what is left are the whole
 abbrev pub invariant-loop-id : goal.invariant-loop-id
