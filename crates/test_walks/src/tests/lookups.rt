@@ -291,7 +291,7 @@ static SIMPLES: [SimpleLookUps; 5] = [
             (&[6, 1], [BREADTH, SINCE_4], &[], "6 5; 6:2 5:2 3:1 1:1"),
             // Such a tip is met again.
             (&[5, 3], [BREADTH, SINCE_4], &[], "5; 5:2 3:2"),
-            // Painting looks all up once, and 1 twice where it is met for the tip before it is met for what is hidden.
+            // Painting looks all up once.
             (
                 &[8],
                 AS_MET,
@@ -302,13 +302,13 @@ static SIMPLES: [SimpleLookUps; 5] = [
                 &[8],
                 AS_MET,
                 &[7],
-                "8 6 5 3; 8:2 7:1 6:2 5:2 4:1 3:2 2:1 1:2",
+                "8 6 5 3; 8:2 7:1 6:2 5:2 4:1 3:2 2:1 1:1",
             ),
             (
                 &[8],
                 BY_TIME,
                 &[7],
-                "8 6 5 3; 8:3 7:1 6:3 5:3 4:1 3:3 2:1 1:2",
+                "8 6 5 3; 8:3 7:1 6:3 5:3 4:1 3:3 2:1 1:1",
             ),
             (&[8], AS_MET, &[8], "; 8:1 7:1 6:1 5:1 4:1 3:1 2:1 1:1"),
             // Without tips nothing is painted.
@@ -388,8 +388,8 @@ static BEGUN: [BegunLookUps; 1] = [BegunLookUps(&[
     (NEWEST, &[], 2, "; 8:2 7:2 6:1 4:1"),
     // The first step paints.
     (BREADTH, &[7], 0, ";"),
-    (BREADTH, &[7], 1, "; 8:2 7:1 6:1 5:1 4:1 3:1 2:1 1:2"),
-    (BREADTH, &[7], 2, "; 8:2 7:1 6:2 5:1 4:1 3:1 2:1 1:2"),
+    (BREADTH, &[7], 1, "; 8:2 7:1 6:1 5:1 4:1 3:1 2:1 1:1"),
+    (BREADTH, &[7], 2, "; 8:2 7:1 6:2 5:1 4:1 3:1 2:1 1:1"),
     (NEWEST, &[7], 0, "; 8:1"),
 ])];
 
