@@ -26,7 +26,7 @@ module _ (tip : ObjectId) (ids : List ObjectId) where
 
   module _ (objects : Objects) (rows : List GraphRow) (agreeing : IsAgreeing objects rows) where
     own : IsHistory objects rows objects
-    own = own_history objects (never_faulty objects) rows agreeing
+    own = own_history objects rows agreeing
 
     -- a commit is whole that was read or has a row, which agrees
     whole_by : (i : ObjectId) → (row_of rows i ≡ None → IsSome (commit_at objects i)) → IsSome (commit_at objects i)

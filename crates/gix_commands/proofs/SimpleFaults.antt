@@ -143,7 +143,7 @@ module _ (objects : Objects) (tips hiders : List ObjectId) (whole : AreWhole obj
           (Contains-append_cases (ids_of w.pending) w.hidden_tips i c)
 
       reached : Reaches (parents_of objects) (tips ++ hiders) f.id
-      reached = reaches_from (parents_of objects) (ids_of w.pending ++ w.hidden_tips) (tips ++ hiders) both f.id (subst (λ o. Reaches (parents_of o) (ids_of w.pending ++ w.hidden_tips) f.id) s.store (f.reached w.store (own_history w.store (never_faulty w.store) w.rows (subst (λ o. IsAgreeing o w.rows) (sym s.store) s.rows))))
+      reached = reaches_from (parents_of objects) (ids_of w.pending ++ w.hidden_tips) (tips ++ hiders) both f.id (subst (λ o. Reaches (parents_of o) (ids_of w.pending ++ w.hidden_tips) f.id) s.store (f.reached w.store (own_history w.store w.rows (subst (λ o. IsAgreeing o w.rows) (sym s.store) s.rows))))
   first_called (no_memory some hides left) s = λ ne. tt
 
   called : {w : Walk} {o : Option (Result Info Error)} {new : Walk} → Answers w o new → Stands w → IsGood o new

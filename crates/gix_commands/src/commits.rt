@@ -1,6 +1,6 @@
 //! Walks over stored commits.
 ghost use Rattle.std.specs.Prelude.{◌≡◌, false, Ok, IfErr, IfOk};
-ghost use Rattle.gix_revwalk.specs.Agreeing.{rows_in, rows_of};
+ghost use Rattle.gix_revwalk.specs.Agreeing.{rows_in};
 ghost use Rattle.gix_graph_store.specs.WithRows.{with_rows};
 ghost use Rattle.gix_commands.specs.Readable.{is_first, readable};
 ghost use Rattle.gix_commands.specs.TopoWalked as topo_walk;
@@ -13,11 +13,12 @@ use gix_hash::{Keys, ObjectId};
 use gix_object::Kind;
 use gix_object::find::{self, Find};
 use gix_records::LentStore;
+use gix_revwalk::row::copy_of;
 use gix_revwalk::{Parents, Unfiltered};
 use gix_simple::{Simple, Sorting};
 use gix_topo::{Builder, Topo};
 use gix_words::Fault;
-use std::alloc::{AllocError, Global};
+use std::alloc::Global;
 use std::marker::Model;
 
 /// A store that several walks read, one after another, and that has a commit for each row of a commit-graph beside its objects, if there
@@ -71,16 +72,6 @@ impl Find for Lent<'_> {
 
     fn keys(&self) -> Keys {
         self.store.keys()
-    }
-}
-
-/// The rows again, for a walk to hold.
-fn copy_of(graph: Option<&Graph>) -> Result<Option<Graph>, AllocError>
-    ensures { IfOk result (λ copy. rows_of copy ≡ rows_in graph.entry) }
-{
-    match graph {
-        Some(graph) => Ok(Some(graph.copy()?)),
-        None => Ok(None),
     }
 }
 

@@ -1,4 +1,5 @@
 pub mod Rows
+pub mod Bytes
 pub mod Packed
 pub mod PackedReading
 pub mod PackedLayout

@@ -1,6 +1,7 @@
 //! The rows of a commit-graph, kept as packed bytes.
 #![tactic(auto)]
 
+mod bytes;
 mod check;
 mod commit;
 mod fields;
@@ -11,6 +12,7 @@ mod pack;
 mod parents;
 mod rows;
 
+use bytes::Bytes;
 use check::Layout;
 pub use commit::Commit;
 use gix_hash::{Kind, ObjectId};
@@ -167,7 +169,7 @@ pub const GENERATION_NUMBER_INFINITY: u32 = 0xFFFF_FFFF;
 /// ```
 #[derive(Debug, Drop)]
 pub struct Graph {
-    packed: Vec<u8>,
+    packed: Bytes,
     layout: Layout,
 }
 
@@ -178,11 +180,12 @@ impl Model for Graph {
 
     ghost Value = { List GraphRow };
 
+    ghost use Rattle.gix_commitgraph.specs.Bytes.{packed_bytes};
     ghost use Rattle.gix_commitgraph.specs.PackedLayout.{IsPackedAs};
 
-    ghost view = { λ g. rows_in (read_packed g.packed.items) };
+    ghost view = { λ g. rows_in (read_packed (packed_bytes g.packed)) };
 
-    ghost invariant = { λ g. IsPackedAs g.packed.items g.layout (rows_in (read_packed g.packed.items)) };
+    ghost invariant = { λ g. IsPackedAs (packed_bytes g.packed) g.layout (rows_in (read_packed (packed_bytes g.packed))) };
 }
 
 impl Graph {
@@ -212,10 +215,11 @@ impl Graph {
         let order = order::sorted_entries(alloc, rows.as_slice())?;
         order::test(layout, rows.as_slice(), order.as_slice())?;
         let packed = pack::pack_rows(alloc, layout, rows.as_slice(), order.as_slice())?;
+        let packed = Bytes::new(packed);
         Ok(Graph { packed, layout })
     }
 
-    /// The graph of packed bytes, which it keeps as they are. No memory is taken.
+    /// The graph of packed bytes, which it keeps as they are. No memory is needed.
     ///
     /// # Errors
     ///
@@ -229,18 +233,20 @@ impl Graph {
         ensures exact { result ≡ opened (read_packed packed.items) }
     {
         match check::check(packed.as_slice()) {
-            Ok(layout) => Ok(Graph { packed, layout }),
+            Ok(layout) => {
+                let packed = Bytes::new(packed);
+                Ok(Graph { packed, layout })
+            }
             Err(place) => Err(GraphError::Packed(place)),
         }
     }
 
-    /// The same rows again, in memory of their own, of the same allocator. The bytes are copied and not tested again.
+    /// The same rows again. The packed bytes are shared, or copied where there was no memory to count their owners when this graph was made.
     pub fn copy(&self) -> Result<Graph, AllocError>
         ensures { IfOk result (λ graph. graph ≡ self.now) }
     {
-        let packed = Vec::from_slice(*self.packed.allocator(), self.packed.as_slice())?;
         Ok(Graph {
-            packed,
+            packed: self.packed.copy()?,
             layout: self.layout,
         })
     }

@@ -14,7 +14,8 @@ use Rattle.gix_hash.proofs.Ids.Membership.{Contains-cons_cases, Contains-here, C
 use Rattle.gix_hash.proofs.Lists.{only_member}
 use Rattle.gix_object.specs.Object.{Objects}
 use Rattle.gix_commitgraph.specs.Rows.{GraphRow, row_of}
-use Rattle.gix_contained.specs.Inside.Search.{AskFails, AreLookedUp, AskedId, IsUnrowed, Knows, Queued}
+use Rattle.gix_contained.specs.Inside.Search.{AskFails, AreLookedUp, AskedId, Knows, Queued}
+use Rattle.gix_paint.specs.Reading.{IsRowless}
 use Rattle.gix_object.specs.declared.find.existing_iter.Error.TheVariants as existing
 use Rattle.gix_paint.specs.declared.Hidden.{Hidden}
 use Rattle.gix_paint.specs.declared.Hidden.TheVariants as hidden_by
@@ -80,12 +81,12 @@ module _ (objects : Objects) (rows : List GraphRow) where
   })
 
 -- what was looked up by the same store and graph, while rows are in use
-module _ {F : Type 0} (objects : F → Objects) (faulty : F → ObjectId → Type 0) {a b : Bor F} {g h : Option (Bor (List GraphRow))} {in_use : Bool} (same : a ≡ b) (graph : g ≡ h) (used : in_use ≡ true) where
-  pub fails_among : (ids : List ObjectId) (i : ObjectId) (why : Hidden) → Contains ids i → (why ≢ hidden_by.Find existing.Memory → IsUnrowed (rows_in g) in_use i × IsFaultAt (objects a.now) (faulty a.now) i why)
-      → AskFails (objects b.now) (faulty b.now) (rows_in h) ids why
+module _ {F : Type 0} (objects : F → Objects) (faulty : F → ObjectId → Type 0) {a b : F} {g h : Option (Bor (List GraphRow))} {in_use : Bool} (same : a ≡ b) (graph : g ≡ h) (used : in_use ≡ true) where
+  pub fails_among : (ids : List ObjectId) (i : ObjectId) (why : Hidden) → Contains ids i → (why ≢ hidden_by.Find existing.Memory → IsRowless (rows_in g) in_use i × IsFaultAt (objects a) (faulty a) i why)
+      → AskFails (objects b) (faulty b) (rows_in h) ids why
   fails_among ids i why m f n =
       let k = f n in
-      (i, m, ⊎_elim (λ r. transport (λ j. row_of (rows_in (graph j)) i ≡ None) r) (λ u. absurd (false≢true (sym u ∙ used))) k.0, transport (λ j. IsFaultAt (objects (same j).now) (faulty (same j).now) i why) k.1)
+      (i, m, ⊎_elim (λ r. transport (λ j. row_of (rows_in (graph j)) i ≡ None) r) (λ u. absurd (false≢true (sym u ∙ used))) k.0, transport (λ j. IsFaultAt (objects (same j)) (faulty (same j)) i why) k.1)
 
-  pub known_there : (i : ObjectId) (q : Queued) → Knows (objects a.now) (rows_in g) in_use i q → Knows (objects b.now) (rows_in h) true i q
-  known_there i q l = transport (λ j. Knows (objects (same j).now) (rows_in (graph j)) (used j) i q) l
+  pub known_there : (i : ObjectId) (q : Queued) → Knows (objects a) (rows_in g) in_use i q → Knows (objects b) (rows_in h) true i q
+  known_there i q l = transport (λ j. Knows (objects (same j)) (rows_in (graph j)) (used j) i q) l

@@ -11,10 +11,10 @@ use Rattle.gix_hash.proofs.Ids.Membership.{among-append, among_from, Contains-he
 use Rattle.gix_object.specs.Object.{Object, Objects}
 use Rattle.gix_commitgraph.specs.Rows.{GraphRow, row_of}
 use Rattle.gix_contained.specs.declared.search.Search.{Search}
-use Rattle.gix_contained.specs.declared.source.Waiting.{Waiting}
+use Rattle.gix_contained.specs.declared.waiting.Waiting.{Waiting}
 use Rattle.gix_contained.specs.Contained.{DropsBy}
-use Rattle.gix_paint.specs.Inside.Painter.{Reads}
-use Rattle.gix_contained.specs.Inside.Search.{AreAsked, brings, by_row, by_store, Decides, drops, FollowFails, Follows, GivesParents, brought, looked_up, IsLowest, IsPassed, MeetFails, Meets, AskedId, SearchFails, Queued, room}
+use Rattle.gix_paint.specs.Reading.{by_row, by_store, drops, IsPassed, Reads}
+use Rattle.gix_contained.specs.Inside.Search.{AreAsked, brings, Decides, FollowFails, Follows, GivesParents, brought, looked_up, IsLowest, MeetFails, Meets, AskedId, SearchFails, Queued, room}
 use Rattle.gix_contained.proofs.Holding.{Holds, blank, dropped_for, given_there, met, passed_by, popped, unreached, all_read}
 use Rattle.gix_paint.specs.declared.Hidden.{Hidden}
 use Rattle.gix_revwalk.specs.Infos.{generation_in}
@@ -49,7 +49,7 @@ among_names objects rows {w = w} {ids = ids} bring gives i m = go gives
     go : {used later : Bool} → GivesParents objects rows used w ids later → is_among i (names objects rows) ≡ true
     go (brought e) = by_text (bring ids e)
     go (looked_up (by_row {row = row} e f)) = among-append i (map (λ row. row.id) rows) _ ∙ or_left _ _ (ids_in_rows rows row.parents ids f i m)
-    go (looked_up (by_store r)) = by_text r
+    go (looked_up (by_store n r)) = by_text r
     go (looked_up (drops d r)) = by_text r
 
 module _ {F : Type 0} (objects : F → Objects) (faulty : F → ObjectId → Type 0) (store : F) (rows : List GraphRow) where

@@ -33,4 +33,4 @@ module _ (objects : Objects) (faulty : ObjectId → Type 0) where
       → e ≡ error.Find existing.Store
   store_alone rows tips ids e agreeing whole (why, f, is) =
       is ∙ at_whole f.id why
-      (whole f.id (⊎_elim (λ m. start (Contains-append_left ids tips f.id m)) (reach_more (parents_of objects) tips (ids ++ tips) (Contains-append_right ids tips) f.id) (f.reached objects (own_history objects faulty rows agreeing)))) f.fault
+      (whole f.id (⊎_elim (λ m. start (Contains-append_left ids tips f.id m)) (reach_more (parents_of objects) tips (ids ++ tips) (Contains-append_right ids tips) f.id) (f.reached objects (own_history objects rows agreeing)))) f.fault

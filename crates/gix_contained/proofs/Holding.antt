@@ -11,9 +11,9 @@ use Rattle.gix_object.specs.Object.{Objects}
 use Rattle.gix_commitgraph.specs.Rows.{GraphRow, row_of}
 use Rattle.gix_contained.specs.declared.search.Search.{Search}
 use Rattle.gix_contained.specs.Contained.{DropsBy}
-use Rattle.gix_contained.specs.declared.source.Waiting.{Waiting}
-use Rattle.gix_paint.specs.Inside.Painter.{Reads}
-use Rattle.gix_contained.specs.Inside.Search.{brings, by_row, by_store, drops, GivesParents, brought, looked_up, Knows, Meets, Queued, generation_if}
+use Rattle.gix_contained.specs.declared.waiting.Waiting.{Waiting}
+use Rattle.gix_paint.specs.Reading.{by_row, by_store, drops, Reads}
+use Rattle.gix_contained.specs.Inside.Search.{brings, GivesParents, brought, looked_up, Knows, Meets, Queued, generation_if}
 use Rattle.gix_revwalk.specs.Infos.{generation_in}
 use Rattle.gix_paint.specs.Painting.{IsHistory}
 use Rattle.gix_revwalk.specs.Agreeing.{RowAgrees, rows_in}
@@ -61,7 +61,7 @@ module _ (objects history : Objects) (rows : List GraphRow) (known : IsHistory o
   pub given_there : {in_use after : Bool} {w : Waiting} {ids : List ObjectId} → ((those : List ObjectId) → brings w ≡ Some those → Reads objects w.id those) → GivesParents objects rows in_use w ids after → ids ≡ parents_of history w.id
   given_there {w = w} bring (brought e) = of_store w.id _ (bring _ e)
   given_there {w = w} bring (looked_up (by_row {row = row} e f)) = row_parents history rows known.agreeing w.id row _ e f
-  given_there {w = w} bring (looked_up (by_store r)) = of_store w.id _ r
+  given_there {w = w} bring (looked_up (by_store n r)) = of_store w.id _ r
   given_there {w = w} bring (looked_up (drops d r)) = of_store w.id _ r
 
   module _ (tips ids : List ObjectId) where
@@ -178,13 +178,13 @@ module _ (objects history : Objects) (rows : List GraphRow) (known : IsHistory o
           used : {after : Bool} → GivesParents objects rows s.source.in_use q.1 named after → after ≡ true → s.source.in_use ≡ true
           used (brought e) t = t
           used (looked_up (by_row e f)) t = t
-          used (looked_up (by_store r)) t = t
+          used (looked_up (by_store n r)) t = t
           used (looked_up (drops d r)) t = absurd (false≢true t)
 
           drop : {after : Bool} → GivesParents objects rows s.source.in_use q.1 named after → after ≡ false → DropsBy (parents_of history) rows tips ids
           drop (brought e) f = h.dropped f
           drop (looked_up (by_row e g)) f = h.dropped f
-          drop (looked_up (by_store r)) f = h.dropped f
+          drop (looked_up (by_store n r)) f = h.dropped f
           drop (looked_up (drops d r)) f = dropped_for a asked deep d
 
     -- ids that the tips reach are met

@@ -2,8 +2,6 @@
 pub mod Meeting
 -- The ids that are asked about.
 pub mod Asking
--- How a commit is read.
-pub mod Reading
 -- What holds while the search goes on.
 pub mod Holding
 -- What the search tells in the end, and why it fails.

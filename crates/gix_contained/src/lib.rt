@@ -9,7 +9,7 @@ ghost use Rattle.gix_revwalk.specs.Agreeing.{rows_in};
 
 pub mod laws;
 mod search;
-mod source;
+mod waiting;
 
 use gix_commitgraph::Graph;
 use gix_hash::ObjectId;

@@ -5,12 +5,13 @@ ghost use Rattle.gix_hash.specs.declared.ObjectId.{ObjectId};
 ghost use Rattle.gix_revwalk.specs.Agreeing.{rows_in};
 ghost use Rattle.gix_contained.specs.Inside.Search.{AskFails, AskedId, AreAsked, AreLookedUp, IsLowest, Decides, SearchFails, Meets, MeetFails, Follows, FollowFails};
 
-use crate::source::{Key, Named, Source, Waiting};
+use crate::waiting::{Key, Waiting, look_up};
 use gix_commitgraph::Graph;
 use gix_hash::ObjectId;
 use gix_hash::hashtable::IdSet;
 use gix_object::find::Find;
 use gix_paint::Hidden;
+use gix_paint::source::{Named, Source};
 use gix_revwalk::queue::PriorityQueue;
 use gix_revwalk::row::{NOWHERE, Near};
 use std::alloc::Global;
@@ -29,16 +30,10 @@ pub(super) fn look_up_all<'a, F: Find>(
     ensures ok { IfOk result (AreLookedUp (F.objects objects.now) (rows_in graph.entry) ids.now) }
     ensures fault { IfErr result (AskFails (F.objects objects.now) (F.faulty objects.now) (rows_in graph.entry) ids.now) }
 {
-    let mut source = Source {
-        objects,
-        graph,
-        in_use: true,
-        text: Vec::new(alloc),
-        alloc,
-    };
+    let mut source = Source::new(alloc, objects, graph);
     let mut asked = AskedIds::new(alloc);
     for id in ids {
-        let (key, _) = source.look_up(*id, NOWHERE)?;
+        let (key, _) = look_up(&mut source, *id, NOWHERE)?;
         asked.insert(Reverse(key.generation), *id)?;
     }
     Ok(asked)
@@ -78,7 +73,7 @@ impl<'a, F: Find> Search<'a, F> {
         if !self.met.insert(id)? {
             return Ok(());
         }
-        let (key, waiting) = self.source.look_up(id, near)?;
+        let (key, waiting) = look_up(&mut self.source, id, near)?;
         self.queue.insert(key, waiting)?;
         Ok(())
     }
@@ -100,7 +95,7 @@ impl<'a, F: Find> Search<'a, F> {
         ensures ok { IfOk result (λ _. Follows F.objects waiting self.old self.new) }
         ensures fault { IfErr result (FollowFails F.objects F.faulty waiting self.old) }
     {
-        let Named { parent_ids, near } = self.source.parents(waiting)?;
+        let Named { parent_ids, near } = waiting.parents(&mut self.source)?;
         self.meet_all(parent_ids.as_slice(), near)
     }
 }
@@ -121,13 +116,7 @@ pub(super) fn reached<'a, F: Find>(
         → SearchFails (F.objects objects.now) (F.faulty objects.now) (rows_in graph.entry) tips.now ids why) }
 {
     let mut search = Search {
-        source: Source {
-            objects,
-            graph,
-            in_use: true,
-            text: Vec::new(alloc),
-            alloc,
-        },
+        source: Source::new(alloc, objects, graph),
         met: IdSet::new(alloc, objects.keys()),
         queue: PriorityQueue::new(alloc),
     };

@@ -52,7 +52,7 @@ target_met parents tips target met (passed n empty) = (λ e. cc, λ r. absurd (n
 
 pub tells_reach : (objects : Objects) (rows : List GraphRow) (tips : List ObjectId) (target : ObjectId) (met : List ObjectId) (any : Bool) → SelectsContained objects rows tips (target ∷ []) met → any ≡ not (length met == 0) → TellsReach objects rows tips target any
 tells_reach objects rows tips target met any selects is = λ agreeing.
-    subst (λ b. (b ≡ true) ↔ Reaches (parents_of objects) tips target) (sym is) (target_met (parents_of objects) tips target met (selects.exact objects (own_history objects (λ i. ⊥) rows agreeing)))
+    subst (λ b. (b ≡ true) ↔ Reaches (parents_of objects) tips target) (sym is) (target_met (parents_of objects) tips target met (selects.exact objects (own_history objects rows agreeing)))
 
 pub reaching_fails : {T : Type 0} (objects : Objects) (faulty : ObjectId → Type 0) (rows : List GraphRow) (tips : List ObjectId) (target : ObjectId) (result : Result T Error) (e : Error) (f : ContainedError) → result ≡ Err e → e ≡ error_of_contained f
     → (f ≢ contained_error.Memory → ContainedFails objects faulty rows tips (target ∷ []) f) → IfErr result (λ e. e ≢ error.Memory → FailsBy objects faulty rows target tips e)
@@ -64,5 +64,5 @@ reaching_fails {T} objects faulty rows tips target result e f same is h = subst 
       id = r.1.id;
       fault = r.1.fault;
       reached = ⊎_elim (λ m. start (subst (Contains (target ∷ tips)) (only_member target r.1.id m) (Contains-here target tips)))
-          (reach_more (parents_of objects) tips (target ∷ tips) (λ j m. Contains-there j target tips m) r.1.id) (r.1.reached objects (own_history objects faulty rows agreeing));
+          (reach_more (parents_of objects) tips (target ∷ tips) (λ j m. Contains-there j target tips m) r.1.id) (r.1.reached objects (own_history objects rows agreeing));
     })

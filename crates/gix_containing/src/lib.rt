@@ -29,7 +29,7 @@ use std::alloc::{AllocError, Global};
 /// where a commit-graph has that. So many tips cost no more than a few. Only in a history with a cycle through the target, which ids that
 /// are hashes never have, may such a tip reach it: then each tip is looked at alone.
 ///
-/// All that the target and the tips reach is read, as far as a commit-graph doesn't decide before: its rows are copied once, for the walk.
+/// All that the target and the tips reach is read, as far as a commit-graph doesn't decide before.
 /// Without tips nothing is read.
 ///
 /// ```text

@@ -203,7 +203,7 @@ impl Known {
         Some(true)
     }
 
-    /// A search has read its parents. Whether one had before.
+    /// Notes that a search has met all its parents, and says whether one had done so before.
     fn finish(&mut self, side: Side) -> bool
         ensures before { result ≡ (is_done self.old.tips || is_done self.old.ends) }
         ensures done { self.new ≡ with_progress side progress.Done self.old }
@@ -414,7 +414,7 @@ impl Frontier {
         Ok(())
     }
 
-    /// An id whose parents were all met. Whether a search had read them before.
+    /// Notes that a search has met all parents of an id, and says whether one had done so before.
     ///
     /// # Errors
     ///

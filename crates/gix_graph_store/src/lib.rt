@@ -37,6 +37,7 @@ impl<F: Find> Find for WithRows<'_, F> {
 
     ghost faulty = { λ s. F.faulty s.store };
 
+    #[inline(always)]
     fn find_into(&self, id: &ObjectId, buf: &mut Vec<u8>) -> Result<Option<Kind>, Error> {
         if let Some(kind) = self.store.find_into(id, buf)? {
             return Ok(Some(kind));

@@ -75,6 +75,7 @@ impl IdSet {
         !self.ids.is_empty() && self.take_out(id)
     }
 
+    /// A call of its own, so that the test for none is inlined.
     fn take_out(&mut self, id: &ObjectId) -> bool
         ensures removed { result ≡ set.contains self.old id.now }
         ensures set { self.new ≡ set.remove self.old id.now }
@@ -147,6 +148,7 @@ impl<T> IdMap<T> {
         self.look_up(id)
     }
 
+    /// A call of its own, so that the test for none is inlined.
     fn look_up(&self, id: &ObjectId) -> Option<&T>
         ensures { option_copied result ≡ map.get self.now id.now }
     {

@@ -200,7 +200,7 @@ module _ {F P : Type 0} (objects : F → Objects) (faulty : F → ObjectId → T
       there = subst (λ s. Reaches (parents_of (objects s)) (starts_of w) i) (sym r.same_store) (below_starts w r i n)
 
       go : (o : Option GraphRow) → row_of w.rows i ≡ o → ReadsWhole (objects store) i
-      go None e = subst (λ s. ReadsWhole (objects s) i) r.same_store (whole_from (objects w.store) i (p.rowless (objects w.store) (own_history (objects w.store) (faulty w.store) w.rows agrees) i there e))
+      go None e = subst (λ s. ReadsWhole (objects s) i) r.same_store (whole_from (objects w.store) i (p.rowless (objects w.store) (own_history (objects w.store) w.rows agrees) i there e))
       go (Some row) e = let k : Contains w.rows row × (i ≡ row.id) = row_stands w.rows i row e in subst (ReadsWhole (objects store)) (sym k.1) (r.rows row k.0).whole
 
   first_called : (w : SimpleWalk F P) → IsReady w → {o : Option (Result Info WalkError)} {new : SimpleWalk F P} → FirstStep objects faulty answers (record w { begun = true }) o new → IsGood o new
@@ -219,7 +219,7 @@ module _ {F P : Type 0} (objects : F → Objects) (faulty : F → ObjectId → T
     is = refl;
     id = f.id;
     fault = subst (λ s. IsFaultAt (objects s) (faulty s) f.id why) r.same_store f.fault;
-    reached = starts_below w r f.id (subst (λ s. Reaches (parents_of (objects s)) (starts_of w) f.id) r.same_store (f.reached (objects w.store) (own_history (objects w.store) (faulty w.store) w.rows (subst (λ s. IsAgreeing (objects s) w.rows) (sym r.same_store) r.rows))));
+    reached = starts_below w r f.id (subst (λ s. Reaches (parents_of (objects s)) (starts_of w) f.id) r.same_store (f.reached (objects w.store) (own_history (objects w.store) w.rows (subst (λ s. IsAgreeing (objects s) w.rows) (sym r.same_store) r.rows))));
   }
   first_called w r (no_memory some behind left) = λ ne. absurd (ne refl)
 

@@ -42,7 +42,7 @@ module _ (objects : Objects) (faulty : ObjectId → Type 0) (rows : List GraphRo
   finds reached bases marks reads selects collects moved up = record {
     bases_are = λ agreeing.
         bases_left (parents_of objects) one others common (met.first agreeing) reached marks bases
-        (subst (λ xs. AreContained (parents_of objects) xs common reached) (reads agreeing) (selects.exact objects (own_history objects faulty rows agreeing))) collects moved up;
+        (subst (λ xs. AreContained (parents_of objects) xs common reached) (reads agreeing) (selects.exact objects (own_history objects rows agreeing))) collects moved up;
     read = met.read;
   }
 
@@ -68,7 +68,7 @@ module _ (objects : Objects) (faulty : ObjectId → Type 0) (rows : List GraphRo
     pub fails_reading : (f : Error) → e ≡ f → (f ≢ error.Memory → ReadFailsAmong objects faulty common f) → FailsSo
     fails_reading f is h = so (λ ne agreeing.
         let r : ReadFailsAmong objects faulty common f = h (λ m. ne (is ∙ m)) in
-        record { why = r.2.0; is = is ∙ r.2.2; id = r.0; fault = r.2.1; reached = common_below agreeing r.0 r.1 })
+        record { why = r.2; is = is ∙ r.4; id = r.0; fault = r.3; reached = common_below agreeing r.0 r.1 })
 
     -- what they reach couldn't be read
     pub fails_reaching : (f : ContainedError) → e ≡ error_of_contained f → ReadsOthers objects rows common parents → (f ≢ contained_error.Memory → ContainedFails objects faulty rows parents common f) → FailsSo
@@ -79,7 +79,7 @@ module _ (objects : Objects) (faulty : ObjectId → Type 0) (rows : List GraphRo
           is = is ∙ ap error_of_contained r.2 ∙ by_contained r.0;
           id = r.1.id;
           fault = r.1.fault;
-          reached = ⊎_elim (common_below agreeing r.1.id) (reaches_from (parents_of objects) parents (one ∷ others) (parents_below agreeing reads) r.1.id) (r.1.reached objects (own_history objects faulty rows agreeing));
+          reached = ⊎_elim (common_below agreeing r.1.id) (reaches_from (parents_of objects) parents (one ∷ others) (parents_below agreeing reads) r.1.id) (r.1.reached objects (own_history objects rows agreeing));
         })
 
 -- no common ancestor was found

@@ -10,8 +10,8 @@ ghost use Rattle.gix_hash.specs.Id.{id_cmp};
 ghost use Rattle.gix_merge_base.specs.declared.Error.TheVariants as error;
 ghost use Rattle.gix_merge_base.specs.Bases.{FindsBases, FailsBy};
 ghost use Rattle.gix_revwalk.specs.Asking.{accepts_all};
-ghost use Rattle.gix_merge_base.specs.Inside.Steps.{StartsFrom, Gathers, GatherFails, MeetsFirst, ReadsParents, ReadFails, OthersOf, ReadsOthers, ReadFailsAmong, Collects};
-ghost use Rattle.gix_revwalk.specs.Agreeing.{rows_in, rows_of};
+ghost use Rattle.gix_merge_base.specs.Inside.Steps.{StartsFrom, Gathers, GatherFails, MeetsFirst, OthersOf, ReadsOthers, ReadFailsAmong, Collects};
+ghost use Rattle.gix_revwalk.specs.Agreeing.{rows_in};
 ghost use Rattle.gix_revwalk.specs.Ids.{new_ids};
 
 pub mod laws;
@@ -23,9 +23,9 @@ use gix_hash::{Keys, ObjectId};
 use gix_object::decode;
 use gix_object::find::{Find, existing_iter};
 use gix_paint::Hidden;
-use gix_revwalk::read::find_parents;
-use gix_revwalk::row::{NOWHERE, read_row};
-use gix_revwalk::{Info, ParentIds, Unfiltered};
+use gix_paint::source::{Named, Source};
+use gix_revwalk::row::{NOWHERE, copy_of};
+use gix_revwalk::{Info, Unfiltered};
 use gix_simple::Simple;
 use std::alloc::{AllocError, Global};
 use thiserror::Error;
@@ -54,16 +54,6 @@ impl From<existing_iter::Error> for Error {
             existing_iter::Error::Memory => Error::Memory,
             e => Error::Find(e),
         }
-    }
-}
-
-impl From<decode::Error> for Error {
-    ghost use Rattle.gix_merge_base.specs.declared.Error.TheVariants as error;
-
-    ghost from_gives = { λ e r. r ≡ error.ObjectDecode e };
-
-    fn from(e: decode::Error) -> Error {
-        Error::ObjectDecode(e)
     }
 }
 
@@ -125,8 +115,8 @@ impl From<AllocError> for Error {
 /// They are what `git merge-base --all ONE OTHER..` prints, which puts the newest first. Here they come in rising order of their ids.
 /// Without others there is none.
 ///
-/// All that `one` and the others reach is read, as far as a commit-graph doesn't decide before: its rows are copied once, for the walk.
-/// A corrupt row is read from the store.
+/// All that `one` and the others reach is read, as far as a commit-graph doesn't decide before.
+/// Behind a corrupt row commits are read from the store.
 ///
 /// ```text
 /// 1----2----4 <- one
@@ -182,16 +172,6 @@ fn first_common<F: Find>(
     let Gathered { only, named } = gather(alloc, objects.keys(), others, walk)?;
     let common = new_among(alloc, only, &named)?;
     Ok(common)
-}
-
-/// The rows again, for a walk to hold.
-fn copy_of(graph: Option<&Graph>) -> Result<Option<Graph>, AllocError>
-    ensures { IfOk result (λ copy. rows_of copy ≡ rows_in graph.entry) }
-{
-    match graph {
-        Some(graph) => Ok(Some(graph.copy()?)),
-        None => Ok(None),
-    }
 }
 
 /// A walk over what the others reach and `one` doesn't, through all parents and breadth first. Its first step reads all that `one` and the
@@ -290,9 +270,10 @@ fn other_parents<F: Find>(
     ensures ok { IfOk result (λ those. ReadsOthers (F.objects objects.now) (rows_in graph.entry) ids.now those.items) }
     ensures err { IfErr result (λ e. e ≢ error.Memory → ReadFailsAmong (F.objects objects.now) (F.faulty objects.now) ids.now e) }
 {
+    let mut source = Source::new(alloc, objects, graph);
     let mut those = Vec::new(alloc);
     for id in ids {
-        let parent_ids = parents_at(alloc, id, objects, graph)?;
+        let Named { parent_ids, .. } = source.parents(id, NOWHERE)?;
         push_others(id, parent_ids.as_slice(), &mut those)?;
     }
     Ok(those)
@@ -308,23 +289,4 @@ fn push_others(id: &ObjectId, ids: &[ObjectId], those: &mut Vec<ObjectId>) -> Re
         }
     }
     Ok(())
-}
-
-/// The parents of a commit: those of its row where it has one that isn't corrupt, else those that the store says.
-fn parents_at<F: Find>(
-    alloc: Global,
-    id: &ObjectId,
-    objects: &F,
-    graph: Option<&Graph>,
-) -> Result<ParentIds, Error>
-    ensures ok { IfOk result (λ ids. ReadsParents (F.objects objects.now) (rows_in graph.entry) id.now ids.items) }
-    ensures err { IfErr result (λ e. e ≢ error.Memory → ReadFails (F.objects objects.now) (F.faulty objects.now) id.now e) }
-{
-    let mut in_use = true;
-    if let Some(row) = read_row(alloc, graph, &mut in_use, id, NOWHERE)? {
-        return Ok(row.parent_ids);
-    }
-    let mut text = Vec::new(alloc);
-    let read = find_parents(alloc, objects, id, &mut text)?;
-    Ok(read?)
 }

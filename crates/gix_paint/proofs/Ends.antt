@@ -1,11 +1,11 @@
 -- Painting ends: each turn leaves less room for entries.
-use Rattle.std.proofs.Common.{Bor, ◌≡◌, ◌≤◌, suc, List, [], ◌++◌, map, length, true, is_some, Option, Some, None, Contains, flat_map, refl, sym, ap, subst, ⊎_elim, ◌∙◌, arith}
+use Rattle.std.proofs.Common.{Bool, ◌≡◌, ◌≤◌, suc, List, [], ◌++◌, map, length, true, is_some, Option, Some, None, Contains, flat_map, refl, sym, ap, subst, ⊎_elim, ◌∙◌, arith}
 use Rattle.std.proofs.lemmas.Bool.{or_left, or_right}
-use Rattle.gix_paint.proofs.Common.{length_permutation, ObjectId, is_among, Object, Objects, GraphRow, QueueEntry, Painter, parents_of, commit_of_object, is_hidden, graph_in_use, Reads, ReadsParents, by_row, by_store, drops}
-use Rattle.gix_paint.proofs.Common.{Takes, Pops, room, new_ids, ids_at, among-append, among_from, no_member}
+use Rattle.gix_paint.proofs.Common.{length_permutation, ObjectId, is_among, Object, Objects, GraphRow, QueueEntry, Painter, parents_of, commit_of_object, is_hidden, Reads, ReadsParents, by_row, by_store, drops}
+use Rattle.gix_paint.proofs.Common.{Takes, Pops, room, new_ids, among-append, among_from, no_member}
 use Rattle.std.specs.FinMap as map_of
 use Rattle.gix_paint.proofs.Invariant.{reads_parents, IsSafe}
-use Rattle.gix_paint.proofs.Turn.{IsTurn, read_row, stored}
+use Rattle.gix_paint.proofs.Turn.{IsTurn, given}
 use Rattle.gix_revwalk.proofs.NewIds.{among_flat}
 use Rattle.gix_revwalk.proofs.Rows.{found_entry, ids_in_rows}
 
@@ -24,12 +24,10 @@ among_parents objects rows c ids r i m =
         (among_from i _ (subst (λ xs. Contains xs i) (reads_parents objects c ids r) m))
 
 module _ {F : Type 0} (objects : F → Objects) (store : F) (rows : List GraphRow) {w v : Painter F} (top : QueueEntry) (pops : Pops w top v) (safe : IsSafe objects store rows w) where
-  named : {ids : List ObjectId} {after : Option (Bor (List GraphRow))} → ReadsParents (objects v.source.objects.now) (graph_in_use v.source) top.1.id ids after → (i : ObjectId) → Contains ids i → is_among i (names (objects store) rows) ≡ true
-  named {ids} (by_row {row = row} e f) i m =
-      let k = read_row objects store (objects store) rows [] [] top pops safe row e in
-      among-append i (map (λ row. row.id) rows) _ ∙ or_left _ _ (ids_in_rows rows row.parents ids (ap (λ rs. ids_at rs row.parents) (sym k.0) ∙ f) i m)
-  named {ids} (by_store e r) i m = among_parents (objects store) rows top.1.id ids (stored objects store (objects store) rows [] [] top pops safe r) i m
-  named {ids} (drops e f r) i m = among_parents (objects store) rows top.1.id ids (stored objects store (objects store) rows [] [] top pops safe r) i m
+  named : {ids : List ObjectId} {in_use after : Bool} → ReadsParents (objects store) rows in_use top.1.id ids after → (i : ObjectId) → Contains ids i → is_among i (names (objects store) rows) ≡ true
+  named {ids} (by_row {row = row} e f) i m = among-append i (map (λ row. row.id) rows) _ ∙ or_left _ _ (ids_in_rows rows row.parents ids f i m)
+  named {ids} (by_store n r) i m = among_parents (objects store) rows top.1.id ids r i m
+  named {ids} (drops d r) i m = among_parents (objects store) rows top.1.id ids r i m
 
   room_takes : {mid : Painter F} (ids : List ObjectId) → Takes v top mid → suc (room ids mid) ≡ room ids w
   room_takes {mid} ids takes =
@@ -42,5 +40,5 @@ module _ {F : Type 0} (objects : F → Objects) (store : F) (rows : List GraphRo
   pub turn_less : {new : Painter F} → IsTurn objects top pops new → suc (room (names (objects store) rows) new) ≤ room (names (objects store) rows) w
   turn_less {new} t =
       let same = room_takes (names (objects store) rows) t.takes in
-      let less : room (names (objects store) rows) new ≤ room (names (objects store) rows) t.mid = t.met.spends (names (objects store) rows) (λ i c. ⊎_elim (λ g. named g.1 i c) (λ n. absurd (no_member i (subst (λ xs. Contains xs i) n.1 c))) t.gives) in
+      let less : room (names (objects store) rows) new ≤ room (names (objects store) rows) t.mid = t.met.spends (names (objects store) rows) (λ i c. ⊎_elim (λ g. named g.1 i c) (λ n. absurd (no_member i (subst (λ xs. Contains xs i) n.1 c))) (given objects store (objects store) rows [] [] top pops safe t)) in
       omega arith

@@ -1,9 +1,9 @@
 -- What holds while hidden tips are painted, and what each step keeps of it.
-use Rattle.std.proofs.Common.{◌≡◌, ◌≢◌, ◌⊎◌, List, ◌&&◌, Option, Some, None, Contains, IsSome, refl, sym, ap, subst, inl, inr, ⊎_elim, ◌∙◌, arith}
+use Rattle.std.proofs.Common.{◌≡◌, ◌≢◌, ◌⊎◌, List, [], true, if◌then◌else◌, ◌&&◌, Option, Some, None, Contains, IsSome, refl, sym, ap, subst, inl, inr, ⊎_elim, ◌∙◌, arith}
 use Rattle.std.specs.FinMap as map_of
 use Rattle.std.specs.FinSet as set
 use Rattle.gix_paint.proofs.Common.{ObjectId, id_cmp, Objects, GraphRow, row_of, Side, Painter, QueueEntry, parents_of, parents_in, IsHistory, DropsBy, AllMarks, hides, is_hidden, mark_of, Becomes}
-use Rattle.gix_paint.proofs.Common.{stays, shows, covers, graph_in_use, Reads, IsQueued, IsWaiting, IsTidy, Meets, Reaches, id_total, id_apart}
+use Rattle.gix_paint.proofs.Common.{stays, shows, covers, rows_used, Reads, IsQueued, IsWaiting, IsTidy, Meets, Reaches, id_total, id_apart}
 use Rattle.gix_paint.specs.declared.Side.TheVariants as side
 use Rattle.gix_revwalk.specs.Agreeing.{IsAgreeing}
 use Rattle.gix_revwalk.specs.Commits.{commit_at}
@@ -41,8 +41,8 @@ abbrev pub nobody : Side → ObjectId → Type 0
 nobody s i = ⊥
 
 -- a store is a history of the rows that agree with it
-pub own_history : (objects : Objects) (faulty : ObjectId → Type 0) (rows : List GraphRow) → IsAgreeing objects rows → IsHistory objects rows objects
-own_history objects faulty rows agrees = record { agreeing = agrees; read = λ i commit r. r }
+pub own_history : (objects : Objects) (rows : List GraphRow) → IsAgreeing objects rows → IsHistory objects rows objects
+own_history objects rows agrees = record { agreeing = agrees; read = λ i commit r. r }
 
 -- what a store reads is the history's
 pub in_history : {objects history : Objects} {rows : List GraphRow} → IsHistory objects rows history → (i : ObjectId) (ids : List ObjectId) → Reads objects i ids → Reads history i ids
@@ -50,27 +50,31 @@ in_history h i ids r = (r.0, h.read i r.0 r.1, r.2)
 
 -- what waits on a side still waits after ids were met, but for a visible one that is hidden now
 pub waiting_stays : {F : Type 0} {s : Side} {ids : List ObjectId} {p new : Painter F} → Meets s ids p new → (t : Side) (i : ObjectId) → (t ≡ side.Visible → mark_of new i ≢ Some side.Hidden) → IsWaiting p t i → IsWaiting new t i
-waiting_stays m t i shown w = record { entry = w.entry; queued = m.keeps w.entry w.queued; on_side = w.on_side; of_id = w.of_id; ahead = λ v told. m.keeps_ahead i (w.ahead v told) (shown v) }
+waiting_stays m t i shown w = record { entry = w.entry; queued = m.keeps w.entry w.queued; on_side = w.on_side; of_id = w.of_id; in_frontier = λ v told. m.keeps_frontier i (w.in_frontier v told) (shown v) }
 
 -- what holds whatever the rows say
 module _ {F : Type 0} (objects : F → Objects) (store : F) (rows : List GraphRow) where
   abbrev pub RowsInUse : Painter F → Type 0
-  RowsInUse p = rows_in (graph_in_use p.source) ≡ rows
+  RowsInUse p = p.source.in_use ≡ true
 
   pub record IsSafe (p : Painter F) : Type 0 where
     pub same_store : p.source.objects.now ≡ store
-    pub either : (rows_in (graph_in_use p.source) ≡ rows) ⊎ (graph_in_use p.source ≡ None)
+    pub same_rows : rows_in p.source.graph ≡ rows
     pub queued : RowsInUse p → (q : QueueEntry) → Contains p.queue q → IsQueued rows q
+
+  -- rows in use are these
+  pub used : {p : Painter F} → IsSafe p → RowsInUse p → rows_used p.source ≡ rows
+  used {p} safe r = ap (λ b. if b then rows_in p.source.graph else []) r ∙ safe.same_rows
 
   module _ {s : Side} {ids : List ObjectId} {p new : Painter F} (m : Meets s ids p new) where
     pub still_stand : RowsInUse new → RowsInUse p
-    still_stand r = ap (λ source. rows_in (graph_in_use source)) (sym m.source_stays) ∙ r
+    still_stand r = ap (λ source. source.in_use) (sym m.source_stays) ∙ r
 
     pub safe_meets : IsSafe p → IsSafe new
     safe_meets h = record {
       same_store = ap (λ source. source.objects.now) m.source_stays ∙ h.same_store;
-      either = subst (λ source. (rows_in (graph_in_use source) ≡ rows) ⊎ (graph_in_use source ≡ None)) (sym m.source_stays) h.either;
-      queued = λ r q c. ⊎_elim (λ o. h.queued (still_stand r) q o) (λ a. subst (λ rs. IsQueued rs q) (still_stand r) a.2) (m.adds q c);
+      same_rows = ap (λ source. rows_in source.graph) m.source_stays ∙ h.same_rows;
+      queued = λ r q c. ⊎_elim (λ o. h.queued (still_stand r) q o) (λ a. subst (λ rs. IsQueued rs q) (used h (still_stand r)) a.2) (m.adds q c);
     }
 
 module _ {F : Type 0} (objects : F → Objects) (store : F) (history : Objects) (rows : List GraphRow) (tips hidden_tips : List ObjectId) where
@@ -131,7 +135,7 @@ module _ {F : Type 0} (objects : F → Objects) (store : F) (history : Objects) 
       reached = λ q c. ⊎_elim (λ o. h.reached q o) (λ a. subst (λ t. Reaches (parents_of history) (starts_of t) q.1.id) (sym a.1) (reach q.1.id a.0)) (m.adds q c);
       waits = λ q c e. ⊎_elim (λ o. (later (m.marks q.1.id)).hidden_stays (h.waits q o e)) (λ a. (later (m.marks q.1.id)).hidden_now (sym a.1 ∙ e) a.0) (m.adds q c);
       border = λ q c e r. ⊎_elim (λ o. h.border q o e (still_stand objects store rows m r)) (λ a. border (sym a.1 ∙ e) (still_stand objects store rows m r) q.1.id a.0) (m.adds q c);
-      dropped = λ n. h.dropped (λ r. n (ap (λ source. rows_in (graph_in_use source)) m.source_stays ∙ r));
+      dropped = λ n. h.dropped (λ r. n (ap (λ source. source.in_use) m.source_stays ∙ r));
     }
       where
         fact : (i : ObjectId) {a b : Option Side} → Becomes s (Contains ids i) (IsWaiting new s i) a b → mark_of new i ≡ b → Fact busy p i a → Fact nobody new i b

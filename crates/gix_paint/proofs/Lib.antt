@@ -2,16 +2,16 @@
 mod Common
 -- Generations fall from a commit to its parents.
 pub mod Search
--- A commit is read whole, or a fault exists at its id.
-pub mod WholeOrFault
+-- How a commit is read: by its row, or whole from the store.
+pub mod Reading
 -- What is put into the queue, and what comes first of it.
 pub mod Waits
 -- Meeting the ids of a list one by one meets all of them.
 pub mod Meets
 -- What holds while hidden tips are painted.
 pub mod Invariant
--- Each turn keeps the invariant.
-pub mod KeptByTurn
+-- What holds before an entry's turn, and why its row may drop the rows.
+pub mod BeforeTurn
 -- A turn: an entry is taken, its commit is read, its parents are met.
 pub mod Turn
 -- Nothing that waits is above what was taken, and rows that were read had no fault.

@@ -1,7 +1,7 @@
 -- Where painting begins and ends: the marks are whole.
-use Rattle.std.proofs.Common.{Bor, ◌≡◌, ◌≢◌, ◌⊎◌, ◌<◌, ◌≤◌, ℕ, List, [], ◌∷◌, ◌++◌, Bool, true, false, Option, Some, None, Contains, IsSome, is_some, if◌then◌else◌, refl, sym, ap, subst, inl, inr, ⊎_elim, ◌∙◌, arith}
+use Rattle.std.proofs.Common.{Bor, ◌≡◌, ◌≢◌, ◌⊎◌, ◌<◌, ◌≤◌, ℕ, List, [], ◌∷◌, ◌++◌, Bool, true, false, ◌&&◌, Option, Some, None, Contains, IsSome, is_some, if◌then◌else◌, refl, sym, ap, subst, inl, inr, ⊎_elim, ◌∙◌, arith}
 use Rattle.gix_paint.proofs.Common.{Contains-append_cases, ObjectId, id_cmp, Objects, GraphRow, row_of, Side, Told, Infinite, QueueEntry, Painter, IsHistory, IsOpenBelow, IsRead, shown_commit, hidden_commit, generation_in, Paints, parents_of}
-use Rattle.gix_paint.proofs.Common.{IsAtBoundary, Reaches, start, step, hidden_of, mark_of, graph_in_use, IsWaiting, IsSettled, is_told, Meets, no_member, Contains-here}
+use Rattle.gix_paint.proofs.Common.{IsAtBoundary, Reaches, start, step, hidden_of, mark_of, IsWaiting, IsSettled, is_told, Meets, no_member, Contains-here}
 use Rattle.std.specs.FinMap as map_of
 use Rattle.std.specs.FinSet as set
 use Rattle.gix_paint.specs.declared.Side.TheVariants as side
@@ -10,7 +10,7 @@ use Rattle.gix_revwalk.specs.Agreeing.{IsCorrupt}
 use Rattle.gix_revwalk.specs.Commits.{commit_at}
 use Rattle.gix_paint.specs.Inside.Painter.{rows_in}
 use Rattle.gix_paint.proofs.Invariant.{contains-hidden, later, nobody, RowsInUse, IsOutside, WasRead, IsSafe, Fact, Stands, IsStarted, stands_meets, safe_meets}
-use Rattle.gix_paint.proofs.KeptByTurn.{HasGeneration, one_generation, told_row, hidden_from, falls, below, waits_above}
+use Rattle.gix_paint.proofs.BeforeTurn.{HasGeneration, one_generation, told_row, hidden_from, falls, below, waits_above}
 use Rattle.gix_paint.proofs.Order.{IsAbove, IsOrdered, HoldsOf, ordered_start}
 use Rattle.gix_revwalk.proofs.ReadsWhole.{row_stands}
 use Rattle.gix_revwalk.proofs.Rows.{IsSoundRow}
@@ -25,7 +25,8 @@ module _ {F : Type 0} (objects : F → Objects) (store : F) (history : Objects) 
   -- a painter that has marked nothing
   pub record IsBlank (p : Painter F) : Type 0 where
     pub same_store : p.source.objects.now ≡ store
-    pub graph : rows_in (graph_in_use p.source) ≡ rows
+    pub same_rows : rows_in p.source.graph ≡ rows
+    pub in_use : RowsInUse objects store rows p
     pub marks : p.marks ≡ map_of.empty
     pub frontier : p.frontier ≡ set.empty
     pub queue : p.queue ≡ []
@@ -35,7 +36,7 @@ module _ {F : Type 0} (objects : F → Objects) (store : F) (history : Objects) 
     none_queued q c = absurd (no_member q (subst (λ qs. Contains qs q) blank.queue c))
 
     pub safe_blank : IsSafe objects store rows p
-    safe_blank = record { same_store = blank.same_store; either = inl blank.graph; queued = λ r q c. none_queued q c }
+    safe_blank = record { same_store = blank.same_store; same_rows = blank.same_rows; queued = λ r q c. none_queued q c }
 
     unmet : (i : ObjectId) → mark_of p i ≡ None
     unmet i = ap (λ m. map_of.get m i) blank.marks ∙ map_of.get-empty id_cmp i
@@ -47,7 +48,7 @@ module _ {F : Type 0} (objects : F → Objects) (store : F) (history : Objects) 
       reached = λ q c. none_queued q c;
       waits = λ q c. none_queued q c;
       border = λ q c. none_queued q c;
-      dropped = λ n. absurd (n blank.graph);
+      dropped = λ n. absurd (n blank.in_use);
     }
 
     -- the visible tips are met first, and then the hidden ones
@@ -76,7 +77,7 @@ module _ {F : Type 0} (objects : F → Objects) (store : F) (history : Objects) 
     shown_none : (i : ObjectId) → IsWaiting p side.Visible i → ⊥
     shown_none i w =
         ⊎_elim (λ none. no_member w.entry (subst (λ qs. Contains qs w.entry) none w.queued))
-        (λ s. let none : true ≡ false = sym (w.ahead refl (s.2 w.entry w.queued)) ∙ ap (λ f. set.contains f i) (set.empty_of_len p.frontier s.1) ∙ set.contains-empty id_cmp i in cc) settled
+        (λ s. let none : true ≡ false = sym (w.in_frontier refl (s.2 w.entry w.queued)) ∙ ap (λ f. set.contains f i) (set.empty_of_len p.frontier s.1) ∙ set.contains-empty id_cmp i in cc) settled
 
     -- an id that was read for visible tips, and the parents of which are met
     abbrev IsReadOnce : ObjectId → Type 0
@@ -92,18 +93,14 @@ module _ {F : Type 0} (objects : F → Objects) (store : F) (history : Objects) 
         go (Some side.Visible) e k = inl (⊎_elim (λ w. absurd (shown_none i w)) (λ r. (e, k.0, ⊎_elim (λ b. absurd b) (λ all. all) r.0, r.1, r.2)) k.1)
         go (Some side.Hidden) e k = inr (e, k)
 
-    -- the rows are in use where the queue isn't empty
-    in_use : IsSome (graph_in_use p.source) → RowsInUse objects store rows p
-    in_use some = ⊎_elim (λ r. r) (λ n. let none : true ≡ false = sym some ∙ ap is_some n in cc) safe.either
-
     module _ (known : IsHistory (objects store) rows history) (h : Holds p) (started : Started p) where
       -- what waits has a row, and what it reaches has one
       rowed : (q i : ObjectId) → IsWaiting p side.Hidden q → Reaches (parents_of history) (q ∷ []) i → RowsInUse objects store rows p × (row : GraphRow) × (row_of rows i ≡ Some row)
       rowed q i w path =
           ⊎_elim (λ none. absurd (no_member w.entry (subst (λ qs. Contains qs w.entry) none w.queued))) (λ s.
           let k : (n : ℕ) × (w.entry.0 ≡ Told n) = told_some w.entry.0 (s.2 w.entry w.queued) in
-          let b = below objects store history rows tips hidden_tips known q k.0 (subst (λ j. HasGeneration rows j k.0) w.of_id (told_row rows w.entry (safe.queued (in_use s.0) w.entry w.queued) k.0 k.1)) i path in
-          (in_use s.0, b.1.0, b.1.1)) settled
+          let b = below objects store history rows tips hidden_tips known q k.0 (subst (λ j. HasGeneration rows j k.0) w.of_id (told_row rows w.entry (safe.queued s.0 w.entry w.queued) k.0 k.1)) i path in
+          (s.0, b.1.0, b.1.1)) settled
         where
           told_some : (g : Generation) → is_told g ≡ true → (n : ℕ) × (g ≡ Told n)
           told_some (Told n) e = (n, refl)
@@ -192,13 +189,11 @@ module _ {F : Type 0} (objects : F → Objects) (store : F) (history : Objects) 
             (hidden_from objects store history rows tips hidden_tips p h started i reached)
 
 module _ {F : Type 0} (objects : F → Objects) (store : F) (rows : List GraphRow) (tips hidden_tips : List ObjectId) (p : Painter F) (safe : IsSafe objects store rows p) (settled : IsSettled p) where
-  abbrev Left : List GraphRow
-  Left = if is_some (graph_in_use p.source) then rows else []
-
   -- what painting gives
-  pub paints : ((history : Objects) → IsHistory (objects store) rows history → HoldsOf objects store history rows tips hidden_tips p) → Paints (objects store) rows tips hidden_tips (hidden_of p.marks) Left
-  paints holds = record {
-    rows_left = either_rows (is_some (graph_in_use p.source));
+  pub paints : (b : Bool) → b ≡ (p.source.in_use && is_some p.source.graph) → ((history : Objects) → IsHistory (objects store) rows history → HoldsOf objects store history rows tips hidden_tips p)
+      → Paints (objects store) rows tips hidden_tips (hidden_of p.marks) (if b then rows else [])
+  paints b told holds = record {
+    rows_left = either_rows b;
     rowless = λ history known i r e.
         let k = holds history known in
         all_read objects store history rows tips hidden_tips p safe settled known k.0 k.1 i r e;
@@ -207,17 +202,21 @@ module _ {F : Type 0} (objects : F → Objects) (store : F) (rows : List GraphRo
         record {
           sound = sound objects store history rows tips hidden_tips p safe settled known k.0 k.1;
           whole = whole objects store history rows tips hidden_tips p safe settled known k.0 k.1;
-          drops = λ gone. k.0.dropped (λ stands. gone (still (graph_in_use p.source) refl stands));
-          keeps = λ left. keeps objects store history rows tips hidden_tips p safe settled known k.0 k.1 k.2 (stood left);
+          drops = λ gone. k.0.dropped (λ used. gone (left b p.source.graph refl (told ∙ ap (λ u. u && is_some p.source.graph) used)));
+          keeps = λ kept i row e. keeps objects store history rows tips hidden_tips p safe settled known k.0 k.1 k.2 (used b told kept i row e p.source.in_use refl) i row e;
         };
   }
     where
       either_rows : (b : Bool) → ((if b then rows else []) ≡ rows) ⊎ ((if b then rows else []) ≡ [])
       either_rows b = grind arith
 
-      still : (o : Option (Bor (List GraphRow))) → graph_in_use p.source ≡ o → RowsInUse objects store rows p → Left ≡ rows
-      still None e stands = ap (λ g. if is_some g then rows else []) e ∙ sym (ap rows_in e) ∙ stands
-      still (Some graph) e stands = ap (λ g. if is_some g then rows else []) e
+      left : (b : Bool) (graph : Option (Bor (List GraphRow))) → p.source.graph ≡ graph → b ≡ is_some p.source.graph → (if b then rows else []) ≡ rows
+      left b None e told = ap (λ b. if b then rows else []) (told ∙ ap is_some e) ∙ sym (ap rows_in e) ∙ safe.same_rows
+      left b (Some graph) e told = ap (λ b. if b then rows else []) (told ∙ ap is_some e)
 
-      stood : Left ≡ rows → RowsInUse objects store rows p
-      stood left = ⊎_elim (λ r. r) (λ n. ap rows_in n ∙ sym (ap (λ g. if is_some g then rows else []) n) ∙ left) safe.either
+      -- rows that are left and have a row are in use
+      used : (b : Bool) → b ≡ (p.source.in_use && is_some p.source.graph) → (if b then rows else []) ≡ rows → (i : ObjectId) (row : GraphRow) → row_of rows i ≡ Some row → (u : Bool) → p.source.in_use ≡ u → p.source.in_use ≡ true
+      used b told kept i row e true u = u
+      used b told kept i row e false u =
+          let none : [] ≡ rows = sym (ap (λ b. if b then rows else []) (told ∙ ap (λ u. u && is_some p.source.graph) u)) ∙ kept in
+          let bad : None ≡ Some row = ap (λ rs. row_of rs i) none ∙ e in cc

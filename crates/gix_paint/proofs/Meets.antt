@@ -3,13 +3,12 @@ use Rattle.std.proofs.Common.{◌≡◌, ◌≢◌, ◌⊎◌, ◌≤◌, ℕ, s
 use Rattle.std.proofs.Common.{arith}
 use Rattle.std.proofs.lemmas.List.{nil_from_length}
 use Rattle.gix_paint.proofs.Common.{Contains-append_left, Contains-append_right, Contains-append_cases, Contains-permutation, IsPermutation-sym, length_permutation, ObjectId, is_same, is_among, Side, QueueEntry, Painter, AllMarks}
-use Rattle.gix_paint.proofs.Common.{hides, is_told, mark_of, Becomes, stays, shows, covers, graph_in_use, IsAhead, IsQueued, IsTidy, IsWaiting, Meets, room}
-use Rattle.gix_paint.proofs.Common.{id_total, same_is, same_itself, Contains-here, Contains-there, Contains-cons_cases, no_member}
+use Rattle.gix_paint.proofs.Common.{hides, is_told, mark_of, Becomes, stays, shows, covers, rows_used, WaitsWithRow, IsQueued, IsTidy, IsWaiting, Meets, room}
+use Rattle.gix_paint.proofs.Common.{id_apart, id_total, same_is, same_itself, Contains-here, Contains-there, Contains-cons_cases, no_member}
 use Rattle.std.specs.FinMap as map_of
 use Rattle.std.specs.FinSet as set
 use Rattle.gix_paint.specs.declared.Side.TheVariants as side
 use Rattle.gix_paint.specs.declared.queue.Generation.{Generation}
-use Rattle.gix_paint.specs.Inside.Painter.{rows_in}
 use Rattle.gix_paint.proofs.Invariant.{later, waiting_stays}
 use Rattle.gix_revwalk.proofs.NewIds.{fresh, fresh_agree, new_less}
 use Rattle.gix_hash.proofs.Lists.{only_member}
@@ -29,6 +28,18 @@ abbrev pub knows : Side → Option Side → Bool
 knows side.Visible o = is_some o
 knows side.Hidden o = hides o
 
+-- to mark an id as it was marked changes nothing
+pub marked_again : (marks : AllMarks) (i : ObjectId) {mark : Side} → map_of.get marks i ≡ Some mark → map_of.insert marks i mark ≡ marks
+marked_again marks i {mark} e = map_of.same_map id_total id_apart _ marks (λ j. let now = map_of.get-insert id_total marks i mark j in let same : is_same j i ≡ true → map_of.get marks j ≡ Some mark = λ s. ap (map_of.get marks) (same_is j i s) ∙ e in grind arith)
+
+-- and so does a mark that is put back
+pub put_back : (marks : AllMarks) (i : ObjectId) (other : Side) {mark : Side} → map_of.get marks i ≡ Some mark → map_of.insert (map_of.insert marks i other) i mark ≡ marks
+put_back marks i other {mark} e = map_of.same_map id_total id_apart _ marks (λ j.
+    let now = map_of.get-insert id_total (map_of.insert marks i other) i mark j in
+    let before = map_of.get-insert id_total marks i other j in
+    let same : is_same j i ≡ true → map_of.get marks j ≡ Some mark = λ s. ap (map_of.get marks) (same_is j i s) ∙ e in
+    grind arith)
+
 -- an id that a side doesn't know is marked for it
 becomes_new : {met queued : Type 0} (on : Side) (o : Option Side) → knows on o ≡ false → met → queued → Becomes on met queued o (Some on)
 becomes_new side.Visible None e m q = shows refl m q
@@ -43,13 +54,17 @@ module _ {F : Type 0} where
     marks = λ j. stays (known j);
     keeps = λ q c. c;
     adds = λ q c. inl c;
-    keeps_ahead = λ j c n. c;
+    keeps_frontier = λ j c n. c;
     tidies = λ t. t;
     spends = λ named h. Rattle.std.proofs.Common.le_refl _;
   }
 
-  pub meets_known : (on : Side) (i : ObjectId) (p : Painter F) → (mark_of p i ≢ None) × (on ≡ side.Hidden → mark_of p i ≡ Some side.Hidden) → Meets on (i ∷ []) p p
+  meets_known : (on : Side) (i : ObjectId) (p : Painter F) → (mark_of p i ≢ None) × (on ≡ side.Hidden → mark_of p i ≡ Some side.Hidden) → Meets on (i ∷ []) p p
   meets_known on i p known = meets_same on (i ∷ []) p (λ j m. subst (λ k. (mark_of p k ≢ None) × (on ≡ side.Hidden → mark_of p k ≡ Some side.Hidden)) (only_member i j m) known)
+
+  -- and may be marked as it was
+  pub meets_again : (on : Side) (i : ObjectId) (p : Painter F) (marks : AllMarks) → marks ≡ p.marks → (mark_of p i ≢ None) × (on ≡ side.Hidden → mark_of p i ≡ Some side.Hidden) → Meets on (i ∷ []) p (record p { marks = marks })
+  meets_again on i p marks same known = subst (λ m. Meets on (i ∷ []) p (record p { marks = m })) (sym same) (meets_known on i p known)
 
   pub meets_none : (on : Side) (p : Painter F) → Meets on [] p p
   meets_none on p = meets_same on [] p (λ j m. absurd (no_member j m))
@@ -59,8 +74,8 @@ module _ {F : Type 0} where
     source_stays = b.source_stays ∙ a.source_stays;
     marks = λ i. becomes_both (Contains-append_cases xs ys i) (Contains-append_left xs ys i) (Contains-append_right xs ys i) (waiting_stays b on i) (a.marks i) (b.marks i);
     keeps = λ q c. b.keeps q (a.keeps q c);
-    adds = λ q c. ⊎_elim (λ o. ⊎_elim (λ e. inl e) (λ n. inr (Contains-append_left xs ys q.1.id n.0, n.1, n.2)) (a.adds q o)) (λ n. inr (Contains-append_right xs ys q.1.id n.0, n.1, subst (λ source. IsQueued (rows_in (graph_in_use source)) q) a.source_stays n.2)) (b.adds q c);
-    keeps_ahead = λ i c n. b.keeps_ahead i (a.keeps_ahead i c (λ e. n ((later (b.marks i)).hidden_stays e))) n;
+    adds = λ q c. ⊎_elim (λ o. ⊎_elim (λ e. inl e) (λ n. inr (Contains-append_left xs ys q.1.id n.0, n.1, n.2)) (a.adds q o)) (λ n. inr (Contains-append_right xs ys q.1.id n.0, n.1, subst (λ source. IsQueued (rows_used source) q) a.source_stays n.2)) (b.adds q c);
+    keeps_frontier = λ i c n. b.keeps_frontier i (a.keeps_frontier i c (λ e. n ((later (b.marks i)).hidden_stays e))) n;
     tidies = λ t. b.tidies (a.tidies t);
     spends = λ named h. Rattle.std.proofs.Math.Nat.le_trans (b.spends named (λ i c. h i (Contains-append_right xs ys i c))) (a.spends named (λ i c. h i (Contains-append_left xs ys i c)));
   }
@@ -97,21 +112,21 @@ module _ {F : Type 0} where
       left_less t e = ap (λ ids. suc (length ids)) (fresh_agree _ _ named (λ j h. let now = marks_now j in grind arith)) ∙ new_less (λ j. f (map_of.get p.marks j)) named i among e
 
     -- where the id is new to the side, it is met; a visible one that has a row is in the frontier then, and a hidden one isn't
-    pub meets_new : knows on (map_of.get p.marks i) ≡ false → IsQueued (rows_in (graph_in_use p.source)) entry
+    pub meets_new : knows on (map_of.get p.marks i) ≡ false → IsQueued (rows_used p.source) entry
         → ((j : ObjectId) → set.contains new.frontier j ≡ cond (is_same j i) (not (hides (Some on)) && (is_told generation || set.contains p.frontier i)) (set.contains p.frontier j)) → Meets on (i ∷ []) p new
     meets_new unknown known frontier = record {
       source_stays = source;
       marks = λ j. becomes j (is_same j i) refl;
       keeps = kept;
-      adds = λ e c. ⊎_elim (λ s. inr (subst (λ x. Contains (i ∷ []) x.1.id × (x.1.side ≡ on) × IsQueued (rows_in (graph_in_use p.source)) x) s (Contains-here i [], refl, known))) (λ o. inl o)
+      adds = λ e c. ⊎_elim (λ s. inr (subst (λ x. Contains (i ∷ []) x.1.id × (x.1.side ≡ on) × IsQueued (rows_used p.source) x) s (Contains-here i [], refl, known))) (λ o. inl o)
           (Contains-cons_cases e entry p.queue (Contains-permutation _ _ e (IsPermutation-sym _ _ queue) c));
-      keeps_ahead = λ j c n. ahead j c n (is_same j i) refl on refl;
+      keeps_frontier = λ j c n. stays_in j c n (is_same j i) refl on refl;
       tidies = λ t j c. tidied t j c (is_same j i) refl on refl;
       spends = λ named h. spent named (h i (Contains-here i [])) on refl;
     }
       where
         waits : IsWaiting new on i
-        waits = record { entry = entry; queued = there; on_side = refl; of_id = refl; ahead = λ v told. let now = frontier i in let same = same_itself i in let visible : hides (Some on) ≡ false = ap (λ s. hides (Some s)) v in grind arith }
+        waits = record { entry = entry; queued = there; on_side = refl; of_id = refl; in_frontier = λ v told. let now = frontier i in let same = same_itself i in let visible : hides (Some on) ≡ false = ap (λ s. hides (Some s)) v in grind arith }
 
         becomes : (j : ObjectId) (b : Bool) → is_same j i ≡ b → Becomes on (Contains (i ∷ []) j) (IsWaiting new on j) (mark_of p j) (mark_of new j)
         becomes j true e =
@@ -119,16 +134,16 @@ module _ {F : Type 0} where
             (becomes_new on (mark_of p j) (ap (λ k. knows on (mark_of p k)) (same_is j i e) ∙ unknown) (subst (Contains (i ∷ [])) (sym (same_is j i e)) (Contains-here i [])) (subst (IsWaiting new on) (sym (same_is j i e)) waits))
         becomes j false e = subst (Becomes on (Contains (i ∷ []) j) (IsWaiting new on j) (mark_of p j)) (sym (let now = marks_now j in grind arith)) (stays (λ m. absurd (other j e m)))
 
-        ahead : (j : ObjectId) → set.contains p.frontier j ≡ true → mark_of new j ≢ Some side.Hidden → (b : Bool) → is_same j i ≡ b → (s : Side) → on ≡ s → set.contains new.frontier j ≡ true
-        ahead j c n false e s v = let now = frontier j in grind arith
-        ahead j c n true e side.Visible v =
+        stays_in : (j : ObjectId) → set.contains p.frontier j ≡ true → mark_of new j ≢ Some side.Hidden → (b : Bool) → is_same j i ≡ b → (s : Side) → on ≡ s → set.contains new.frontier j ≡ true
+        stays_in j c n false e s v = let now = frontier j in grind arith
+        stays_in j c n true e side.Visible v =
             let now = frontier j in
             let was : set.contains p.frontier i ≡ true = ap (set.contains p.frontier) (sym (same_is j i e)) ∙ c in
             let visible : hides (Some on) ≡ false = ap (λ s. hides (Some s)) v in
             grind arith
-        ahead j c n true e side.Hidden v = absurd (n (let now = marks_now j in (let mark : mark_of new j ≡ Some on = grind arith in mark ∙ ap (λ s. Some s) v)))
+        stays_in j c n true e side.Hidden v = absurd (n (let now = marks_now j in (let mark : mark_of new j ≡ Some on = grind arith in mark ∙ ap (λ s. Some s) v)))
 
-        tidied : IsTidy p → (j : ObjectId) → set.contains new.frontier j ≡ true → (b : Bool) → is_same j i ≡ b → (s : Side) → on ≡ s → IsAhead new j
+        tidied : IsTidy p → (j : ObjectId) → set.contains new.frontier j ≡ true → (b : Bool) → is_same j i ≡ b → (s : Side) → on ≡ s → WaitsWithRow new j
         tidied t j c false e s v =
             let now = frontier j in
             let opened = t j (grind arith) in

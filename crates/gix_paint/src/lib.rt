@@ -4,13 +4,15 @@
 ghost use Rattle.std.specs.Prelude.{◌≡◌, ◌≢◌, ◌↔◌, ◌∷◌, [], IsTrue, IfOk, IfErr, OnOk, IfSome, IfNone, if◌then◌else◌};
 ghost use Rattle.std.specs.FinSet as set;
 ghost use Rattle.gix_object.specs.declared.find.existing_iter.Error.TheVariants as existing;
+ghost use Rattle.gix_commitgraph.specs.Rows.{row_of};
 ghost use Rattle.gix_paint.specs.Painting.{IsHiddenFault, Paints};
 ghost use Rattle.gix_revwalk.specs.Ids.{ids_of};
 ghost use Rattle.gix_paint.specs.Inside.Painter as painter;
-ghost use Rattle.gix_paint.specs.Inside.Painter.{rows_in, graph_in_use, Meets, is_turn, Takes, TreatsEntry, ReadFails, IsSettled, Pops};
+ghost use Rattle.gix_paint.specs.Inside.Painter.{rows_in, generation_told, Meets, is_turn, Takes, TreatsEntry, IsSettled, Pops};
+ghost use Rattle.gix_paint.specs.Reading.{rows_used, ReadFails};
 
 mod queue;
-mod source;
+pub mod source;
 
 use gix_commitgraph::Graph;
 use gix_hash::hashtable::{IdMap, IdSet};
@@ -18,8 +20,9 @@ use gix_hash::{Keys, ObjectId};
 use gix_object::decode;
 use gix_object::find::{Find, existing_iter};
 use gix_revwalk::Pending;
+use gix_revwalk::row::NOWHERE;
 use queue::{Entry, Generation, Queue};
-use source::Source;
+use source::{Named, Source};
 use std::alloc::{AllocError, Global};
 use std::collections::VecDeque;
 use std::marker::Model;
@@ -110,11 +113,18 @@ impl HiddenIds {
     }
 }
 
+/// Whether a mark, or None where an id wasn't met, says that a hidden tip reaches its id.
+fn hides(mark: Option<Side>) -> bool
+    ensures { result ≡ painter.hides mark }
+{
+    matches!(mark, Some(Side::Hidden))
+}
+
 /// Whether a hidden tip is known to reach the id.
 fn is_hidden(marks: &IdMap<Side>, id: &ObjectId) -> bool
     ensures { result ≡ painter.is_hidden marks.now id.now }
 {
-    matches!(marks.get(id), Some(Side::Hidden))
+    hides(marks.get(id).copied())
 }
 
 /// What was marked, and what waits to be read.
@@ -129,15 +139,30 @@ struct Painter<'a, F> {
 }
 
 impl<'a, F: Find> Painter<'a, F> {
+    /// The generation in a commit's row, and `Infinite` without one. The places of the row aren't read.
+    fn generation(&self, id: &ObjectId) -> Generation
+        ensures { result ≡ generation_told (row_of (rows_used self.now.source) id.now) }
+    {
+        match self.source.row(id, NOWHERE) {
+            Some(commit) => Generation::Told(commit.generation()),
+            None => Generation::Infinite,
+        }
+    }
+
     /// An id that visible tips reach is queued once. One that is hidden already is left to the hidden side.
+    #[inline(always)]
     fn show(&mut self, id: ObjectId) -> Result<(), AllocError>
         ensures { OnOk result (Meets Side.Visible (id ∷ []) self.old self.new) }
     {
-        if self.marks.get(&id).is_some() {
-            return Ok(());
+        match self.marks.insert(id, Side::Visible)? {
+            None => {}
+            Some(Side::Visible) => return Ok(()),
+            Some(Side::Hidden) => {
+                self.marks.replace(&id, Side::Hidden);
+                return Ok(());
+            }
         }
-        self.marks.insert(id, Side::Visible)?;
-        let generation = self.source.generation(&id);
+        let generation = self.generation(&id);
         if let Generation::Told(_) = generation {
             self.frontier.insert(id)?;
         }
@@ -154,11 +179,10 @@ impl<'a, F: Find> Painter<'a, F> {
     fn hide(&mut self, id: ObjectId) -> Result<(), AllocError>
         ensures { OnOk result (Meets Side.Hidden (id ∷ []) self.old self.new) }
     {
-        if is_hidden(&self.marks, &id) {
+        if hides(self.marks.insert(id, Side::Hidden)?) {
             return Ok(());
         }
-        self.marks.insert(id, Side::Hidden)?;
-        let generation = self.source.generation(&id);
+        let generation = self.generation(&id);
         self.frontier.remove(&id);
         self.queue.insert(
             generation,
@@ -192,20 +216,19 @@ impl<'a, F: Find> Painter<'a, F> {
         Ok(())
     }
 
-    /// Whether an entry that was taken is to be read. Where a hidden tip reached a visible id meanwhile, the hidden side reads it.
+    /// Whether an entry that was taken is to be read. A visible entry that has a row leaves the frontier, and if hidden tips were found to
+    /// reach it meanwhile, the hidden side reads it. Without a row few can be so, since the hidden side goes first.
     fn begins(&mut self, generation: Generation, entry: &Entry) -> bool
-        ensures turn { result ≡ is_turn self.old.marks entry.now }
+        ensures turn { result ≡ is_turn self.old.marks (generation, entry.now) }
         ensures takes { Takes self.old (generation, entry.now) self.new }
-        ensures graph { graph_in_use self.new.source ≡ graph_in_use self.old.source }
+        ensures in_use { self.new.source.in_use ≡ self.old.source.in_use }
     {
-        match entry.side {
-            Side::Visible => {
-                if let Generation::Told(_) = generation {
-                    self.frontier.remove(&entry.id);
-                }
+        match (generation, entry.side) {
+            (Generation::Told(_), Side::Visible) => {
+                self.frontier.remove(&entry.id);
                 !is_hidden(&self.marks, &entry.id)
             }
-            Side::Hidden => true,
+            _ => true,
         }
     }
 
@@ -213,12 +236,12 @@ impl<'a, F: Find> Painter<'a, F> {
     fn treat(&mut self, generation: Generation, entry: Entry) -> Result<(), Hidden>
         ensures ok { IfOk result (λ _. TreatsEntry F.objects self.old (generation, entry) self.new) }
         ensures fault { IfErr result (ReadFails (F.objects self.old.source.objects.now) (F.faulty self.old.source.objects.now)
-            (rows_in (graph_in_use self.old.source)) entry.id) }
+            (rows_in self.old.source.graph) self.old.source.in_use entry.id) }
     {
         if !self.begins(generation, &entry) {
             return Ok(());
         }
-        let parent_ids = self.source.parents(&entry.id)?;
+        let Named { parent_ids, .. } = self.source.parents(&entry.id, NOWHERE)?;
         self.meet_all(parent_ids.as_slice(), entry.side)?;
         Ok(())
     }
@@ -227,13 +250,8 @@ impl<'a, F: Find> Painter<'a, F> {
     fn is_settled(&self) -> bool
         ensures { IsTrue result ↔ IsSettled self.now }
     {
-        if !self.queue.has_rows_alone() {
-            return false;
-        }
-        if self.queue.is_empty() {
-            return true;
-        }
-        self.frontier.is_empty() && self.source.graph_in_use().is_some()
+        self.queue.has_rows_alone()
+            && (self.queue.is_empty() || self.frontier.is_empty() && self.source.in_use)
     }
 
     /// The entry whose turn it is, and None where the painting is settled.
@@ -259,7 +277,7 @@ pub struct Painting {
 
 /// Marks ids that the hidden tips reach, and no others: all such ids that are tips, or parents of a commit that tips reach and hidden
 /// tips don't.
-/// It stops as soon as the rows say that these marks are whole: below, no row is read, and no commit that has one is looked up.
+/// It stops as soon as the rows say that these marks are whole: below, the places of no row are read, and no commit that has one is looked up.
 ///
 /// # Errors
 ///
@@ -279,18 +297,12 @@ pub fn paint<'a, F: Find>(
 {
     let keys = objects.keys();
     let mut painter = Painter {
-        source: Source {
-            objects,
-            graph,
-            in_use: true,
-            text: Vec::new(alloc),
-            alloc,
-        },
+        source: Source::new(alloc, objects, graph),
         marks: IdMap::new(alloc, keys),
         frontier: IdSet::new(alloc, keys),
         queue: Queue::new(alloc),
     };
-    // What is met last is read first: the hidden tips, so that without rows no commit is read twice.
+    // What is met last is read first: the hidden tips. So where there is no graph a commit is read once, but for tips that are hidden.
     painter.show_all(tips)?;
     painter.meet_all(hidden_tips, Side::Hidden)?;
     while let Some((generation, entry)) = painter.next_entry() {
@@ -299,6 +311,6 @@ pub fn paint<'a, F: Find>(
     let Painter { source, marks, .. } = painter;
     Ok(Painting {
         hidden: HiddenIds { marks },
-        rows_in_use: source.graph_in_use().is_some(),
+        rows_in_use: source.uses_rows(),
     })
 }

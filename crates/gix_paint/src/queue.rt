@@ -1,5 +1,5 @@
 //! The commits that wait to be read.
-ghost use Rattle.std.specs.Prelude.{◌≡◌, ◌==◌, [], ◌∷◌, length, IsTrue, ◌↔◌, IfNone, IfSome, OnOk, IsPermutation};
+ghost use Rattle.std.specs.Prelude.{◌≡◌, [], ◌∷◌, IsTrue, ◌↔◌, IfNone, IfSome, OnOk, IsPermutation};
 ghost use Rattle.gix_paint.specs.Inside.Queue.{AreAllTold, IsNoneAbove};
 
 use super::Side;
@@ -66,6 +66,7 @@ impl Queue {
         self.unrowed.is_empty()
     }
 
+    #[inline(always)]
     pub(super) fn insert(&mut self, generation: Generation, entry: Entry) -> Result<(), AllocError>
         ensures { OnOk result (IsPermutation ((generation, entry) ∷ self.old) self.new) }
     {
@@ -76,6 +77,7 @@ impl Queue {
     }
 
     /// Takes out an entry of greatest generation. None where nothing waits.
+    #[inline(always)]
     pub(super) fn pop(&mut self) -> Option<(Generation, Entry)>
         ensures none { IfNone result (self.old ≡ []) }
         ensures some { IfSome result (λ top. IsPermutation self.old (top ∷ self.new)) }

@@ -44,7 +44,7 @@ pub record IsFrontAt (objects : Objects) (i : ObjectId) (ids : List ObjectId) (c
   pub told : committer ≡ first_committer (commit_items (kind_of i) bytes)
 
 -- its parents, if it has a committer, and else the first fault
-pub record ReadsFront (objects : Objects) (i : ObjectId) (read : Result (List ObjectId) DecodeError) : Type 0 where
+pub record ReadsParentIds (objects : Objects) (i : ObjectId) (read : Result (List ObjectId) DecodeError) : Type 0 where
   pub bytes : List ℕ
   pub stored : map_of.get objects i ≡ Some (record { kind = object.Commit; bytes = bytes })
   pub parents : IfOk read (λ ids. ids ≡ (scanned mode.All (commit_items (kind_of i) bytes)).0)

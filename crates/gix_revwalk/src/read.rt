@@ -7,7 +7,7 @@ ghost use Rattle.gix_object.specs.declared.find.existing_iter.Error.TheVariants 
 ghost use Rattle.gix_object.specs.Find.{IsExistingFault};
 ghost use Rattle.gix_revwalk.specs.declared.Parents.TheVariants as mode;
 ghost use Rattle.gix_revwalk.specs.Either.{seconds_told};
-ghost use Rattle.gix_revwalk.specs.Reading.{IsFrontAt, ReadsFront, ReadsHeader};
+ghost use Rattle.gix_revwalk.specs.Reading.{IsFrontAt, ReadsParentIds, ReadsHeader};
 ghost use Rattle.gix_revwalk.specs.Texts.{scanned};
 
 use super::{ParentIds, Parents};
@@ -78,7 +78,7 @@ pub struct Header {
 #[derive(Drop)]
 struct Front<'a> {
     parent_ids: ParentIds,
-    /// Else the first fault, where it comes before a committer, and `Missing` where the items end before both.
+    /// The committer. Else the first fault, where it comes before a committer, and `Missing` where the items end before both.
     committer: Result<Signature<'a>, decode::Error>,
 }
 
@@ -169,19 +169,20 @@ pub fn find_header<F: Find>(
     })
 }
 
-/// Looks a commit up, and reads its parents in one pass over its text to the end of its committer. `text` holds the text then. A commit
-/// without a committer has no parents: the answer is the first fault, or `Missing`.
+/// Looks a commit up, and reads its parents in one pass over its text to the end of its committer. `text` holds the text then.
+/// Where no committer can be read, the answer is the first fault, or `Missing`, instead of the parents.
 ///
 /// # Errors
 ///
 /// As [`find_header`].
+#[inline(always)]
 pub fn find_parents<F: Find>(
     alloc: Global,
     objects: &F,
     id: &ObjectId,
     text: &mut Vec<u8>,
 ) -> Result<Result<ParentIds, decode::Error>, existing_iter::Error>
-    ensures reads { IfOk result (λ read. ReadsFront (F.objects objects.now) id.now (result_map_both (λ ids. ids.items) (λ e. e) read)) }
+    ensures reads { IfOk result (λ read. ReadsParentIds (F.objects objects.now) id.now (result_map_both (λ ids. ids.items) (λ e. e) read)) }
     ensures fault { IfErr result (λ why. why ≢ existing.Memory
         → IsExistingFault (F.objects objects.now) (F.faulty objects.now) id.now object.Commit why) }
 {

@@ -3,7 +3,7 @@ ghost use Rattle.std.specs.Prelude.{◌≡◌, ◌≤◌, ◌<◌, true, Some, I
 ghost use Rattle.std.specs.Option.{option_map};
 ghost use Rattle.gix_commitgraph.specs.GraphCommit.{rows_of_commit, row_of_commit};
 ghost use Rattle.gix_commitgraph.specs.Rows.{GraphRow, row_of};
-ghost use Rattle.gix_revwalk.specs.Agreeing.{rows_in};
+ghost use Rattle.gix_revwalk.specs.Agreeing.{rows_in, rows_of};
 ghost use Rattle.gix_revwalk.specs.Reading.{ReadsRow};
 ghost use Rattle.gix_revwalk.specs.RowParents.{ids_at};
 
@@ -49,6 +49,20 @@ impl Near {
             second: NOWHERE,
         };
         first
+    }
+}
+
+/// The rows again, for a walk to hold.
+///
+/// # Errors
+///
+/// `AllocError` when out of memory.
+pub fn copy_of(graph: Option<&Graph>) -> Result<Option<Graph>, AllocError>
+    ensures { IfOk result (λ copy. rows_of copy ≡ rows_in graph.entry) }
+{
+    match graph {
+        Some(graph) => Ok(Some(graph.copy()?)),
+        None => Ok(None),
     }
 }
 

@@ -63,7 +63,7 @@ module _ {F P : Type 0} (objects : F → Objects) (faulty : F → ObjectId → T
   painted_whole walk agreeing some behind (paints p h painting s) good i r = go (row_of walk.rows i) refl
     where
       go : (o : Option GraphRow) → row_of walk.rows i ≡ o → ReadsWhole (objects walk.store) i
-      go None e = whole_from (objects walk.store) i (painting.rowless (objects walk.store) (own_history (objects walk.store) (faulty walk.store) walk.rows agreeing) i r e)
+      go None e = whole_from (objects walk.store) i (painting.rowless (objects walk.store) (own_history (objects walk.store) walk.rows agreeing) i r e)
       go (Some row) e = let k : Contains walk.rows row × (i ≡ row.id) = row_stands walk.rows i row e in subst (ReadsWhole (objects walk.store)) (sym k.1) (agreeing row k.0).whole
   painted_whole walk agreeing some behind (faulty_history {why = why} p h rows fault) good i r = absurd (good (error.HiddenGraph why) refl)
   painted_whole walk agreeing some behind (no_memory p h rows) good i r = absurd (good error.Memory refl)

@@ -177,7 +177,7 @@ module _ {F P : Type 0} (objects : F → Objects) (faulty : F → ObjectId → T
 
       go : (those : List GraphRow) → w.rows ≡ those → rows ≡ [] → Tells w answer new
       go [] f e = same (e ∙ sym f)
-      go (row ∷ those) f e = after e (λ agrees. (fresh, tips_given, (paint.marked (objects w.store) (own_history (objects w.store) (faulty w.store) w.rows agrees)).drops (λ same. let bad : [] ≡ row ∷ those = sym e ∙ same ∙ f in cc)))
+      go (row ∷ those) f e = after e (λ agrees. (fresh, tips_given, (paint.marked (objects w.store) (own_history (objects w.store) w.rows agrees)).drops (λ same. let bad : [] ≡ row ∷ those = sym e ∙ same ∙ f in cc)))
           (steps_tells v true refl [] marks v.pending (fewer_same v.pending) steps)
   first_tells w fresh (faulty_history some tips_given left fault) = ends refl
   first_tells w fresh (no_memory some tips_given left) = ends refl

@@ -127,7 +127,7 @@ module _ {F P : Type 0} (objects : F → Objects) (faulty : F → ObjectId → T
   setting = set_up objects faulty answers w accepts hides (parents_of (objects w.store)) by_test is_fresh agreeing
 
   own : IsHistory (objects w.store) w.rows (objects w.store)
-  own = own_history (objects w.store) (faulty w.store) w.rows agreeing
+  own = own_history (objects w.store) w.rows agreeing
 
   abbrev next_ids : ObjectId → List ObjectId
   next_ids = next_of objects w accepts hides

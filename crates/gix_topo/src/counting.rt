@@ -1,6 +1,5 @@
 //! Counts the indegree of each commit that tips reach, as far down as is needed.
 ghost use Rattle.std.specs.Prelude.{◌≡◌, IfOk, IfErr, OnOk, false, true, cond, ◌+◌, ◌||◌};
-ghost use Rattle.gix_frontier.specs.Inside.Frontier.{is_done, known_of};
 ghost use Rattle.gix_topo.specs.Depth.{least};
 ghost use Rattle.gix_revwalk.specs.Commits.{by_mode};
 ghost use Rattle.gix_topo.specs.TopoOrder.{last_places};

@@ -11,36 +11,20 @@ use Rattle.gix_object.specs.Object.{Objects}
 use Rattle.gix_commitgraph.specs.Rows.{GraphRow, row_of}
 use Rattle.gix_contained.specs.Contained.{IsContainedFault}
 use Rattle.gix_contained.specs.declared.search.Search.{Search}
-use Rattle.gix_contained.specs.declared.source.Key.{Key}
-use Rattle.gix_contained.specs.declared.source.Waiting.{Waiting}
+use Rattle.gix_contained.specs.declared.waiting.Key.{Key}
+use Rattle.gix_contained.specs.declared.waiting.Waiting.{Waiting}
 use Rattle.gix_paint.specs.declared.Hidden.{Hidden}
 use Rattle.gix_paint.specs.declared.Hidden.TheVariants as hidden_by
 use Rattle.gix_revwalk.specs.Infos.{generation_in}
-use Rattle.gix_paint.specs.Inside.Painter.{Reads}
+use Rattle.gix_paint.specs.Reading.{IsPassed, IsRowless, Reads, ReadsParents}
 use Rattle.gix_paint.specs.Painting.{IsFaultAt, IsHistory}
 use Rattle.gix_revwalk.specs.Agreeing.{rows_in}
 use Rattle.gix_revwalk.specs.Commits.{commit_at, parents_of}
 use Rattle.gix_revwalk.specs.Ids.{new_ids}
-use Rattle.gix_revwalk.specs.Reading.{DropsRows}
-use Rattle.gix_revwalk.specs.RowParents.{ids_at}
-
--- the parents by the row, or else from the store, and whether rows are in use then
-pub data ReadsParents (objects : Objects) (rows : List GraphRow) (in_use : Bool) (i : ObjectId) (ids : List ObjectId) : Bool → Type 0 where
-  by_row : {row : GraphRow} → row_of rows i ≡ Some row → ids_at rows row.parents ≡ Some ids → ReadsParents objects rows in_use i ids in_use
-  by_store : Reads objects i ids → ReadsParents objects rows in_use i ids in_use
-  drops : DropsRows rows i → Reads objects i ids → ReadsParents objects rows in_use i ids false
-
--- no row is read for the id: it has none, or a corrupt one, or rows aren't in use
-abbrev pub IsPassed : List GraphRow → Bool → ObjectId → Type 0
-IsPassed rows in_use i = (row_of rows i ≡ None) ⊎ (in_use ≡ false) ⊎ DropsRows rows i
 
 -- out of memory, or one of the ids, which has no row, can't be read
 abbrev pub AskFails : Objects → (ObjectId → Type 0) → List GraphRow → List ObjectId → Hidden → Type 0
 AskFails objects faulty rows ids why = why ≢ hidden_by.Find existing.Memory → (i : ObjectId) × Contains ids i × (row_of rows i ≡ None) × IsFaultAt objects faulty i why
-
--- it has none, or rows aren't in use
-abbrev pub IsUnrowed : List GraphRow → Bool → ObjectId → Type 0
-IsUnrowed rows in_use i = (row_of rows i ≡ None) ⊎ (in_use ≡ false)
 
 -- the generation in a row that is in use, and infinity where there is none
 abbrev pub generation_if : Bool → Option GraphRow → ℕ
@@ -106,7 +90,7 @@ pub record Meets {F : Type 0} (objects : F → Objects) (ids : List ObjectId) (o
 -- out of memory, or one of the ids can't be read, for which no row is read
 abbrev pub MeetFails : {F : Type 0} → (F → Objects) → (F → ObjectId → Type 0) → List ObjectId → Search F → Hidden → Type 0
 MeetFails objects faulty ids old why = why ≢ hidden_by.Find existing.Memory
-    → (i : ObjectId) × Contains ids i × IsUnrowed (rows_in old.source.graph) old.source.in_use i
+    → (i : ObjectId) × Contains ids i × IsRowless (rows_in old.source.graph) old.source.in_use i
     × IsFaultAt (objects old.source.objects.now) (faulty old.source.objects.now) i why
 
 -- the parents of a commit are met
@@ -125,7 +109,7 @@ abbrev pub FollowFails : {F : Type 0} → (F → Objects) → (F → ObjectId �
 FollowFails objects faulty w old why = why ≢ hidden_by.Find existing.Memory
     → (IsPassed (rows_in old.source.graph) old.source.in_use w.id × IsFaultAt (objects old.source.objects.now) (faulty old.source.objects.now) w.id why)
     ⊎ ((ids : List ObjectId) × (after : Bool) × GivesParents (objects old.source.objects.now) (rows_in old.source.graph) old.source.in_use w ids after
-    × ((i : ObjectId) × Contains ids i × IsUnrowed (rows_in old.source.graph) after i × IsFaultAt (objects old.source.objects.now) (faulty old.source.objects.now) i why))
+    × ((i : ObjectId) × Contains ids i × IsRowless (rows_in old.source.graph) after i × IsFaultAt (objects old.source.objects.now) (faulty old.source.objects.now) i why))
 
 -- what was met tells which of the ids the tips reach
 pub record Decides (objects : Objects) (rows : List GraphRow) (tips ids : List ObjectId) (met : set.FinSet id_cmp) : Type 0 where

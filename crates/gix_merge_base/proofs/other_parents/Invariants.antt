@@ -1,8 +1,12 @@
-use Rattle.std.proofs.Common.{take}
+use Rattle.std.proofs.Common.{◌≡◌, take}
 use Rattle.gix_revwalk.specs.Agreeing.{rows_in}
 use Rattle.gix_merge_base.specs.Inside.Steps.{ReadsOthers}
 use Rattle.gix_merge_base.proofs.other_parents.Given as goal
 
 -- the parents of the commits so far
 abbrev pub invariant-loop-id : goal.invariant-loop-id
-invariant-loop-id g l = ReadsOthers (g.F.Find.objects l.objects) (rows_in l.graph) (take l.id-index l.ids) l.those.items
+invariant-loop-id g l = record {
+  objects_stay : l.source.objects.now ≡ l.objects;
+  graph_stays : l.source.graph ≡ l.graph;
+  those : ReadsOthers (g.F.Find.objects l.objects) (rows_in l.graph) (take l.id-index l.ids) l.those.items;
+}

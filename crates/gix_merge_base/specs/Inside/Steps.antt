@@ -68,17 +68,10 @@ others_among i ids = filter (λ j. not (is_same j i)) ids
 abbrev pub OthersOf : ObjectId → List ObjectId → List ObjectId → List ObjectId → Type 0
 OthersOf i ids old new = new ≡ old ++ others_among i ids
 
--- the parents of a commit
-abbrev pub ReadsParents : Objects → List GraphRow → ObjectId → List ObjectId → Type 0
-ReadsParents objects rows i ids = IsAgreeing objects rows → ids ≡ parents_of objects i
-
--- a commit can't be read
-abbrev pub ReadFails : Objects → (ObjectId → Type 0) → ObjectId → Error → Type 0
-ReadFails objects faulty i e = (why : Hidden) × IsFaultAt objects faulty i why × (e ≡ error_of why)
-
 -- the parents of commits that are others than these
 abbrev pub ReadsOthers : Objects → List GraphRow → List ObjectId → List ObjectId → Type 0
 ReadsOthers objects rows ids those = IsAgreeing objects rows → those ≡ flat_map (λ i. others_among i (parents_of objects i)) ids
 
+-- a commit of these can't be read
 abbrev pub ReadFailsAmong : Objects → (ObjectId → Type 0) → List ObjectId → Error → Type 0
-ReadFailsAmong objects faulty ids e = (i : ObjectId) × Contains ids i × ReadFails objects faulty i e
+ReadFailsAmong objects faulty ids e = (i : ObjectId) × Contains ids i × (why : Hidden) × IsFaultAt objects faulty i why × (e ≡ error_of why)

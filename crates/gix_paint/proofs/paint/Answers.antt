@@ -1,5 +1,5 @@
-use Rattle.std.proofs.Common.{[], refl, sym, ap, subst, ◌∙◌, if◌then◌else◌}
-use Rattle.gix_paint.proofs.Common.{err_from_is_err_and, Objects, Paints, graph_in_use, hidden_of, ids_of}
+use Rattle.std.proofs.Common.{◌≡◌, ◌&&◌, is_some, [], sym, ap, subst, ◌∙◌, if◌then◌else◌}
+use Rattle.gix_paint.proofs.Common.{err_from_is_err_and, Objects, Paints, hidden_of, ids_of}
 use Rattle.gix_paint.specs.Inside.Painter.{rows_in}
 use Rattle.gix_paint.proofs.MarksAreWhole.{IsBlank, safe_start, holds_start, paints}
 use Rattle.gix_paint.proofs.Faults.{turn_fails}
@@ -10,7 +10,7 @@ use Rattle.gix_paint.proofs.paint.Goals as goal
 
 pub loop-generation-init : goal.loop-generation-init
 loop-generation-init g c =
-    let blank : (history : Objects) → IsBlank g.F.Find.objects c.args.objects.now history (rows_in c.args.graph) (ids_of c.args.tips.now.items) c.args.hidden_tips.now _ = λ history. record { same_store = refl; graph = refl; marks = c.new-2.ensures; frontier = c.new-3.ensures; queue = c.new-4.ensures } in
+    let blank : (history : Objects) → IsBlank g.F.Find.objects c.args.objects.now history (rows_in c.args.graph) (ids_of c.args.tips.now.items) c.args.hidden_tips.now _ = λ history. record { same_store = c.new.ensures.objects; same_rows = ap rows_in c.new.ensures.graph; in_use = c.new.ensures.in_use; marks = c.new-2.ensures; frontier = c.new-3.ensures; queue = c.new-4.ensures } in
     record {
       safe = safe_start g.F.Find.objects c.args.objects.now (g.F.Find.objects c.args.objects.now) (rows_in c.args.graph) (ids_of c.args.tips.now.items) c.args.hidden_tips.now (blank (g.F.Find.objects c.args.objects.now)) c.in_ok-show_all.ensures c.in_ok-meet_all.ensures;
       holds = λ history known. holds_start g.F.Find.objects c.args.objects.now history (rows_in c.args.graph) (ids_of c.args.tips.now.items) c.args.hidden_tips.now (blank history) c.in_ok-show_all.ensures c.in_ok-meet_all.ensures;
@@ -42,6 +42,6 @@ returns-in_err-treat-clause-fault g c =
 
 pub returns-clause-ok : goal.returns-clause-ok
 returns-clause-ok g c =
-    subst (λ p. Paints (g.F.Find.objects c.args.objects.now) (rows_in c.args.graph) (ids_of c.args.tips.now.items) c.args.hidden_tips.now (hidden_of p.marks) (if c.is_some.result then rows_in c.args.graph else [])) (sym c.in_default.ensures.none.1)
-    (subst (λ b. Paints (g.F.Find.objects c.args.objects.now) (rows_in c.args.graph) (ids_of c.args.tips.now.items) c.args.hidden_tips.now (hidden_of c.loop-generation.painter.marks) (if b then rows_in c.args.graph else [])) (sym (c.is_some.ensures ∙ ap Rattle.std.specs.Option.is_some c.graph_in_use.ensures ∙ ap (λ p. Rattle.std.specs.Option.is_some (graph_in_use p.source)) c.in_default.ensures.none.1))
-    (paints g.F.Find.objects c.args.objects.now (rows_in c.args.graph) (ids_of c.args.tips.now.items) c.args.hidden_tips.now c.loop-generation.painter c.loop-generation.invariant.safe c.in_default.ensures.none.0 c.loop-generation.invariant.holds))
+    let told : c.uses_rows.result ≡ (c.loop-generation.painter.source.in_use && is_some c.loop-generation.painter.source.graph) = c.uses_rows.ensures ∙ ap (λ p. p.source.in_use && is_some p.source.graph) c.in_default.ensures.none.1 in
+    subst (λ p. Paints (g.F.Find.objects c.args.objects.now) (rows_in c.args.graph) (ids_of c.args.tips.now.items) c.args.hidden_tips.now (hidden_of p.marks) (if c.uses_rows.result then rows_in c.args.graph else [])) (sym c.in_default.ensures.none.1)
+    (paints g.F.Find.objects c.args.objects.now (rows_in c.args.graph) (ids_of c.args.tips.now.items) c.args.hidden_tips.now c.loop-generation.painter c.loop-generation.invariant.safe c.in_default.ensures.none.0 c.uses_rows.result told c.loop-generation.invariant.holds)

@@ -1,33 +1,20 @@
 -- What a painting holds while it goes on, and what its steps do.
-use Rattle.std.specs.Borrow.{Bor}
-use Rattle.std.specs.Prelude.{◌≡◌, ◌≢◌, ◌⊎◌, ◌+◌, ◌≤◌, ℕ, List, [], ◌∷◌, length, Bool, true, false, ◌&&◌, not, if◌then◌else◌, is_some, Option, Some, None, Contains, IsSome, IsPermutation}
+use Rattle.std.specs.Prelude.{◌≡◌, ◌≢◌, ◌⊎◌, ◌+◌, ◌≤◌, ℕ, List, [], ◌∷◌, length, Bool, true, false, ◌&&◌, not, if◌then◌else◌, is_some, Option, Some, None, Contains, IsPermutation}
 use Rattle.std.specs.FinMap as map_of
 use Rattle.std.specs.FinSet as set
 use Rattle.gix_hash.specs.declared.ObjectId.{ObjectId}
-use Rattle.gix_object.specs.declared.find.existing_iter.Error.TheVariants as existing
-use Rattle.gix_object.specs.CommitText.{Commit}
 use Rattle.gix_hash.specs.Id.{id_cmp, is_among}
 use Rattle.gix_object.specs.Object.{Objects}
 use Rattle.gix_commitgraph.specs.Rows.{GraphRow, row_of}
-use Rattle.gix_paint.specs.declared.Hidden.{Hidden}
-use Rattle.gix_paint.specs.declared.Hidden.TheVariants as hidden_by
 use Rattle.gix_paint.specs.declared.Side.{Side}
 use Rattle.gix_paint.specs.declared.Side.TheVariants as side
 use Rattle.gix_paint.specs.declared.queue.Generation.{Generation}
 use Rattle.gix_paint.specs.declared.queue.Generation.TheVariants.{Told, Infinite}
-use Rattle.gix_paint.specs.declared.queue.Entry.{Entry}
 use Rattle.gix_paint.specs.Inside.Queue.{QueueEntry, is_told, AreAllTold, IsNoneAbove}
-use Rattle.gix_paint.specs.declared.source.Source.{Source}
 use Rattle.gix_paint.specs.declared.Painter.{Painter}
+use Rattle.gix_paint.specs.Reading.{ReadsParents, rows_used}
 pub use Rattle.gix_revwalk.specs.Agreeing.{rows_in}
-use Rattle.gix_revwalk.specs.Commits.{commit_at}
-use Rattle.gix_paint.specs.Painting.{IsFaultAt}
 use Rattle.gix_revwalk.specs.Ids.{new_ids}
-use Rattle.gix_revwalk.specs.RowParents.{IsUnrowed, ids_at}
-
--- the rows, while they are in use
-abbrev pub graph_in_use : {F : Type 0} → Source F → Option (Bor (List GraphRow))
-graph_in_use source = if source.in_use then source.graph else None
 
 -- the marks of all ids that were met
 abbrev pub AllMarks : Type 0
@@ -58,24 +45,6 @@ generation_told (Some row) = Told row.generation
 abbrev pub IsQueued : List GraphRow → QueueEntry → Type 0
 IsQueued rows q = q.0 ≡ generation_told (row_of rows q.1.id)
 
--- a commit that the store has whole, and its parents
-abbrev pub Reads : Objects → ObjectId → List ObjectId → Type 0
-Reads objects i ids = (commit : Commit) × (commit_at objects i ≡ Some commit) × (ids ≡ commit.parents)
-
--- out of memory, or the commit of an id can't be read
-abbrev pub FailsAt : Objects → (ObjectId → Type 0) → ObjectId → Hidden → Type 0
-FailsAt objects faulty i why = why ≢ hidden_by.Find existing.Memory → IsFaultAt objects faulty i why
-
--- out of memory, or an id can't be read that has no row or a corrupt one
-abbrev pub ReadFails : Objects → (ObjectId → Type 0) → List GraphRow → ObjectId → Hidden → Type 0
-ReadFails objects faulty rows i why = why ≢ hidden_by.Find existing.Memory → IsUnrowed rows i × IsFaultAt objects faulty i why
-
--- the parents by the row, or else from the store, and the rows that are in use then
-pub data ReadsParents (objects : Objects) (old : Option (Bor (List GraphRow))) (i : ObjectId) (ids : List ObjectId) : Option (Bor (List GraphRow)) → Type 0 where
-  by_row : {row : GraphRow} → row_of (rows_in old) i ≡ Some row → ids_at (rows_in old) row.parents ≡ Some ids → ReadsParents objects old i ids old
-  by_store : row_of (rows_in old) i ≡ None → Reads objects i ids → ReadsParents objects old i ids old
-  drops : {row : GraphRow} → row_of (rows_in old) i ≡ Some row → ids_at (rows_in old) row.parents ≡ None → Reads objects i ids → ReadsParents objects old i ids None
-
 -- how many entries there are and can still come, of these ids
 abbrev pub room : {F : Type 0} → List ObjectId → Painter F → ℕ
 room named p = length (new_ids (λ i. is_some (map_of.get p.marks i)) named) + length (new_ids (is_hidden p.marks) named) + length p.queue
@@ -92,54 +61,55 @@ pub record IsWaiting {F : Type 0} (p : Painter F) (on : Side) (i : ObjectId) : T
   pub queued : Contains p.queue entry
   pub on_side : entry.1.side ≡ on
   pub of_id : entry.1.id ≡ i
-  pub ahead : on ≡ side.Visible → is_told entry.0 ≡ true → set.contains p.frontier i ≡ true
+  pub in_frontier : on ≡ side.Visible → is_told entry.0 ≡ true → set.contains p.frontier i ≡ true
 
 -- a visible id that waits, and has a row
-abbrev pub IsAhead : {F : Type 0} → Painter F → ObjectId → Type 0
-IsAhead p i = (map_of.get p.marks i ≡ Some side.Visible) × (q : QueueEntry) × Contains p.queue q × (q.1.side ≡ side.Visible) × (q.1.id ≡ i) × (is_told q.0 ≡ true)
+abbrev pub WaitsWithRow : {F : Type 0} → Painter F → ObjectId → Type 0
+WaitsWithRow p i = (map_of.get p.marks i ≡ Some side.Visible) × (q : QueueEntry) × Contains p.queue q × (q.1.side ≡ side.Visible) × (q.1.id ≡ i) × (is_told q.0 ≡ true)
 
 -- the frontier is of such ids
 abbrev pub IsTidy : {F : Type 0} → Painter F → Type 0
-IsTidy p = (i : ObjectId) → set.contains p.frontier i ≡ true → IsAhead p i
+IsTidy p = (i : ObjectId) → set.contains p.frontier i ≡ true → WaitsWithRow p i
 
 -- some ids are met on a side
 pub record Meets {F : Type 0} (on : Side) (ids : List ObjectId) (old new : Painter F) : Type 0 where
   pub source_stays : new.source ≡ old.source
   pub marks : (i : ObjectId) → Becomes on (Contains ids i) (IsWaiting new on i) (mark_of old i) (mark_of new i)
   pub keeps : (q : QueueEntry) → Contains old.queue q → Contains new.queue q
-  pub adds : (q : QueueEntry) → Contains new.queue q → Contains old.queue q ⊎ (Contains ids q.1.id × (q.1.side ≡ on) × IsQueued (rows_in (graph_in_use old.source)) q)
-  pub keeps_ahead : (i : ObjectId) → set.contains old.frontier i ≡ true → mark_of new i ≢ Some side.Hidden → set.contains new.frontier i ≡ true
+  pub adds : (q : QueueEntry) → Contains new.queue q → Contains old.queue q ⊎ (Contains ids q.1.id × (q.1.side ≡ on) × IsQueued (rows_used old.source) q)
+  pub keeps_frontier : (i : ObjectId) → set.contains old.frontier i ≡ true → mark_of new i ≢ Some side.Hidden → set.contains new.frontier i ≡ true
   pub tidies : IsTidy old → IsTidy new
   pub spends : (named : List ObjectId) → ((i : ObjectId) → Contains ids i → is_among i named ≡ true) → room named new ≤ room named old
 
--- a visible entry is to be read as long as its id isn't hidden, a hidden one always
-abbrev pub is_turn_on : Side → AllMarks → ObjectId → Bool
-is_turn_on side.Visible marks i = not (is_hidden marks i)
-is_turn_on side.Hidden marks i = true
+-- a visible entry that has a row
+abbrev pub is_of_frontier : QueueEntry → Bool
+is_of_frontier q = is_told q.0 && not (hides (Some q.1.side))
 
-abbrev pub is_turn : AllMarks → Entry → Bool
-is_turn marks entry = is_turn_on entry.side marks entry.id
-
--- a visible entry that has a row leaves the frontier when it is taken
+-- an entry of the frontier leaves it when it is taken
 abbrev pub frontier_without : QueueEntry → set.FinSet id_cmp → set.FinSet id_cmp
-frontier_without q frontier = if is_told q.0 && not (hides (Some q.1.side)) then set.remove frontier q.1.id else frontier
+frontier_without q frontier = if is_of_frontier q then set.remove frontier q.1.id else frontier
+
+-- it is to be read if its id isn't hidden by then, and any other entry always
+abbrev pub is_turn : AllMarks → QueueEntry → Bool
+is_turn marks q = not (is_of_frontier q && is_hidden marks q.1.id)
 
 -- an entry that was taken from the queue is treated, which may drop the rows
 pub record Takes {F : Type 0} (old : Painter F) (top : QueueEntry) (new : Painter F) : Type 0 where
   pub objects_stay : new.source.objects ≡ old.source.objects
+  pub graph_stays : new.source.graph ≡ old.source.graph
   pub marks_stay : new.marks ≡ old.marks
   pub queue_stays : new.queue ≡ old.queue
   pub frontier : new.frontier ≡ frontier_without top old.frontier
 
 -- the entry is left to the hidden side, or its parents are read and met
 pub data TreatsEntry {F : Type 0} (objects : F → Objects) (old : Painter F) (top : QueueEntry) : Painter F → Type 0 where
-  skips : {new : Painter F} → is_turn old.marks top.1 ≡ false → Takes old top new → graph_in_use new.source ≡ graph_in_use old.source → TreatsEntry objects old top new
-  reads : {mid new : Painter F} {ids : List ObjectId} → is_turn old.marks top.1 ≡ true → Takes old top mid → ReadsParents (objects old.source.objects.now) (graph_in_use old.source) top.1.id ids (graph_in_use mid.source)
+  skips : {new : Painter F} → is_turn old.marks top ≡ false → Takes old top new → new.source.in_use ≡ old.source.in_use → TreatsEntry objects old top new
+  reads : {mid new : Painter F} {ids : List ObjectId} → is_turn old.marks top ≡ true → Takes old top mid → ReadsParents (objects old.source.objects.now) (rows_in old.source.graph) old.source.in_use top.1.id ids mid.source.in_use
       → Meets top.1.side ids mid new → TreatsEntry objects old top new
 
 -- nothing is queued; or the rows are in use, and all that is queued is hidden and has a row
 abbrev pub IsSettled : {F : Type 0} → Painter F → Type 0
-IsSettled p = (p.queue ≡ []) ⊎ (IsSome (graph_in_use p.source) × (set.len p.frontier ≡ 0) × AreAllTold p.queue)
+IsSettled p = (p.queue ≡ []) ⊎ ((p.source.in_use ≡ true) × (set.len p.frontier ≡ 0) × AreAllTold p.queue)
 
 -- the next entry is taken from the queue
 pub record Pops {F : Type 0} (old : Painter F) (top : QueueEntry) (new : Painter F) : Type 0 where

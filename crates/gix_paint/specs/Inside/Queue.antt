@@ -19,6 +19,10 @@ is_told Infinite = false
 abbrev pub AreAllTold : List QueueEntry → Type 0
 AreAllTold queue = (q : QueueEntry) → Contains queue q → is_told q.0 ≡ true
 
--- where a generation is a row's, all that waits has one, and none is greater
+-- all that waits has a row, of no greater generation
+abbrev pub AreAllBelow : List QueueEntry → ℕ → Type 0
+AreAllBelow queue n = (q : QueueEntry) → Contains queue q → (m : ℕ) × (q.0 ≡ Told m) × (m ≤ n)
+
+-- where a generation is a row's, nothing that waits is above it
 abbrev pub IsNoneAbove : Generation → List QueueEntry → Type 0
-IsNoneAbove top queue = (n : ℕ) → top ≡ Told n → (q : QueueEntry) → Contains queue q → (m : ℕ) × (q.0 ≡ Told m) × (m ≤ n)
+IsNoneAbove top queue = (n : ℕ) → top ≡ Told n → AreAllBelow queue n

@@ -1,4 +1,4 @@
-use Rattle.std.proofs.Common.{take, refl, ◌∙◌}
+use Rattle.std.proofs.Common.{take, refl, ap, ◌∙◌}
 use Rattle.std.proofs.lemmas.List.{take_more}
 use Rattle.std.proofs.lemmas.List.Elements.{Contains-get_or}
 use Rattle.gix_contained.proofs.Asking.{fails_among, known_there, looked_up}
@@ -14,7 +14,7 @@ returns-in_err-key-clause-fault g c =
 
 pub loop-id-preserved : goal.loop-id-preserved
 loop-id-preserved g c = record {
-  objects_stay = c.in_ok-key.ensures.objects ∙ c.loop-id.invariant.objects_stay;
+  objects_stay = ap (λ o. o.now) c.in_ok-key.ensures.objects ∙ c.loop-id.invariant.objects_stay;
   graph_stays = c.in_ok-key.ensures.graph ∙ c.loop-id.invariant.graph_stays;
   use_stays = c.in_ok-key.ensures.in_use ∙ c.loop-id.invariant.use_stays;
   looked_up = looked_up (g.F.Find.objects c.args.objects.now) (rows_in c.args.graph) (take c.loop-id.id-index c.args.ids.now) _ _ c.in_ok-key.key.generation _ _ (take_more c.args.ids.now c.loop-id.id-index _ c.loop-id-test.true) c.loop-id.invariant.looked_up

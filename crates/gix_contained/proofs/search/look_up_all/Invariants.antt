@@ -6,8 +6,8 @@ use Rattle.gix_contained.proofs.search.look_up_all.Given as goal
 -- the ids so far were looked up
 abbrev pub invariant-loop-id : goal.invariant-loop-id
 invariant-loop-id g l = record {
-  objects_stay : l.source.objects ≡ l.initial.source.objects;
-  graph_stays : l.source.graph ≡ l.initial.source.graph;
+  objects_stay : l.source.objects.now ≡ l.objects;
+  graph_stays : l.source.graph ≡ l.graph;
   use_stays : l.source.in_use ≡ true;
   looked_up : AreLookedUp (g.F.Find.objects l.objects) (rows_in l.graph) (take l.id-index l.ids) l.asked;
 }

@@ -1,4 +1,4 @@
-use Rattle.std.proofs.Common.{◌<◌, List, true, Contains, refl, sym, subst, inl, inr, ⊎_elim, arith}
+use Rattle.std.proofs.Common.{◌<◌, List, Contains, refl, sym, ap, subst, inl, inr, ⊎_elim, arith}
 use Rattle.gix_hash.specs.declared.ObjectId.{ObjectId}
 use Rattle.gix_contained.specs.declared.search.Search.{Search}
 use Rattle.gix_contained.specs.Inside.Search.{AreAsked, Decides}
@@ -11,12 +11,12 @@ use Rattle.gix_hash.proofs.Ids.Membership.{no_member}
 
 pub returns-in_err-meet_all-clause-fault : goal.returns-in_err-meet_all-clause-fault
 returns-in_err-meet_all-clause-fault g c =
-    let blank : Search g.row.F.Denot = record { source = record { objects = c.args.objects; graph = c.args.graph; in_use = true; text = c.new.result; alloc = c.args.alloc }; met = c.new-2.result; queue = c.new-3.result } in
+    let blank : Search g.row.F.Denot = record { source = c.new.result; met = c.new-2.result; queue = c.new-3.result } in
     fails_as _ c.from_residual.result c.from_residual.ensures.1
-    (start_fails g.F.Find.objects g.F.Find.faulty c.args.objects.now (rows_in c.args.graph) c.args.tips.now c.args.asked blank refl refl c.new-2.ensures c.new-3.ensures refl c.in_err-meet_all.field-0.0 c.in_err-meet_all.ensures.fault)
+    (start_fails g.F.Find.objects g.F.Find.faulty c.args.objects.now (rows_in c.args.graph) c.args.tips.now c.args.asked blank c.new.ensures.objects (ap rows_in c.new.ensures.graph) c.new-2.ensures c.new-3.ensures c.new.ensures.in_use c.in_err-meet_all.field-0.0 c.in_err-meet_all.ensures.fault)
 
 pub loop-lowest-init : goal.loop-lowest-init
-loop-lowest-init g c = goes_start g.F.Find.objects g.F.Find.faulty c.args.objects.now (rows_in c.args.graph) c.args.tips.now c.args.asked _ refl refl c.new-2.ensures c.new-3.ensures refl c.in_ok-meet_all.ensures.ok
+loop-lowest-init g c = goes_start g.F.Find.objects g.F.Find.faulty c.args.objects.now (rows_in c.args.graph) c.args.tips.now c.args.asked (record { source = c.new.result; met = c.new-2.result; queue = c.new-3.result }) c.new.ensures.objects (ap rows_in c.new.ensures.graph) c.new-2.ensures c.new-3.ensures c.new.ensures.in_use c.in_ok-meet_all.ensures.ok
 
 pub returns-clause-ok : goal.returns-clause-ok
 returns-clause-ok g c =

@@ -7,7 +7,7 @@ use Rattle.gix_contained.proofs.search.Search.follow.Goals as goal
 
 pub returns-clause-ok : goal.returns-clause-ok
 returns-clause-ok g c =
-    let mid : Search g.row.F.Denot = record { source = c.parents.new.self; met = c.args.self.now.met; queue = c.args.self.now.queue } in
+    let mid : Search g.row.F.Denot = record { source = c.parents.new.source; met = c.args.self.now.met; queue = c.args.self.now.queue } in
     IfOk-weaker c.meet_all.result _ _ (λ x met. record {
       mid = mid;
       ids = c.in_ok-parent_ids.field-0.parent_ids.items;

@@ -1,10 +1,10 @@
--- What an entry's turn keeps of what holds while hidden tips are painted.
-use Rattle.std.proofs.Common.{◌≡◌, ◌≢◌, ◌⊎◌, ◌<◌, ◌≤◌, ℕ, List, [], ◌∷◌, ◌++◌, true, Option, Some, None, Contains, IsSome, suc, refl, sym, ap, subst, inl, inr, ⊎_elim, ◌∙◌, arith}
+-- What holds before an entry's turn, and why its row may drop the rows.
+use Rattle.std.proofs.Common.{◌≡◌, ◌≢◌, ◌⊎◌, ◌<◌, ◌≤◌, ℕ, List, [], ◌∷◌, ◌++◌, true, Option, Some, None, Contains, suc, refl, sym, ap, subst, inl, inr, ⊎_elim, ◌∙◌, arith}
 use Rattle.std.specs.List.{list_any}
 use Rattle.std.specs.Ordering.{eq_by_cmp}
 use Rattle.std.proofs.lemmas.Bool.{or_left}
 use Rattle.gix_paint.proofs.Common.{Contains-append_left, Contains-append_right, Contains-permutation, IsPermutation-sym, ObjectId, id_cmp, Objects, GraphRow, row_of, Side, Told, Infinite, QueueEntry, Painter, DropsBy}
-use Rattle.gix_paint.proofs.Common.{generation_in, generation_told, IsHistory, mark_of, graph_in_use, IsQueued, IsWaiting, IsSettled, is_told, IsNoneAbove, Pops, parents_of, Reaches, start, step, ids_at, id_total, id_apart, same_itself}
+use Rattle.gix_paint.proofs.Common.{generation_in, generation_told, IsHistory, mark_of, IsQueued, IsWaiting, IsSettled, is_told, AreAllBelow, IsNoneAbove, Pops, parents_of, Reaches, start, step, ids_at, id_total, id_apart, same_itself}
 use Rattle.gix_paint.proofs.Common.{Contains-here}
 use Rattle.std.specs.FinSet as set
 use Rattle.gix_paint.specs.declared.Side.TheVariants as side
@@ -40,10 +40,6 @@ told_row rows q k n e = go (row_of rows q.1.id) refl
     go None f = let bad : Infinite ≡ Told n = sym (k ∙ ap generation_told f) ∙ e in cc
     go (Some row) f = let same : Told row.generation ≡ Told n = sym (k ∙ ap generation_told f) ∙ e in (row, f, cc)
 
--- all that waits has a row, of no greater generation
-abbrev pub IsBelow : {F : Type 0} → Painter F → ℕ → Type 0
-IsBelow p n = (q : QueueEntry) → Contains p.queue q → (m : ℕ) × (q.0 ≡ Told m) × (m ≤ n)
-
 pub popped_there : {F : Type 0} {old new : Painter F} {top : QueueEntry} → Pops old top new → Contains old.queue top
 popped_there {new = new} {top = top} pops = Contains-permutation _ _ top (IsPermutation-sym _ _ pops.queue) (Contains-here top new.queue)
 
@@ -78,7 +74,7 @@ module _ {F : Type 0} (objects : F → Objects) (store : F) (history : Objects) 
     -- before an entry's turn
     module _ (w : Painter F) (safe : IsSafe objects store rows w) where
       -- what a waiting id reaches has a row, and isn't above what waits
-      pub waits_above : RowsInUse objects store rows w → (n : ℕ) → IsBelow w n → (s : Side) (q i : ObjectId) → IsWaiting w s q → Reaches (parents_of history) (q ∷ []) i → (m : ℕ) × HasGeneration rows i m × (m ≤ n) × ((q ≡ i) ⊎ (m < n))
+      pub waits_above : RowsInUse objects store rows w → (n : ℕ) → AreAllBelow w.queue n → (s : Side) (q i : ObjectId) → IsWaiting w s q → Reaches (parents_of history) (q ∷ []) i → (m : ℕ) × HasGeneration rows i m × (m ≤ n) × ((q ≡ i) ⊎ (m < n))
       waits_above r n low s q i waits path =
           let k : (m : ℕ) × (waits.entry.0 ≡ Told m) × (m ≤ n) = low waits.entry waits.queued in
           let under : (m : ℕ) × HasGeneration rows i m × (m ≤ k.0) × ((q ≡ i) ⊎ (m < k.0)) = below q k.0 (subst (λ j. HasGeneration rows j k.0) waits.of_id (told_row rows waits.entry (safe.queued r waits.entry waits.queued) k.0 k.1)) i path in
@@ -88,7 +84,7 @@ module _ {F : Type 0} (objects : F → Objects) (store : F) (history : Objects) 
       module _ (h : Stands objects store history rows tips hidden_tips nobody w) (started : IsStarted objects store history rows tips hidden_tips w) (r : RowsInUse objects store rows w)
           (top : QueueEntry) (there : Contains w.queue top) (greatest : IsNoneAbove top.0 w.queue) where
         -- nothing that waits is above the row of the entry that is taken
-        pub all_below : (row : GraphRow) → row_of rows top.1.id ≡ Some row → IsBelow w row.generation
+        pub all_below : (row : GraphRow) → row_of rows top.1.id ≡ Some row → AreAllBelow w.queue row.generation
         all_below row e = greatest row.generation (told_key rows top (safe.queued r top there) (row, e, refl))
 
         -- no id is taken that an unread id above it would hide
@@ -100,13 +96,13 @@ module _ {F : Type 0} (objects : F → Objects) (store : F) (history : Objects) 
             ⊎_elim (λ s. unhidden (ap (mark_of w) (sym (q.1.of_id ∙ s)) ∙ h.waits q.1.entry q.1.queued q.1.on_side)) (λ l. absurd (let lt : under.0 < row.generation = l in omega arith)) under.3)
             (hidden_from w h started top.1.id hidden)
 
-        -- rows are dropped for the row of a greatest key, while a visible id waits below
-        pub drop_reason : IsSome (graph_in_use w.source) → (IsSettled w → ⊥) → (row : GraphRow) → row_of rows top.1.id ≡ Some row → ids_at rows row.parents ≡ None → DropsBy (parents_of history) rows tips hidden_tips
-        drop_reason graph unsettled row e corrupt =
-            let x : (i : ObjectId) × (set.contains w.frontier i ≡ true) = member_of w.frontier (λ none. unsettled (inr (graph, none, λ q c. ap is_told (all_below row e q c).1))) in
+        -- rows are dropped for the row of a greatest generation, while a visible id waits below
+        pub drop_reason : (IsSettled w → ⊥) → (row : GraphRow) → row_of rows top.1.id ≡ Some row → ids_at rows row.parents ≡ None → DropsBy (parents_of history) rows tips hidden_tips
+        drop_reason unsettled row e corrupt =
+            let x : (i : ObjectId) × (set.contains w.frontier i ≡ true) = member_of w.frontier (λ none. unsettled (inr (r, none, λ q c. ap is_told (all_below row e q c).1))) in
             let opened = h.tidy x.0 x.1 in
             let low : (m : ℕ) × HasGeneration rows x.0 m × (m ≤ row.generation) × ((x.0 ≡ x.0) ⊎ (m < row.generation)) =
-            waits_above r row.generation (all_below row e) side.Visible x.0 x.0 (record { entry = opened.1; queued = opened.2; on_side = opened.3; of_id = opened.4; ahead = λ v told. x.1 }) (start (Contains-here x.0 [])) in
+            waits_above r row.generation (all_below row e) side.Visible x.0 x.0 (record { entry = opened.1; queued = opened.2; on_side = opened.3; of_id = opened.4; in_frontier = λ v told. x.1 }) (start (Contains-here x.0 [])) in
             let border = subst (IsBorder objects store history rows tips hidden_tips) opened.4 (h.border opened.1 opened.2 opened.3 r) in
             let stands : Contains rows row × (top.1.id ≡ row.id) = row_stands rows top.1.id row e in
             record {
