@@ -274,9 +274,10 @@ class Repository:
             fail(f"{label}: it wrote {wrote!r}")
         passed(label, f"{kind and ', ' + kind}: {wrote.count(chr(10))} lines")
 
-    def check_graph(self, rows, label=""):
-        """Git's commit-graph is right, and has so many rows."""
-        self.case("check-graph", wanted=(f"the commit-graph agrees with the repository: {rows} commits have a row", 0), label=label)
+    def check_graph(self, rows, label="", again=False):
+        """Git's commit-graph is right, and has so many rows. A second time it isn't compared."""
+        found = "was found right before" if again else "agrees with the repository"
+        self.case("check-graph", wanted=(f"the commit-graph {found}: {rows} commits have a row", 0), label=label)
 
     def cases(self, table, *options, label="", **values):
         """The lines of a table, each a case, or a run and behind | what is said of a fault"""

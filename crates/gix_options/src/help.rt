@@ -155,7 +155,7 @@ for files also :PATH. In the first five commands ^A excludes all commits that A 
 without what both reach. A^@ stands for A's parents, A^! for A without what they reach, and A^-N for A without what its parent N
 reaches. For ahead A...B stands for A B.
 
-All objects are compared with their ids. An object that is damaged is a fault, and nothing is listed. Where one is missing, or no commit,
+Each object that is read is compared with its id. A damaged one is a fault, and nothing is listed. Where one is missing, or no commit,
 the first five commands have listed the commits before it, and nothing with --reverse and --count, and the others nothing. newest and
 oldest look whether each parent of a commit that they have met is there, except behind the last line that -n allows. files refuses a tree
 with a name that is empty or holds a slash.
@@ -204,9 +204,9 @@ with a name that is empty or holds a slash.
                uses git's commit-graph although nobody has checked it, as git does
   --certificate FILE
                writes into a new file what was asked, the ids, the SHA-256 of the lines, and which program ran, as JSON;
-               not with check-graph
+               not with check-graph and verify-certificate
   --verbose    says on standard error what each revision stands for
-  --version    says which program this is, and whether it was proved
+  --version    alone: says which program this is, and whether it was proved
 
 The status is 0 where everything was listed, or the commit-graph is right, 1 after a fault, 2 where the words are no such command, and
 3 where contains found that some revisions aren't contained, containing that some don't reach the first, is-ancestor that the first

@@ -257,7 +257,8 @@ fn border_row(
     }))
 }
 
-/// Compares git's commit-graph with the commits, and keeps for each file that it is right. Writes what it found, and gives the status.
+/// Compares git's commit-graph with the commits, and keeps for each file that it is right. A file that was found right before isn't compared.
+/// Writes what it found, and gives the status.
 pub(crate) fn check<W: Write>(
     rt: &HostRuntime,
     repository: &mut Repository<HostRuntime>,
@@ -269,12 +270,14 @@ pub(crate) fn check<W: Write>(
     }
     let cache = cache_folder(rt)?;
     let layers = read_layers(rt, folder_of(cache.as_ref()), paths.as_slice())?;
+    let said = if count_passed(layers.as_slice()) < layers.len() {
+        "agrees with the repository"
+    } else {
+        "was found right before"
+    };
     let rows = compare(rt, repository, layers.as_slice())?;
     keep_passed(rt, folder_of(cache.as_ref()), layers.as_slice());
-    match writeln!(
-        writer,
-        "the commit-graph agrees with the repository: {rows} commits have a row"
-    ) {
+    match writeln!(writer, "the commit-graph {said}: {rows} commits have a row") {
         Ok(()) => Ok(0),
         Err(_) => Err(Failure::Command(Fault::Write)),
     }
