@@ -132,6 +132,16 @@ impl<T> IdMap<T> {
         }
     }
 
+    /// The empty map with these keys, which has room for so many values where there is memory for that. It grows as any other.
+    pub fn with_room(alloc: Global, keys: Keys, room: usize) -> IdMap<T>
+        ensures { result ≡ map.empty }
+    {
+        match HashMap::with_capacity_and_hasher(alloc, room, keys) {
+            Ok(values) => IdMap { values },
+            Err(_) => IdMap::new(alloc, keys),
+        }
+    }
+
     /// The keys of the map, for further tables of a run.
     pub fn keys(&self) -> Keys {
         *self.values.hasher()

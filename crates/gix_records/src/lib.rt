@@ -128,6 +128,9 @@ pub fn records_in(alloc: Global, keys: Keys, bytes: &[u8]) -> Result<LentStore<'
     Ok(LentStore::over(bytes, objects))
 }
 
+/// How many bytes the record of a short commit has. It serves to guess how many records there are.
+const RECORD_LEN: usize = 200;
+
 /// The places of the objects of the records that the bytes are.
 fn places_of(alloc: Global, keys: Keys, bytes: &[u8]) -> Result<IdMap<Stored>, Error>
     ensures within { IfOk result (λ places. AreWithin places (length bytes.now)) }
@@ -137,7 +140,7 @@ fn places_of(alloc: Global, keys: Keys, bytes: &[u8]) -> Result<IdMap<Stored>, E
     ensures only { (records : List Record) → AreRecords records bytes.now
         → MatchResult result (λ places. objects_at bytes.now places ≡ stored records) (λ e. e ≡ Error.Memory) }
 {
-    let mut objects = IdMap::new(alloc, keys);
+    let mut objects = IdMap::with_room(alloc, keys, bytes.len() / RECORD_LEN);
     let mut rest = bytes;
     let mut number = 1;
     while !rest.is_empty() {

@@ -9,7 +9,7 @@ use Rattle.gix_records.proofs.places_of.Goals as goal
 
 pub loop-rest-init : goal.loop-rest-init
 loop-rest-init c =
-    let none = c.new-objects.ensures in
+    let none = c.with_room-objects.ensures in
     rw none record {
       read = stored_none _ _ (empty_stored c.args.bytes.now);
       within = within_empty _;
