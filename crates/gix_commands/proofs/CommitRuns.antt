@@ -1,8 +1,8 @@
 -- What a run of `breadth`, `newest` or `oldest` writes, by what commits reach.
-use Rattle.std.proofs.Common.{◌≡◌, ◌≢◌, ℕ, List, [], ◌∷◌, ◌++◌, map, Option, Some, Result, Ok, Err, refl, sym, ap, subst, ◌∙◌}
+use Rattle.std.proofs.Common.{◌≡◌, ◌≢◌, ℕ, List, [], ◌∷◌, ◌++◌, map, Option, Some, Result, Ok, Err, refl, sym, subst, ◌∙◌}
 use Rattle.gix_commands.proofs.Common.{ObjectId, Objects, GraphRow, IsAgreeing, none_agree, Info, Parents, time_order}
 use Rattle.gix_commands.proofs.Common.{text_next, Fault, AreWhole, EndsWell}
-use Rattle.gix_commands.proofs.Common.{stored, Runs, without_memory, no_command, not_read, bad_record, served, Ends, StartsFrom, finished, lines_of, line_of, Request, request_of, only_reading}
+use Rattle.gix_commands.proofs.Common.{stored, Runs, without_memory, no_command, not_read, bad_record, served, Ends, StartsFrom, finished, Request, request_of, only_reading}
 use Rattle.gix_commands.proofs.Common.{no_bad_record}
 use Rattle.gix_simple.specs.declared.Sorting.{Sorting}
 use Rattle.gix_records.specs.Records.{Record, AreRecords}
@@ -13,14 +13,10 @@ use Rattle.gix_commands.specs.Walked.{Walk, Answers, IsWalkFault}
 use Rattle.gix_commands.proofs.ReadableObjects.{readable_whole}
 use Rattle.gix_commands.proofs.SimpleRuns.{all_read, listed_none, listed_text, listed_whole}
 use Rattle.gix_commands.proofs.OtherParents.{by_texts}
-use Rattle.gix_commands.proofs.ListedCommits.{IsSimpleBy, kept_tips, lines_of_ids}
+use Rattle.gix_commands.proofs.ListedCommits.{IsSimpleBy, kept_tips}
 
 abbrev pub ids_in : List Info → List ObjectId
 ids_in infos = map (λ info. info.id) infos
-
-pub lines_by_ids : (infos : List Info) → lines_of infos ≡ lines_of_ids (map (λ info. info.id) infos)
-lines_by_ids [] = refl
-lines_by_ids (info ∷ infos) = ap (λ bs. line_of info.id ++ bs) (lines_by_ids infos)
 
 pub ok_same : {a b : Request} → ◌≡◌ {A = Result Request Fault} (Ok a) (Ok b) → a ≡ b
 ok_same e = cc

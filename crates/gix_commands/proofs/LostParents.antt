@@ -155,6 +155,3 @@ module _ (objects : Objects) (rows : List GraphRow) (i : ObjectId) (ids : List O
       go : (at : Option Fault) → found ≡ at → found ≡ option_or at (first_lost objects rows ids)
       go None e = absurd (some e)
       go (Some why) e = e
-
-  pub rest_found : found ≡ None → first_lost objects rows ids ≡ first_lost objects rows (i ∷ ids)
-  rest_found none = ap (λ at. option_or at (first_lost objects rows ids)) (sym none ∙ looks (λ e. let no : None ≡ Some fault.Memory = sym none ∙ e in cc))

@@ -1,7 +1,6 @@
 -- Lines that are buffered, and lines that were written.
 use Rattle.std.proofs.Common.{◌≡◌, ◌≢◌, ◌<◌, ◌+◌, ℕ, zero, suc, flat_map, List, [], ◌∷◌, ◌++◌, length, Option, Some, None, Result, Ok, Err, refl, sym, ap, subst, ◌∙◌, append_assoc, arith, ◌⊎◌, ⊎_elim, inl, inr, append-nil, length-append}
 use Rattle.gix_commands.proofs.Common.{Appends, ObjectId, Yields, Info, Fault, Grows, Adds, Ends, EndsBy, WritesAll, finished, cut_short, enough, before}
-use Rattle.std.proofs.lemmas.List.{map-append}
 use Rattle.std.proofs.lemmas.Grind.{flat_map-append}
 use Rattle.std.proofs.KnownBytes.{Appends-nil, Appends-trans}
 use Rattle.gix_words.specs.declared.fault.Fault.TheVariants as fault
@@ -37,9 +36,6 @@ appends_behind (Some bytes) more = refl
 none_before : (some more : List ℕ) → some ++ more ≡ [] → some ≡ []
 none_before [] more e = refl
 none_before (b ∷ some) more e = cc
-
-given_last : {E : Type 0} (infos : List Info) (info : Info) → given {E = E} (infos ++ info ∷ []) ≡ given infos ++ Ok info ∷ []
-given_last infos info = map-append (λ (i : Info). Ok i) infos (info ∷ [])
 
 -- one more id was added
 pub takes_more : (line : ObjectId → List ℕ) (by : Form) (a b c : Option (List ℕ)) (x y z : Held) (ids more : List ObjectId) → Takes line by a x ids b y → Takes line by b y more c z → Takes line by a x (ids ++ more) c z

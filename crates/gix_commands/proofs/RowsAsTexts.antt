@@ -181,10 +181,6 @@ module _ (whole_text : (objects : Objects) (i : ObjectId) (c : Commit) → commi
       go None none = inr (ap (option_map as_page) none, text_rowed r none text)
       go (Some object) at = inl (text_moves (page_objects every) (page_objects objects) r (stays_back r.id object at) text)
 
-  pub commit_is_text : (r : Row) → IsCommit (page_objects objects) (page_rows rows) r → IsText (page_objects every) r
-  commit_is_text r (inl text) = text_moves (page_objects objects) (page_objects every) r (stays r.id) text
-  commit_is_text r (inr (none, c)) = let m = from_map (page_row rows) rows r c in subst (IsText (page_objects every)) m.2 (row_text m.0 m.1)
-
   -- TREES
   no_tree : (i : ObjectId) (bytes : List ℕ) → get objects i ≡ None → page_objects every i ≡ Some (record { kind = codes "tree"; bytes = bytes }) → ⊥
   no_tree i bytes none e = go (text_at rows i) (sym (ap (option_map as_page) (get-with_rows rows objects i ∙ ap (λ o. option_or o (option_map commit_object (text_at rows i))) none)) ∙ e)
@@ -199,9 +195,6 @@ module _ (whole_text : (objects : Objects) (i : ObjectId) (c : Commit) → commi
       go : (o : Option Object) → get objects i ≡ o → IsTree (page_objects objects) i entries
       go None none = absurd (no_tree i text none is)
       go (Some object) at = (text, stays_back i object at _ is, are)
-
-  pub tree_stays : (i : ObjectId) (entries : List Entry) → IsTree (page_objects objects) i entries → IsTree (page_objects every) i entries
-  tree_stays i entries (text, is, are) = (text, stays i _ is, are)
 
   -- each row's commit reads whole
   pub row_whole : (row : GraphRow) → Contains rows row → ReadsWhole every row.id

@@ -49,9 +49,9 @@ where
     requires can { I.can_next walk }
     requires finite { IsFinite (I.remaining walk) }
     requires fresh { chooser ≡ fresh_choosing chooser.objects chooser.stored chooser.rows chooser.shown }
-    ensures { WritesBegun I.next_gives E.converts (HasTextIn chooser.entry) (kept_in chooser.entry.objects chooser.entry.shown) chooser.entry.shown.limit
-        (line_in chooser.entry.objects chooser.entry.shown) chooser.entry.shown.form walk (W.contents writer.old) result
-        (W.contents writer.new) }
+    ensures { WritesBegun I.next_gives E.converts (HasTextIn chooser.entry) (kept_in chooser.entry.objects chooser.entry.shown)
+        chooser.entry.shown.limit (line_in chooser.entry.objects chooser.entry.shown) chooser.entry.shown.form walk (W.contents writer.old)
+        result (W.contents writer.new) }
 {
     let form = chooser.form();
     let mut sink = Sink {
@@ -155,9 +155,9 @@ where
     requires can { I.can_next walk.old }
     requires finite { IsFinite (I.remaining walk.old) }
     requires fresh { chooser.old ≡ fresh_choosing chooser.old.objects chooser.old.stored chooser.old.rows chooser.old.shown }
-    ensures adds { AddsBegun I.next_gives E.converts (HasTextIn chooser.old) (kept_in chooser.old.objects chooser.old.shown) chooser.old.shown.limit
-        (line_in chooser.old.objects chooser.old.shown) sink.old.form walk.old (W.contents writer.old) (held_in sink.old) result
-        (W.contents writer.new) (held_in sink.new) }
+    ensures adds { AddsBegun I.next_gives E.converts (HasTextIn chooser.old) (kept_in chooser.old.objects chooser.old.shown)
+        chooser.old.shown.limit (line_in chooser.old.objects chooser.old.shown) sink.old.form walk.old (W.contents writer.old) (held_in sink.old)
+        result (W.contents writer.new) (held_in sink.new) }
     ensures lines { OnOk result (line_in chooser.new.objects chooser.new.shown ≡ line_in chooser.old.objects chooser.old.shown) }
     ensures within { OnOk result (StopsWithin I.next_gives (kept_in chooser.old.objects chooser.old.shown) chooser.old.shown.limit walk.old
         walk.new) }

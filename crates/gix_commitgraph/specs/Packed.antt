@@ -3,6 +3,7 @@ use Rattle.std.specs.Prelude.{◌≡◌, ℕ, ◌+◌, ◌<◌, ◌≤◌, ◌^�
 use Rattle.std.specs.Int.{w32, w64, to_be_bytes, cast_unsigned}
 use Rattle.std.specs.List.{flat_map, AllByRecursion}
 use Rattle.std.specs.List.Sorted.{IsStrictlySortedBy}
+use Rattle.std.proofs.Props.{props}
 use Rattle.gix_hash.specs.declared.Kind.{Kind}
 use Rattle.gix_hash.specs.declared.Kind.TheVariants as kind
 use Rattle.gix_hash.specs.declared.ObjectId.{ObjectId}
@@ -96,6 +97,11 @@ pub record IsIdOf (k : Kind) (i : ObjectId) : Type 0 where
 abbrev pub IsPlaceAmong : ℕ → ParentPlace → Type 0
 IsPlaceAmong n (At i) = i < n
 IsPlaceAmong n Fault = Unit {0}
+
+-- there is one way for a place to be so
+pub IsPlaceAmong-prop : (n : ℕ) (place : ParentPlace) → IsProp (IsPlaceAmong n place)
+IsPlaceAmong-prop n (At i) = hlevel props
+IsPlaceAmong-prop n Fault = hlevel props
 
 -- a row among n rows of this kind, whose numbers are of their types' ranges
 pub record IsRowAmong (k : Kind) (n : ℕ) (row : GraphRow) : Type 0 where

@@ -157,7 +157,8 @@ fn check_row<'a>(
     requires before { IfSome before (λ row. row_len layout.kind ≤ length row.now) }
     requires whole { row_len layout.kind ≤ length row.now }
     ensures { (left : ℕ) → StepsOver (rows_left layout (left + 1) r (id_before layout.kind before.entry) row.now (words_of words.now))
-        (λ rest. rows_left layout left (r + 1) (Some (id_field layout.kind row.now)) (drop (row_len layout.kind) row.now) (words_of rest.now))
+        (λ rest. rows_left layout left (r + 1) (Some (id_field layout.kind row.now)) (drop (row_len layout.kind) row.now)
+        (words_of rest.now))
         result }
 {
     if !is_above(layout.kind, before, row) {

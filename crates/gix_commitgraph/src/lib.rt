@@ -306,14 +306,14 @@ impl Graph {
     }
 
     /// The kind of all ids and trees.
-    fn kind(&self) -> Kind
+    pub(crate) fn kind(&self) -> Kind
         ensures { result ≡ kind_of_rows self.now }
     {
         self.layout.kind
     }
 
     /// What begins with the row of a number.
-    fn row(&self, row: u32) -> &[u8]
+    pub(crate) fn row(&self, row: u32) -> &[u8]
         requires { row < length self.now }
         ensures { BeginsWithRow self.now row result.now }
     {
@@ -321,18 +321,11 @@ impl Graph {
     }
 
     /// The overflow words.
-    fn overflow(&self) -> &[u8]
+    pub(crate) fn overflow(&self) -> &[u8]
         ensures { words_of result.now ≡ overflow_words self.now }
     {
         let rows_len = fields::row_len(self.layout.kind) * self.layout.rows as usize;
         self.packed.as_slice().split_at(12 + rows_len).1
-    }
-
-    fn id_at(&self, row: u32) -> ObjectId
-        requires { row < length self.now }
-        ensures { result ≡ (row_at self.now row).id }
-    {
-        fields::id_field(self.kind(), self.row(row))
     }
 
     fn compare_at(&self, row: u32, id: &ObjectId) -> Ordering
@@ -347,40 +340,5 @@ impl Graph {
         requires { row < length self.now }
     {
         guess::rows_between(fields::word_at(self.row(row), 0), front, self.layout.rows)
-    }
-
-    fn tree_at(&self, row: u32) -> ObjectId
-        requires { row < length self.now }
-        ensures { result ≡ (row_at self.now row).tree }
-    {
-        fields::tree_field(self.kind(), self.row(row))
-    }
-
-    fn generation_at(&self, row: u32) -> u32
-        requires { row < length self.now }
-        ensures { result ≡ (row_at self.now row).generation }
-    {
-        fields::generation_field(self.kind(), self.row(row))
-    }
-
-    fn time_at(&self, row: u32) -> i64
-        requires { row < length self.now }
-        ensures { result ≡ (row_at self.now row).time }
-    {
-        fields::time_field(self.kind(), self.row(row))
-    }
-
-    fn parents_at(&self, row: u32) -> Parents<'_>
-        requires { row < length self.now }
-        ensures places { result ≡ answers_of (row_at self.now row).parents }
-        ensures within { All (λ answer. IfOk answer (λ position. position.0 < length self.now)) result }
-    {
-        let kind = self.kind();
-        let row = self.row(row);
-        Parents::new(
-            fields::first_field(kind, row),
-            fields::second_field(kind, row),
-            self.overflow(),
-        )
     }
 }

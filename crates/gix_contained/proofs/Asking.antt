@@ -55,12 +55,6 @@ module _ (qs new : List AskedId) (q : AskedId) {result : Option AskedId} (is : r
   taken_within p c = Contains-permutation _ _ p (IsPermutation-sym _ _ taken) (Contains-there p q new c)
 
 module _ (objects : Objects) (rows : List GraphRow) where
-  pub none_looked_up : AreLookedUp objects rows [] []
-  none_looked_up = record {
-    are_asked = record { covers = λ i c. absurd (no_member i c); keyed = λ q c. absurd (no_member q c) };
-    read = λ i c. absurd (no_member i c);
-  }
-
   -- one more id is looked up
   pub looked_up : (ids later : List ObjectId) (i : ObjectId) (n : ℕ) (qs new : List AskedId) → later ≡ ids ++ i ∷ [] → AreLookedUp objects rows ids qs → (q : Queued) → Knows objects rows true i q → n ≡ q.0.generation
       → IsPermutation ((record { 0 = n }, i) ∷ qs) new → AreLookedUp objects rows later new

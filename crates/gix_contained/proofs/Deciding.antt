@@ -48,9 +48,9 @@ among_names objects rows {w = w} {ids = ids} bring gives i m = go gives
 
     go : {used later : Bool} → GivesParents objects rows used w ids later → is_among i (names objects rows) ≡ true
     go (brought e) = by_text (bring ids e)
-    go (looked_up (by_row {row = row} e f)) = among-append i (map (λ row. row.id) rows) _ ∙ or_left _ _ (ids_in_rows rows row.parents ids f i m)
+    go (looked_up (by_row {row = row} u e f)) = among-append i (map (λ row. row.id) rows) _ ∙ or_left _ _ (ids_in_rows rows row.parents ids f i m)
     go (looked_up (by_store n r)) = by_text r
-    go (looked_up (drops d r)) = by_text r
+    go (looked_up (drops u d r)) = by_text r
 
 module _ {F : Type 0} (objects : F → Objects) (faulty : F → ObjectId → Type 0) (store : F) (rows : List GraphRow) where
   -- what holds whatever the rows say

@@ -60,9 +60,9 @@ module _ (objects history : Objects) (rows : List GraphRow) (known : IsHistory o
   -- the parents that are given are those of the history
   pub given_there : {in_use after : Bool} {w : Waiting} {ids : List ObjectId} → ((those : List ObjectId) → brings w ≡ Some those → Reads objects w.id those) → GivesParents objects rows in_use w ids after → ids ≡ parents_of history w.id
   given_there {w = w} bring (brought e) = of_store w.id _ (bring _ e)
-  given_there {w = w} bring (looked_up (by_row {row = row} e f)) = row_parents history rows known.agreeing w.id row _ e f
+  given_there {w = w} bring (looked_up (by_row {row = row} u e f)) = row_parents history rows known.agreeing w.id row _ e f
   given_there {w = w} bring (looked_up (by_store n r)) = of_store w.id _ r
-  given_there {w = w} bring (looked_up (drops d r)) = of_store w.id _ r
+  given_there {w = w} bring (looked_up (drops u d r)) = of_store w.id _ r
 
   module _ (tips ids : List ObjectId) where
     -- rows are dropped for a reason
@@ -177,15 +177,15 @@ module _ (objects history : Objects) (rows : List GraphRow) (known : IsHistory o
         where
           used : {after : Bool} → GivesParents objects rows s.source.in_use q.1 named after → after ≡ true → s.source.in_use ≡ true
           used (brought e) t = t
-          used (looked_up (by_row e f)) t = t
+          used (looked_up (by_row u e f)) t = t
           used (looked_up (by_store n r)) t = t
-          used (looked_up (drops d r)) t = absurd (false≢true t)
+          used (looked_up (drops u d r)) t = absurd (false≢true t)
 
           drop : {after : Bool} → GivesParents objects rows s.source.in_use q.1 named after → after ≡ false → DropsBy (parents_of history) rows tips ids
           drop (brought e) f = h.dropped f
-          drop (looked_up (by_row e g)) f = h.dropped f
+          drop (looked_up (by_row u e g)) f = h.dropped f
           drop (looked_up (by_store n r)) f = h.dropped f
-          drop (looked_up (drops d r)) f = dropped_for a asked deep d
+          drop (looked_up (drops u d r)) f = dropped_for a asked deep d
 
     -- ids that the tips reach are met
     module _ (busy : List ObjectId) (s new : Search F) (objects_of : F → Objects) (store : objects_of s.source.objects.now ≡ objects) (graph : rows_in s.source.graph ≡ rows) (m : Meets objects_of busy s new)

@@ -10,7 +10,7 @@ use Rattle.gix_hash.proofs.Lists.{only_member, filter_within}
 use Rattle.gix_object.specs.Object.{Objects}
 use Rattle.gix_commitgraph.specs.Rows.{GraphRow}
 use Rattle.gix_containing.specs.Containing.{AreContaining, empty, contains, passed, FindsContaining, FailsBy}
-use Rattle.gix_containing.specs.Inside.Steps.{MarksOnly, SelectsTips, TellsReach}
+use Rattle.gix_containing.specs.Inside.Steps.{MarksOnly, TellsReach}
 use Rattle.gix_merge_base.specs.declared.Error.{Error}
 use Rattle.gix_merge_base.specs.declared.Error.TheVariants as error
 use Rattle.gix_merge_base.specs.Bases.{IsFaultOf}
@@ -61,9 +61,6 @@ module _ (objects : Objects) (rows : List GraphRow) (target : ObjectId) (tips : 
       left : (i : ObjectId) → Contains tips i → set.contains marks i ≡ false → Contains others i
       left i m e = subst (λ xs. Contains xs i) (sym are) (among_is i (filter (λ j. not (set.contains marks j)) tips)
           (among-filter i (λ j. not (set.contains marks j)) tips ∙ Rattle.std.proofs.lemmas.Bool.and_from _ _ (not_from_false _ e) (among_from i tips m)))
-
-  pub each_are : (those : List ObjectId) → SelectsTips objects rows target tips those → FindsContaining objects rows target tips those
-  each_are those selects = record { exact = selects; read = only.read }
 
 -- the fault of fewer tips
 pub fails_among : {T : Type 0} (objects : Objects) (faulty : ObjectId → Type 0) (rows : List GraphRow) (target : ObjectId) (tips others : List ObjectId) → ((i : ObjectId) → Contains others i → Contains tips i)

@@ -1,14 +1,11 @@
 -- The month of a day.
-use Rattle.std.proofs.Common.{ℕ, zero, suc, ◌≡◌, ◌+◌, ◌-◌, ◌<◌, ◌≤◌, ◌++◌, List, [], ◌∷◌, ◌&&◌, Bool, true, false, cond, length, drop, drop-cons, get_or, sum, refl, ap, sym, ◌∙◌, arith}
-use Rattle.std.specs.Prelude.{nat_lt, nat_le}
-use Rattle.std.specs.List.{list_all}
+use Rattle.std.proofs.Common.{ℕ, suc, ◌≡◌, ◌+◌, ◌-◌, ◌<◌, ◌≤◌, ◌++◌, List, ◌∷◌, length, drop, drop-cons, get_or, sum, refl, ap, sym, ◌∙◌, arith}
+use Rattle.std.specs.Prelude.{nat_lt}
 use Rattle.std.proofs.lemmas.Bool.{cond-false, cond-true}
-use Rattle.std.proofs.lemmas.Bool.Decides.{nat_tests}
 use Rattle.std.proofs.lemmas.List.Sums.{sum_by-drop_more}
 use Rattle.gix_statement.specs.Formats.{months}
 use Rattle.gix_format.specs.Pieces.{month_text, months_text, two, year_days}
 use Rattle.gix_format.proofs.Digits.{ltb-above, ltb-below}
-use Rattle.gix_format.proofs.Years.{leap}
 
 first_here : (month n : ℕ) (lengths : List ℕ) (left : ℕ) → left < n → months_text month (n ∷ lengths) left ≡ two month ++ 45 ∷ two (suc left)
 unfolding months_text two
@@ -38,25 +35,6 @@ next month index lengths left at h =
 
 pub sum_next : (index : ℕ) (lengths : List ℕ) → index < length lengths → sum (drop index lengths) ≡ get_or lengths index 0 + sum (drop (index + 1) lengths)
 sum_next index lengths at = sum_by-drop_more (λ n. n) lengths index 0 at
-
-small_at : (lengths : List ℕ) → list_all (λ n. nat_le n 31) lengths ≡ true → (i : ℕ) → get_or lengths i 0 ≤ 31
-small_at [] all i = omega arith
-small_at (n ∷ lengths) all zero = both_left n (list_all (λ n. nat_le n 31) lengths) all
-  where
-    both_left : (n : ℕ) (t : Bool) → (nat_le n 31 && t) ≡ true → n ≤ 31
-    both_left n t all = grind (arith, nat_tests)
-small_at (n ∷ lengths) all (suc i) = small_at lengths (both_right (nat_le n 31) (list_all (λ n. nat_le n 31) lengths) all) i
-  where
-    both_right : (s t : Bool) → (s && t) ≡ true → t ≡ true
-    both_right true t all = all
-    both_right false t all = cc
-
-small_by : (leap : Bool) → list_all (λ n. nat_le n 31) (31 ∷ cond leap 29 28 ∷ 31 ∷ 30 ∷ 31 ∷ 30 ∷ 31 ∷ 31 ∷ 30 ∷ 31 ∷ 30 ∷ 31 ∷ []) ≡ true
-small_by true = refl
-small_by false = refl
-
-pub months_small : (year i : ℕ) → get_or (months year) i 0 ≤ 31
-months_small year i = small_at (months year) (small_by (leap year)) i
 
 pub at_first : (year day : ℕ) → months_text 1 (months year) day ≡ month_text year day
 unfolding month_text

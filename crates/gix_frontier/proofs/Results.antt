@@ -5,10 +5,6 @@ pub on_ok : {X E A B : Type 0} (r : Result X E) → (A → B) → OnOk r A → O
 on_ok (Ok x) f h = f h
 on_ok (Err e) f h = tt
 
-pub on_ok_both : {X E A B C : Type 0} (r : Result X E) → (A → B → C) → OnOk r A → OnOk r B → OnOk r C
-on_ok_both (Ok x) f h k = f h k
-on_ok_both (Err e) f h k = tt
-
 pub if_err : {X E : Type 0} {P Q : E → Type 0} (r : Result X E) → ((e : E) → P e → Q e) → IfErr r P → IfErr r Q
 if_err (Ok x) f h = tt
 if_err (Err e) f h = f e h

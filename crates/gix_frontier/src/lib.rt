@@ -420,7 +420,8 @@ impl Frontier {
     ///
     /// `AllocError` when out of memory. The frontier may hold anything then.
     pub fn finish(&mut self, id: ObjectId, side: Side) -> Result<bool, AllocError>
-        ensures before { IfOk result (λ was_done. let known = known_of self.old.known id in was_done ≡ (is_done known.tips || is_done known.ends)) }
+        ensures before { IfOk result (λ was_done. let known = known_of self.old.known id in
+            was_done ≡ (is_done known.tips || is_done known.ends)) }
         ensures finishes { OnOk result (Finishes self.old id side self.new) }
     {
         if let Some(was_done) = self.known.change(&id, |known| known.finish(side)) {

@@ -17,8 +17,5 @@ within_insert objects i o none q p at = map.get-insert id_total objects i o q �
     at_key true same = absurd (none-some p (sym none ∙ ap (map.get objects) (sym (same_is q i same)) ∙ at))
     at_key false same = at
 
-pub within_same : (objects : Objects) → IsWithin objects objects
-within_same objects q p at = at
-
 pub within_more : (few some many : Objects) → IsWithin few some → IsWithin some many → IsWithin few many
 within_more few some many left right q p at = right q p (left q p at)

@@ -4,6 +4,7 @@ ghost use Rattle.gix_memory_commands.specs.FolderAnswers.{AnswersFolder, GivesFo
 ghost use Rattle.gix_memory_commands.specs.Room.{IsWholeNamed, PromisesNamed};
 
 use crate::answer::Answer;
+use crate::list::batch;
 use crate::put_lines;
 use crate::trouble::Trouble;
 use crate::words::words_of;
@@ -14,7 +15,7 @@ use gix_mapped_folder::{Mapped, NamedFile, by_path};
 use gix_options::{Asked, Name, Place, Question, read_question};
 use gix_questions::choose;
 use gix_repository::Repository;
-use gix_repository_commands::{Part, Silent, answer, batch};
+use gix_repository_commands::{Part, Silent, answer};
 use gix_words::read_command;
 use std::alloc::{AllocError, Global};
 

@@ -16,6 +16,7 @@ ghost use Rattle.gix_memory_commands.specs.Room.{IsWhole, PromisesOver, answer_t
 mod answer;
 mod commits;
 mod folder;
+mod list;
 mod trouble;
 mod words;
 

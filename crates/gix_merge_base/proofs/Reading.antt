@@ -29,9 +29,9 @@ module _ {F : Type 0} (objects : F → Objects) (faulty : F → ObjectId → Typ
   parents_read {own = own} graph {i = i} {ids = ids} {in_use = in_use} {after = after} read agreeing = go (transport (λ k. ReadsParents (objects (same k)) (rows_in (graph k)) in_use i ids after) read)
     where
       go : {used later : Bool} → ReadsParents (objects store) (rows_in own) used i ids later → ids ≡ parents_of (objects store) i
-      go (by_row {row = row} e f) = row_parents (objects store) (rows_in own) agreeing i row ids e f
+      go (by_row {row = row} u e f) = row_parents (objects store) (rows_in own) agreeing i row ids e f
       go (by_store n r) = reads_parents (objects store) i ids r
-      go (drops d r) = reads_parents (objects store) i ids r
+      go (drops u d r) = reads_parents (objects store) i ids r
 
   -- one of these commits can't be read
   pub unread_among : (ids : List ObjectId) {T : Type 0} {result : Result T Error} {e : Error} {why : Hidden} {i : ObjectId} {Passed : Type 0} → Contains ids i → result ≡ Err e → e ≡ error_of why

@@ -125,7 +125,6 @@ pub trait Find {
     /// # Errors
     /// `NotFound` where the store has no object of this id, `ObjectKind` where the object is of another kind, `Store` where the
     /// store fails, and `Memory` when out of memory. After each `buf` may hold anything.
-    #[inline(always)]
     final fn find_kind_into(
         &self,
         id: &ObjectId,
@@ -152,7 +151,6 @@ pub trait Find {
     ///
     /// # Errors
     /// Those of `find_kind_into`. After each `buf` may hold anything.
-    #[inline(always)]
     final fn find_commit_iter<'a>(
         &self,
         id: &ObjectId,

@@ -12,9 +12,6 @@ use Rattle.gix_output.specs.declared.json_lines.JsonLines.{JsonLines}
 abbrev pub Without : ℕ → List ℕ → Type 0
 Without end line = All (λ b. b ≢ end) line
 
-abbrev AreWithout : ℕ → List (List ℕ) → Type 0
-AreWithout end lines = All (λ line. Without end line) lines
-
 with_end : ℕ → List (List ℕ) → List ℕ
 with_end end lines = flat_map (λ line. line ++ end ∷ []) lines
 

@@ -16,9 +16,8 @@ use Rattle.gix_words.specs.declared.words.Merges.TheVariants as merges
 use Rattle.gix_words.specs.declared.words.Order.{Order}
 use Rattle.gix_words.specs.declared.words.Order.TheVariants.{Topo}
 use Rattle.gix_words.specs.declared.words.Shown.{Shown}
-use Rattle.gix_words.specs.Words.{Bases, request_of}
 use Rattle.gix_words.specs.declared.fault.Fault.{Fault}
-use Rattle.gix_paged_commands.specs.Decided.{AreAllAbove, AreBasesAbove, BeginsBy, DecidesWords, DrawsAbove, GivesAbove, GivesFirst}
+use Rattle.gix_paged_commands.specs.Decided.{AreAllAbove, BeginsBy, DrawsAbove, GivesAbove, GivesFirst}
 
 -- one more
 pub one_more : (P : Info → Type 0) → (infos : List Info) (info : Info) → ((one : Info) → Contains infos one → P one) → P info → (one : Info) → Contains (infos ++ info ∷ []) one → P one
@@ -47,17 +46,6 @@ draws Above objects rows tips hidden left behind walk e f some others starts (Er
 
 pub not_empty : (ids : List ObjectId) → nat_eq (length ids) 0 ≡ false → ids ≢ []
 not_empty ids e none = let same : nat_eq (length ids) 0 ≡ true = ap (λ (xs : List ObjectId). nat_eq (length xs) 0) none in cc
-
--- the bases of one and others were found, and nothing is below of what one reaches and others don't
-pub bases_decided : (Above : ObjectId → Type 0) (objects : Objects) (rows : List GraphRow) (words : List (List ℕ)) (one : ObjectId) (others left : List ObjectId) → left ≡ others
-    → request_of words ≡ Ok (Bases one others) → DrawsAbove Above objects rows (one ∷ []) left → (result : Result Bool Fault)
-    → IfOk result (λ is. IsTrue is → AreBasesAbove Above objects rows one left) → IfOk result (λ is. IsTrue is → DecidesWords Above objects rows words)
-bases_decided Above objects rows words one others left e asked draws (Ok is) h = λ t. (
-  Bases one others,
-  asked,
-  (subst (DrawsAbove Above objects rows (one ∷ [])) e draws, subst (AreBasesAbove Above objects rows one) e (h t)),
-)
-bases_decided Above objects rows words one others left e asked draws (Err f) h = tt
 
 -- a topological walk gave so many commits first
 pub begins : (Above : ObjectId → Type 0) (objects : Objects) (rows : List GraphRow) (order : Order) (shown : Shown) (tips hidden left behind : List ObjectId) (by : TopoSorting) (walk : TopoWalk) (count : ℕ)

@@ -25,9 +25,9 @@ among_parents objects rows c ids r i m =
 
 module _ {F : Type 0} (objects : F → Objects) (store : F) (rows : List GraphRow) {w v : Painter F} (top : QueueEntry) (pops : Pops w top v) (safe : IsSafe objects store rows w) where
   named : {ids : List ObjectId} {in_use after : Bool} → ReadsParents (objects store) rows in_use top.1.id ids after → (i : ObjectId) → Contains ids i → is_among i (names (objects store) rows) ≡ true
-  named {ids} (by_row {row = row} e f) i m = among-append i (map (λ row. row.id) rows) _ ∙ or_left _ _ (ids_in_rows rows row.parents ids f i m)
+  named {ids} (by_row {row = row} u e f) i m = among-append i (map (λ row. row.id) rows) _ ∙ or_left _ _ (ids_in_rows rows row.parents ids f i m)
   named {ids} (by_store n r) i m = among_parents (objects store) rows top.1.id ids r i m
-  named {ids} (drops d r) i m = among_parents (objects store) rows top.1.id ids r i m
+  named {ids} (drops u d r) i m = among_parents (objects store) rows top.1.id ids r i m
 
   room_takes : {mid : Painter F} (ids : List ObjectId) → Takes v top mid → suc (room ids mid) ≡ room ids w
   room_takes {mid} ids takes =

@@ -9,11 +9,11 @@ use Rattle.gix_paint.proofs.Turn.{IsTurn, turn_hidden, turn_visible, given, rere
 
 -- parents were read, and the rows are in use: the row has no fault
 given_sound : {objects : Objects} {rows : List GraphRow} {old new : Bool} {i : ObjectId} {ids : List ObjectId} → ReadsParents objects rows old i ids new → new ≡ true → IsSoundRow rows i
-given_sound {rows = rows} {ids = ids} (by_row {row = other} e f) now row k corrupt =
+given_sound {rows = rows} {ids = ids} (by_row {row = other} u e f) now row k corrupt =
     let it : other ≡ row = (let same : Some other ≡ Some row = sym e ∙ k in cc) in
     unread_fault rows row.parents ids (ap (λ r. ids_at rows r.parents) (sym it) ∙ f) corrupt
 given_sound (by_store n r) now row k corrupt = ⊎_elim (λ none. let bad : None ≡ Some row = sym none ∙ k in cc) (λ unused. let bad : false ≡ true = sym unused ∙ now in cc) n
-given_sound (drops d r) now row k corrupt = cc
+given_sound (drops u d r) now row k corrupt = cc
 
 module _ {F : Type 0} (objects : F → Objects) (store : F) (history : Objects) (rows : List GraphRow) (tips hidden_tips : List ObjectId) where
   abbrev InUse : Painter F → Type 0

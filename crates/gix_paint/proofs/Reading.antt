@@ -32,12 +32,12 @@ header_read objects i header h time is =
 module _ (objects : Objects) {rows : List GraphRow} {i : ObjectId} where
   -- the parents of a row that was read
   pub row_read : {in_use new : Bool} {read : RowRead} → ReadsRow rows in_use i (Some read) new → ReadsParents objects rows in_use i read.parent_ids.items new
-  row_read (is_read h says) = by_row says.there says.parents
+  row_read (is_read h says) = by_row h says.there says.parents
 
   -- those that the store says, where no row is read
   pub store_read : {in_use new : Bool} {ids : List ObjectId} → ReadsRow rows in_use i None new → Reads objects i ids → ReadsParents objects rows in_use i ids new
   store_read (absent n) r = by_store (inl n) r
-  store_read (corrupt h d) r = drops d r
+  store_read (corrupt h d) r = drops h d r
   store_read (dropped h) r = by_store (inr h) r
 
   -- why none is read

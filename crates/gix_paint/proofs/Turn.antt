@@ -19,9 +19,9 @@ abbrev pub IsReread : List GraphRow → Bool → ObjectId → Bool → Type 0
 IsReread rows old i new = (new ≡ old) ⊎ ((new ≡ false) × DropsRows rows i)
 
 given_use : {objects : Objects} {rows : List GraphRow} {old new : Bool} {i : ObjectId} {ids : List ObjectId} → ReadsParents objects rows old i ids new → IsReread rows old i new
-given_use (by_row e f) = inl refl
+given_use (by_row u e f) = inl refl
 given_use (by_store n r) = inl refl
-given_use (drops d r) = inr (refl, d)
+given_use (drops u d r) = inr (refl, d)
 
 -- whether an entry that is taken leaves the frontier, and is of this id
 abbrev leaves : QueueEntry → ObjectId → Bool
@@ -164,16 +164,16 @@ module _ {F : Type 0} (objects : F → Objects) (store : F) (history : Objects) 
     used_before (inr d) r = let bad : false ≡ true = sym d.0 ∙ r in cc
 
     pub was_read : {after : Bool} {ids : List ObjectId} → Given ids after → WasRead objects store history rows tips hidden_tips top.1.id
-    was_read (by_row {row = row} e f) none = let bad : None ≡ Some row = sym none ∙ e in cc
+    was_read (by_row {row = row} u e f) none = let bad : None ≡ Some row = sym none ∙ e in cc
     was_read (by_store n r) none = ap is_some r.1
-    was_read (drops d r) none = ap is_some r.1
+    was_read (drops u d r) none = ap is_some r.1
 
     module _ (known : IsHistory (objects store) rows history) where
       -- the parents that are read are the commit's
       pub given_parents : {after : Bool} {ids : List ObjectId} → Given ids after → ids ≡ parents_of history top.1.id
-      given_parents {ids = ids} (by_row {row = row} e f) = row_parents history rows known.agreeing top.1.id row ids e f
+      given_parents {ids = ids} (by_row {row = row} u e f) = row_parents history rows known.agreeing top.1.id row ids e f
       given_parents {ids = ids} (by_store n r) = reads_parents history top.1.id ids (in_history known top.1.id ids r)
-      given_parents {ids = ids} (drops d r) = reads_parents history top.1.id ids (in_history known top.1.id ids r)
+      given_parents {ids = ids} (drops u d r) = reads_parents history top.1.id ids (in_history known top.1.id ids r)
 
       -- rows that aren't in use were dropped for a reason
       pub dropped_so : {after : Bool} (h : Stands objects store history rows tips hidden_tips nobody w) → IsStarted objects store history rows tips hidden_tips w → (IsSettled w → ⊥)

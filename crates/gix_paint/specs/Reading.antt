@@ -1,5 +1,5 @@
 -- How a search reads commits: by their rows as long as these are in use, and else from the store.
-use Rattle.std.specs.Prelude.{◌≡◌, ◌≢◌, ◌⊎◌, List, [], Bool, false, if◌then◌else◌, Some, None}
+use Rattle.std.specs.Prelude.{◌≡◌, ◌≢◌, ◌⊎◌, List, [], Bool, true, false, if◌then◌else◌, Some, None}
 use Rattle.gix_hash.specs.declared.ObjectId.{ObjectId}
 use Rattle.gix_object.specs.declared.find.existing_iter.Error.TheVariants as existing
 use Rattle.gix_object.specs.CommitText.{Commit}
@@ -36,9 +36,9 @@ IsPassed rows in_use i = (row_of rows i ≡ None) ⊎ (in_use ≡ false) ⊎ Dro
 
 -- the parents by the row, or else from the store, and whether rows are in use then
 pub data ReadsParents (objects : Objects) (rows : List GraphRow) (in_use : Bool) (i : ObjectId) (ids : List ObjectId) : Bool → Type 0 where
-  by_row : {row : GraphRow} → row_of rows i ≡ Some row → ids_at rows row.parents ≡ Some ids → ReadsParents objects rows in_use i ids in_use
+  by_row : {row : GraphRow} → in_use ≡ true → row_of rows i ≡ Some row → ids_at rows row.parents ≡ Some ids → ReadsParents objects rows in_use i ids in_use
   by_store : IsRowless rows in_use i → Reads objects i ids → ReadsParents objects rows in_use i ids in_use
-  drops : DropsRows rows i → Reads objects i ids → ReadsParents objects rows in_use i ids false
+  drops : in_use ≡ true → DropsRows rows i → Reads objects i ids → ReadsParents objects rows in_use i ids false
 
 -- out of memory, or an id can't be read of which no row is read
 abbrev pub ReadFails : Objects → (ObjectId → Type 0) → List GraphRow → Bool → ObjectId → Hidden → Type 0

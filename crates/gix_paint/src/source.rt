@@ -128,8 +128,8 @@ impl<'a, F: Find> Source<'a, F> {
     pub fn parents(&mut self, id: &ObjectId, near: u32) -> Result<Named, Hidden>
         ensures objects { self.new.objects ≡ self.old.objects }
         ensures graph { self.new.graph ≡ self.old.graph }
-        ensures parents { IfOk result (λ named. ReadsParents (F.objects self.old.objects.now) (rows_in self.old.graph) self.old.in_use id.now
-            named.parent_ids.items self.new.in_use) }
+        ensures parents { IfOk result (λ named. ReadsParents (F.objects self.old.objects.now) (rows_in self.old.graph) self.old.in_use
+            id.now named.parent_ids.items self.new.in_use) }
         ensures fault { IfErr result (ReadFails (F.objects self.old.objects.now) (F.faulty self.old.objects.now) (rows_in self.old.graph)
             self.old.in_use id.now) }
     {

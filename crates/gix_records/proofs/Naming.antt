@@ -22,9 +22,6 @@ pub record HasCompared (text rest : List ℕ) (number : ℕ) : Type 0 where
   pub count : number ≡ suc (length before)
   pub named : All IsNamedRecord before
 
-pub compared_none : (text : List ℕ) → HasCompared text text 1
-compared_none text = record { before = []; begins = refl; count = refl; named = All-nil IsNamedRecord }
-
 pub compared_one : (text rest : List ℕ) (number : ℕ) (r : Record × List ℕ) → HasCompared text rest number → record_at rest ≡ Some r → IsNamedRecord r.0 → HasCompared text r.1 (number + 1)
 compared_one text rest number r h e named = record {
   before = h.before ++ r.0 ∷ [];

@@ -2,13 +2,11 @@
 //! folder in memory.
 //!
 //! Each object is compared with its id before it is used. So what an answer says is right of every repository that has these objects: that
-//! is the clause `named` of [`answer`] and [`batch`].
+//! is the clause `named` of [`answer`].
 #![tactic(auto)]
 
-mod list;
 mod part;
 mod run;
 
-pub use list::batch;
 pub use part::{Part, Silent, Watch};
 pub use run::{Answered, answer};

@@ -110,7 +110,7 @@ impl Part {
     }
 
     /// Where memory for what is read is taken from.
-    pub(crate) fn alloc(&self) -> Global {
+    pub fn alloc(&self) -> Global {
         self.alloc
     }
 

@@ -4,7 +4,7 @@ ghost use Rattle.std.specs.Result.{result_map_both};
 ghost use Rattle.gix_object.specs.CommitRefIter.{commit_items_left, first_committer, signature_shown};
 ghost use Rattle.gix_object.specs.declared.Kind.TheVariants as object;
 ghost use Rattle.gix_object.specs.declared.find.existing_iter.Error.TheVariants as existing;
-ghost use Rattle.gix_object.specs.Find.{FindsCommit, IsExistingFault};
+ghost use Rattle.gix_object.specs.Find.{IsExistingFault};
 ghost use Rattle.gix_revwalk.specs.declared.Parents.TheVariants as mode;
 ghost use Rattle.gix_revwalk.specs.Either.{seconds_told};
 ghost use Rattle.gix_revwalk.specs.Reading.{IsFrontAt, ReadsParentIds, ReadsHeader};
@@ -111,18 +111,6 @@ fn read_front<'a>(alloc: Global, mut items: CommitRefIter<'a>) -> Result<Front<'
     }
 }
 
-/// Looks a commit up, and lends its items from `text`. A call of its own: inlined it costs a reading more.
-#[inline(never)]
-fn find_items<'a, F: Find>(
-    objects: &F,
-    id: &ObjectId,
-    text: &'a mut Vec<u8>,
-) -> Result<CommitRefIter<'a>, existing_iter::Error>
-    ensures { FindsCommit (F.objects objects.now) (F.faulty objects.now) id.now result }
-{
-    objects.find_commit_iter(id, text)
-}
-
 /// Looks a commit up, and reads its front, which `text` then holds.
 #[inline(always)]
 fn find_front<'a, F: Find>(
@@ -136,7 +124,7 @@ where
     ensures fault { IfErr result (λ why. why ≢ existing.Memory
         → IsExistingFault (F.objects objects.now) (F.faulty objects.now) id.now object.Commit why) }
 {
-    let items = find_items(objects, id, text)?;
+    let items = objects.find_commit_iter(id, text)?;
     match read_front(alloc, items) {
         Ok(front) => Ok(front),
         Err(_) => Err(existing_iter::Error::Memory),

@@ -20,8 +20,8 @@ use std::io::Write;
 
 /// The generation of a row that has no parents.
 const FIRST_GENERATION: u32 = 1;
-/// The most bytes of a block that the C library keeps when it is given back: 32 MiB, less what it adds to a block.
-const KEPT_BLOCK: usize = (32 << 20) - (1 << 14);
+/// The least bytes of a block that the C library never keeps when it is given back: 32 MiB, and what it adds to a block.
+const HANDED_BACK: usize = (32 << 20) + (1 << 14);
 
 /// The rows of a question.
 #[derive(Drop)]
@@ -96,7 +96,6 @@ fn rows_of_paths(
     if is_checked && !have_passed(rt, cache, paths) {
         return Ok(unchecked());
     }
-    keep_blocks(rt);
     let layers = match read_layers(rt, cache, paths) {
         Ok(layers) => layers,
         Err(fault) => {
@@ -116,7 +115,11 @@ fn rows_of_layers(rt: &HostRuntime, layers: Vec<Layer>) -> Result<Known, Fault> 
     for layer in layers {
         files.push(layer.bytes).map_err(AllocError::from)?;
     }
-    match read_graph(rt.alloc(), files.as_slice()) {
+    let graph = read_graph(rt.alloc(), files.as_slice());
+    for file in files {
+        hand_back(file);
+    }
+    match graph {
         Ok(graph) => Ok(Known {
             graph: Some(graph),
             is_unchecked: false,
@@ -129,11 +132,10 @@ fn rows_of_layers(rt: &HostRuntime, layers: Vec<Layer>) -> Result<Known, Fault> 
     }
 }
 
-/// Has the C library keep large blocks that are given back. Else it hands each to the system, whose new pages take half of the time in which
-/// rows are opened. It does so once a block of the size has been given back. This one is never touched, and needn't be had.
-fn keep_blocks(rt: &HostRuntime) {
-    let block: Result<Vec<u8>, _> = Vec::with_capacity(rt.alloc(), KEPT_BLOCK);
-    drop(block);
+/// Hands the bytes of a file back to the system. The C library would keep this block and from then on all that aren't larger, with holes
+/// between them, so it is made larger than those that are kept. None of its new pages is touched.
+fn hand_back(mut bytes: Vec<u8>) {
+    let _ = bytes.reserve(HANDED_BACK);
 }
 
 /// Whether these options take a file that is open: it has passed, or is trusted.

@@ -3,10 +3,10 @@ ghost use Rattle.std.specs.Prelude.{◌≡◌, map, string_bytes, IfOk, IfErr};
 ghost use Rattle.gix_statement.specs.WholeStatement.{AreNamed};
 ghost use Rattle.gix_batches.specs.Batches.{Promises};
 
-use crate::part::{Part, Silent};
 use gix_batches::{Batch, Commit, CommitId, Ending, batch_named};
 use gix_hash::ObjectId;
 use gix_odb::Odb;
+use gix_repository_commands::{Part, Silent};
 use gix_words::Fault;
 use std::fs::Files;
 use std::os::unix::fs::FileExt;
@@ -20,7 +20,7 @@ const MOST_READINGS: u32 = 64;
 /// # Errors
 ///
 /// The first fault of an object that is read. The slices are as they were.
-pub fn batch<R>(
+pub(super) fn batch<R>(
     words: &[String],
     part: &mut Part,
     odb: &mut Odb<R>,
