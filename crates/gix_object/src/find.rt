@@ -125,6 +125,7 @@ pub trait Find {
     /// # Errors
     /// `NotFound` where the store has no object of this id, `ObjectKind` where the object is of another kind, `Store` where the
     /// store fails, and `Memory` when out of memory. After each `buf` may hold anything.
+    #[inline(always)]
     final fn find_kind_into(
         &self,
         id: &ObjectId,
