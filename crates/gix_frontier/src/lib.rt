@@ -93,12 +93,38 @@ impl Marks {
     }
 }
 
+/// An indegree as bytes. The table has one for each id, and a number would lie at a multiple of eight bytes behind the 33 of the id.
+#[derive(Drop)]
+struct Indegree([u8; 8]);
+
+impl Model for Indegree {
+    ghost use Rattle.std.specs.Prelude.{ℕ};
+    ghost use Rattle.std.specs.Int.{w64, from_le_bytes};
+
+    ghost Value = { ℕ };
+
+    ghost view = { λ n. from_le_bytes w64 n.0 };
+}
+
+impl Indegree {
+    fn new(number: usize) -> Indegree
+        ensures { result ≡ number }
+    {
+        Indegree(number.to_le_bytes())
+    }
+
+    fn get(&self) -> usize
+        ensures { result ≡ self.now }
+    {
+        usize::from_le_bytes(self.0)
+    }
+}
+
 /// What is known of an id.
 #[derive(Drop)]
 pub struct Known {
     marks: Marks,
-    /// Its indegree: how many commits that the tips' search has done, and that weren't taken, name it as a parent that is walked.
-    pub indegree: usize,
+    indegree: Indegree,
 }
 
 impl Model for Known {
@@ -120,7 +146,7 @@ impl Known {
     {
         Known {
             marks: Marks::empty(),
-            indegree: 0,
+            indegree: Indegree::new(0),
         }
     }
 
@@ -130,8 +156,15 @@ impl Known {
     {
         Known {
             marks: self.marks,
-            indegree: self.indegree,
+            indegree: Indegree::new(self.indegree()),
         }
+    }
+
+    /// Its indegree: how many commits that the tips' search has done, and that weren't taken, name it as a parent that is walked.
+    pub fn indegree(&self) -> usize
+        ensures { result ≡ self.now.indegree }
+    {
+        self.indegree.get()
     }
 
     /// How far a search has come with it.
@@ -195,7 +228,7 @@ impl Known {
         ensures new { IfSome result (λ is_new. is_new ≡ not (is_seen self.old.tips)) }
         ensures counts { OnSome result (self.new ≡ met_again self.old) }
     {
-        self.indegree = self.indegree.checked_add(1)?;
+        self.indegree = Indegree::new(self.indegree().checked_add(1)?);
         if !matches!(self.progress(Side::Tips), Progress::Unseen) {
             return Some(false);
         }
@@ -227,7 +260,7 @@ impl Known {
         ensures new { IfSome result (λ left. self.new ≡ record self.old { indegree = left.indegree }) }
         ensures none { IfNone result (self.old.indegree ≡ 0) }
     {
-        self.indegree = self.indegree.checked_sub(1)?;
+        self.indegree = Indegree::new(self.indegree().checked_sub(1)?);
         Some(self.copy())
     }
 }
@@ -345,7 +378,7 @@ impl Frontier {
             None => {
                 let known = Known {
                     marks: Marks::empty(),
-                    indegree: 1,
+                    indegree: Indegree::new(1),
                 };
                 self.known.insert(*id, known.with_met(Side::Tips))?;
                 Ok(true)

@@ -76,7 +76,7 @@ impl<F: Find + Drop> Walk<F> {
         ensures same { plan_of self.new ≡ plan_of self.old }
     {
         let known = self.counting.frontier.known(id);
-        if !is_due(known.indegree, &known) {
+        if !is_due(known.indegree(), &known) {
             return Ok(());
         }
         self.push(id, NOWHERE)
@@ -131,7 +131,7 @@ impl<F: Find + Drop> Walk<F> {
         let Some(left) = self.counting.frontier.uncount(id) else {
             return Err(Error::MissingIndegreeUnexpected);
         };
-        if !is_due(left.indegree, &left) {
+        if !is_due(left.indegree(), &left) {
             return Ok(());
         }
         self.push(id, near)
