@@ -7,7 +7,7 @@ use Rattle.gix_paint.proofs.Common.{stays, shows, covers, rows_used, Reads, IsQu
 use Rattle.gix_paint.specs.declared.Side.TheVariants as side
 use Rattle.gix_revwalk.specs.Agreeing.{IsAgreeing}
 use Rattle.gix_revwalk.specs.Commits.{commit_at}
-use Rattle.gix_paint.specs.Inside.Painter.{hidden_of, rows_in}
+use Rattle.gix_paint.specs.Inside.Painter.{hidden_of, rows_of}
 
 -- the ids that are marked hidden, as a set
 pub contains-hidden : (marks : AllMarks) (i : ObjectId) → set.contains (hidden_of marks) i ≡ is_hidden marks i
@@ -59,12 +59,12 @@ module _ {F : Type 0} (objects : F → Objects) (store : F) (rows : List GraphRo
 
   pub record IsSafe (p : Painter F) : Type 0 where
     pub same_store : p.source.objects.now ≡ store
-    pub same_rows : rows_in p.source.graph ≡ rows
+    pub same_rows : rows_of p.source.graph ≡ rows
     pub queued : RowsInUse p → (q : QueueEntry) → Contains p.queue q → IsQueued rows q
 
   -- rows in use are these
   pub used : {p : Painter F} → IsSafe p → RowsInUse p → rows_used p.source ≡ rows
-  used {p} safe r = ap (λ b. if b then rows_in p.source.graph else []) r ∙ safe.same_rows
+  used {p} safe r = ap (λ b. if b then rows_of p.source.graph else []) r ∙ safe.same_rows
 
   module _ {s : Side} {ids : List ObjectId} {p new : Painter F} (m : Meets s ids p new) where
     pub still_stand : RowsInUse new → RowsInUse p
@@ -73,7 +73,7 @@ module _ {F : Type 0} (objects : F → Objects) (store : F) (rows : List GraphRo
     pub safe_meets : IsSafe p → IsSafe new
     safe_meets h = record {
       same_store = ap (λ source. source.objects.now) m.source_stays ∙ h.same_store;
-      same_rows = ap (λ source. rows_in source.graph) m.source_stays ∙ h.same_rows;
+      same_rows = ap (λ source. rows_of source.graph) m.source_stays ∙ h.same_rows;
       queued = λ r q c. ⊎_elim (λ o. h.queued (still_stand r) q o) (λ a. subst (λ rs. IsQueued rs q) (used h (still_stand r)) a.2) (m.adds q c);
     }
 

@@ -1,5 +1,5 @@
 -- Where painting begins and ends: the marks are whole.
-use Rattle.std.proofs.Common.{Bor, ◌≡◌, ◌≢◌, ◌⊎◌, ◌<◌, ◌≤◌, ℕ, List, [], ◌∷◌, ◌++◌, Bool, true, false, ◌&&◌, Option, Some, None, Contains, IsSome, is_some, if◌then◌else◌, refl, sym, ap, subst, inl, inr, ⊎_elim, ◌∙◌, arith}
+use Rattle.std.proofs.Common.{◌≡◌, ◌≢◌, ◌⊎◌, ◌<◌, ◌≤◌, ℕ, List, [], ◌∷◌, ◌++◌, Bool, true, false, ◌&&◌, Option, Some, None, Contains, IsSome, is_some, if◌then◌else◌, refl, sym, ap, subst, inl, inr, ⊎_elim, ◌∙◌, arith}
 use Rattle.gix_paint.proofs.Common.{Contains-append_cases, ObjectId, id_cmp, Objects, GraphRow, row_of, Side, Told, Infinite, QueueEntry, Painter, IsHistory, IsOpenBelow, IsRead, shown_commit, hidden_commit, generation_in, Paints, parents_of}
 use Rattle.gix_paint.proofs.Common.{IsAtBoundary, Reaches, start, step, hidden_of, mark_of, IsWaiting, IsSettled, is_told, Meets, no_member, Contains-here}
 use Rattle.std.specs.FinMap as map_of
@@ -8,7 +8,7 @@ use Rattle.gix_paint.specs.declared.Side.TheVariants as side
 use Rattle.gix_paint.specs.declared.queue.Generation.{Generation}
 use Rattle.gix_revwalk.specs.Agreeing.{IsCorrupt}
 use Rattle.gix_revwalk.specs.Commits.{commit_at}
-use Rattle.gix_paint.specs.Inside.Painter.{rows_in}
+use Rattle.gix_paint.specs.Inside.Painter.{rows_of}
 use Rattle.gix_paint.proofs.Invariant.{contains-hidden, later, nobody, RowsInUse, IsOutside, WasRead, IsSafe, Fact, Stands, IsStarted, stands_meets, safe_meets}
 use Rattle.gix_paint.proofs.BeforeTurn.{HasGeneration, one_generation, told_row, hidden_from, falls, below, waits_above}
 use Rattle.gix_paint.proofs.Order.{IsAbove, IsOrdered, HoldsOf, ordered_start}
@@ -25,7 +25,7 @@ module _ {F : Type 0} (objects : F → Objects) (store : F) (history : Objects) 
   -- a painter that has marked nothing
   pub record IsBlank (p : Painter F) : Type 0 where
     pub same_store : p.source.objects.now ≡ store
-    pub same_rows : rows_in p.source.graph ≡ rows
+    pub same_rows : rows_of p.source.graph ≡ rows
     pub in_use : RowsInUse objects store rows p
     pub marks : p.marks ≡ map_of.empty
     pub frontier : p.frontier ≡ set.empty
@@ -210,8 +210,8 @@ module _ {F : Type 0} (objects : F → Objects) (store : F) (rows : List GraphRo
       either_rows : (b : Bool) → ((if b then rows else []) ≡ rows) ⊎ ((if b then rows else []) ≡ [])
       either_rows b = grind arith
 
-      left : (b : Bool) (graph : Option (Bor (List GraphRow))) → p.source.graph ≡ graph → b ≡ is_some p.source.graph → (if b then rows else []) ≡ rows
-      left b None e told = ap (λ b. if b then rows else []) (told ∙ ap is_some e) ∙ sym (ap rows_in e) ∙ safe.same_rows
+      left : (b : Bool) (graph : Option (List GraphRow)) → p.source.graph ≡ graph → b ≡ is_some p.source.graph → (if b then rows else []) ≡ rows
+      left b None e told = ap (λ b. if b then rows else []) (told ∙ ap is_some e) ∙ sym (ap rows_of e) ∙ safe.same_rows
       left b (Some graph) e told = ap (λ b. if b then rows else []) (told ∙ ap is_some e)
 
       -- rows that are left and have a row are in use

@@ -6,7 +6,7 @@ use Rattle.gix_paint.proofs.Common.{parents_of, Reaches, step, id_total, same_is
 use Rattle.std.specs.FinMap as map_of
 use Rattle.std.specs.FinSet as set
 use Rattle.gix_paint.specs.declared.Side.TheVariants as side
-use Rattle.gix_paint.specs.Inside.Painter.{rows_in}
+use Rattle.gix_paint.specs.Inside.Painter.{rows_of}
 use Rattle.gix_revwalk.specs.Reading.{DropsRows}
 use Rattle.std.proofs.Math.Path.{transport}
 use Rattle.gix_paint.proofs.Invariant.{in_history, reads_parents, nobody, starts_of, RowsInUse, IsSafe, IsOutside, WasRead, Fact, Stands, IsStarted, stands_meets, safe_meets, started_meets}
@@ -44,7 +44,7 @@ module _ {F : Type 0} (objects : F → Objects) {w v : Painter F} (top : QueueEn
     pub mid : Painter F
     pub ids : List ObjectId
     pub takes : Takes v top mid
-    pub gives : ((is_turn w.marks top ≡ true) × ReadsParents (objects v.source.objects.now) (rows_in v.source.graph) v.source.in_use top.1.id ids mid.source.in_use)
+    pub gives : ((is_turn w.marks top ≡ true) × ReadsParents (objects v.source.objects.now) (rows_of v.source.graph) v.source.in_use top.1.id ids mid.source.in_use)
         ⊎ ((is_turn w.marks top ≡ false) × (ids ≡ []) × (mid.source.in_use ≡ v.source.in_use))
     pub met : Meets top.1.side ids mid new
 
@@ -95,7 +95,7 @@ module _ {F : Type 0} (objects : F → Objects) (store : F) (history : Objects) 
     pub safe_takes : IsSafe objects store rows w → (InUse mid → InUse w) → IsSafe objects store rows mid
     safe_takes safe back = record {
       same_store = ap (λ o. o.now) (takes.objects_stay ∙ ap (λ s. s.objects) pops.source) ∙ safe.same_store;
-      same_rows = ap rows_in (takes.graph_stays ∙ ap (λ s. s.graph) pops.source) ∙ safe.same_rows;
+      same_rows = ap rows_of (takes.graph_stays ∙ ap (λ s. s.graph) pops.source) ∙ safe.same_rows;
       queued = λ r q c. safe.queued (back r) q (within q c);
     }
 
@@ -152,8 +152,8 @@ module _ {F : Type 0} (objects : F → Objects) (store : F) (history : Objects) 
         stored : v.source.objects.now ≡ store
         stored = ap (λ s. s.objects.now) pops.source ∙ safe.same_store
 
-        those : rows_in v.source.graph ≡ rows
-        those = ap (λ s. rows_in s.graph) pops.source ∙ safe.same_rows
+        those : rows_of v.source.graph ≡ rows
+        those = ap (λ s. rows_of s.graph) pops.source ∙ safe.same_rows
 
     pub reread : {new : Painter F} (t : IsTurn objects top pops new) → IsReread rows w.source.in_use top.1.id t.mid.source.in_use
     reread t = ⊎_elim (λ g. given_use g.1) (λ n. inl n.2) (given t)

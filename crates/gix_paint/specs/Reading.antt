@@ -1,5 +1,5 @@
 -- How a search reads commits: by their rows as long as these are in use, and else from the store.
-use Rattle.std.specs.Prelude.{◌≡◌, ◌≢◌, ◌⊎◌, List, [], Bool, true, false, if◌then◌else◌, Some, None}
+use Rattle.std.specs.Prelude.{◌≡◌, ◌≢◌, ◌⊎◌, List, [], Bool, true, false, Some, None}
 use Rattle.gix_hash.specs.declared.ObjectId.{ObjectId}
 use Rattle.gix_object.specs.declared.find.existing_iter.Error.TheVariants as existing
 use Rattle.gix_object.specs.CommitText.{Commit}
@@ -7,16 +7,10 @@ use Rattle.gix_object.specs.Object.{Objects}
 use Rattle.gix_commitgraph.specs.Rows.{GraphRow, row_of}
 use Rattle.gix_paint.specs.declared.Hidden.{Hidden}
 use Rattle.gix_paint.specs.declared.Hidden.TheVariants as hidden_by
-use Rattle.gix_paint.specs.declared.source.Source.{Source}
 use Rattle.gix_paint.specs.Painting.{IsFaultAt}
-use Rattle.gix_revwalk.specs.Agreeing.{rows_in}
 use Rattle.gix_revwalk.specs.Commits.{commit_at}
 use Rattle.gix_revwalk.specs.Reading.{DropsRows}
 use Rattle.gix_revwalk.specs.RowParents.{ids_at}
-
--- the rows, while they are in use
-abbrev pub rows_used : {F : Type 0} → Source F → List GraphRow
-rows_used source = if source.in_use then rows_in source.graph else []
 
 -- a commit that the store has whole, and its parents
 abbrev pub Reads : Objects → ObjectId → List ObjectId → Type 0

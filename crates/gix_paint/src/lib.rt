@@ -8,8 +8,10 @@ ghost use Rattle.gix_commitgraph.specs.Rows.{row_of};
 ghost use Rattle.gix_paint.specs.Painting.{IsHiddenFault, Paints};
 ghost use Rattle.gix_revwalk.specs.Ids.{ids_of};
 ghost use Rattle.gix_paint.specs.Inside.Painter as painter;
-ghost use Rattle.gix_paint.specs.Inside.Painter.{rows_in, generation_told, Meets, is_turn, Takes, TreatsEntry, IsSettled, Pops};
-ghost use Rattle.gix_paint.specs.Reading.{rows_used, ReadFails};
+ghost use Rattle.gix_paint.specs.Inside.Painter.{generation_told, Meets, is_turn, Takes, TreatsEntry, IsSettled, Pops};
+ghost use Rattle.gix_paint.specs.Reading.{ReadFails};
+ghost use Rattle.gix_revwalk.specs.Agreeing.{rows_in, rows_of};
+ghost use Rattle.gix_revwalk.specs.Reading.{rows_used};
 
 mod queue;
 pub mod source;
@@ -20,9 +22,10 @@ use gix_hash::{Keys, ObjectId};
 use gix_object::decode;
 use gix_object::find::{Find, existing_iter};
 use gix_revwalk::Pending;
-use gix_revwalk::row::NOWHERE;
+use gix_revwalk::row::{NOWHERE, copy_of};
+use gix_revwalk::source::Source;
 use queue::{Entry, Generation, Queue};
-use source::{Named, Source};
+use source::{Named, parents};
 use std::alloc::{AllocError, Global};
 use std::collections::VecDeque;
 use std::marker::Model;
@@ -130,7 +133,7 @@ fn is_hidden(marks: &IdMap<Side>, id: &ObjectId) -> bool
 /// What was marked, and what waits to be read.
 #[derive(Drop)]
 struct Painter<'a, F> {
-    source: Source<'a, F>,
+    source: Source<&'a F>,
     /// Each id that was met: for hidden tips as soon as one of them was found to reach it.
     marks: IdMap<Side>,
     /// The ids that have a row, wait for visible tips, and that no hidden tip was found to reach.
@@ -236,12 +239,12 @@ impl<'a, F: Find> Painter<'a, F> {
     fn treat(&mut self, generation: Generation, entry: Entry) -> Result<(), Hidden>
         ensures ok { IfOk result (λ _. TreatsEntry F.objects self.old (generation, entry) self.new) }
         ensures fault { IfErr result (ReadFails (F.objects self.old.source.objects.now) (F.faulty self.old.source.objects.now)
-            (rows_in self.old.source.graph) self.old.source.in_use entry.id) }
+            (rows_of self.old.source.graph) self.old.source.in_use entry.id) }
     {
         if !self.begins(generation, &entry) {
             return Ok(());
         }
-        let Named { parent_ids, .. } = self.source.parents(&entry.id, NOWHERE)?;
+        let Named { parent_ids, .. } = parents(&mut self.source, &entry.id, NOWHERE)?;
         self.meet_all(parent_ids.as_slice(), entry.side)?;
         Ok(())
     }
@@ -296,6 +299,7 @@ pub fn paint<'a, F: Find>(
         (ids_of tips.now.items) hidden_tips.now why) }
 {
     let keys = objects.keys();
+    let graph = copy_of(graph)?;
     let mut painter = Painter {
         source: Source::new(alloc, objects, graph),
         marks: IdMap::new(alloc, keys),

@@ -1,5 +1,5 @@
 -- How walks read a commit: by its row as long as rows are in use, or else from the store.
-use Rattle.std.specs.Prelude.{◌≡◌, ℕ, List, Bool, true, false, Option, Some, None, Result, Ok, Err, IfOk, IfErr}
+use Rattle.std.specs.Prelude.{◌≡◌, ℕ, List, [], if◌then◌else◌, Bool, true, false, Option, Some, None, Result, Ok, Err, IfOk, IfErr}
 use Rattle.std.specs.FinMap as map_of
 use Rattle.gix_hash.specs.declared.ObjectId.{ObjectId}
 use Rattle.gix_object.specs.declared.Kind.TheVariants as object
@@ -12,10 +12,15 @@ use Rattle.gix_commitgraph.specs.Rows.{GraphRow, row_of}
 use Rattle.gix_revwalk.specs.declared.Parents.TheVariants as mode
 use Rattle.gix_revwalk.specs.declared.read.Header.{Header}
 use Rattle.gix_revwalk.specs.declared.row.RowRead.{RowRead}
+use Rattle.gix_revwalk.specs.declared.source.Source.{Source}
 use Rattle.gix_revwalk.specs.Either.{seconds_told}
 use Rattle.gix_revwalk.specs.Texts.{scanned}
 use Rattle.gix_revwalk.specs.RowParents.{ids_at}
 pub use Rattle.gix_revwalk.specs.Agreeing.{rows_of}
+
+-- the rows, while they are in use
+abbrev pub rows_used : {F : Type 0} → Source F → List GraphRow
+rows_used source = if source.in_use then rows_of source.graph else []
 
 -- what a row without a fault says of its commit
 pub record RowSays (rows : List GraphRow) (i : ObjectId) (read : RowRead) : Type 0 where

@@ -10,6 +10,7 @@ ghost use Rattle.gix_revwalk.specs.Agreeing.{rows_in};
 pub mod queue;
 pub mod read;
 pub mod row;
+pub mod source;
 pub mod time_queue;
 
 use gix_commitgraph::{Commit, Graph};

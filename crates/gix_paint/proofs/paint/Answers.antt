@@ -1,6 +1,6 @@
 use Rattle.std.proofs.Common.{◌≡◌, ◌&&◌, is_some, [], sym, ap, subst, ◌∙◌, if◌then◌else◌}
 use Rattle.gix_paint.proofs.Common.{err_from_is_err_and, Objects, Paints, hidden_of, ids_of}
-use Rattle.gix_paint.specs.Inside.Painter.{rows_in}
+use Rattle.gix_revwalk.specs.Agreeing.{rows_in, rows_of}
 use Rattle.gix_paint.proofs.MarksAreWhole.{IsBlank, safe_start, holds_start, paints}
 use Rattle.gix_paint.proofs.Faults.{turn_fails}
 use Rattle.gix_paint.proofs.Ends.{turn_less}
@@ -10,7 +10,7 @@ use Rattle.gix_paint.proofs.paint.Goals as goal
 
 pub loop-generation-init : goal.loop-generation-init
 loop-generation-init g c =
-    let blank : (history : Objects) → IsBlank g.F.Find.objects c.args.objects.now history (rows_in c.args.graph) (ids_of c.args.tips.now.items) c.args.hidden_tips.now _ = λ history. record { same_store = c.new.ensures.objects; same_rows = ap rows_in c.new.ensures.graph; in_use = c.new.ensures.in_use; marks = c.new-2.ensures; frontier = c.new-3.ensures; queue = c.new-4.ensures } in
+    let blank : (history : Objects) → IsBlank g.F.Find.objects c.args.objects.now history (rows_in c.args.graph) (ids_of c.args.tips.now.items) c.args.hidden_tips.now _ = λ history. record { same_store = ap (λ o. o.now) c.new.ensures.objects; same_rows = ap rows_of c.new.ensures.graph ∙ c.in_ok-graph.ensures; in_use = c.new.ensures.in_use; marks = c.new-2.ensures; frontier = c.new-3.ensures; queue = c.new-4.ensures } in
     record {
       safe = safe_start g.F.Find.objects c.args.objects.now (g.F.Find.objects c.args.objects.now) (rows_in c.args.graph) (ids_of c.args.tips.now.items) c.args.hidden_tips.now (blank (g.F.Find.objects c.args.objects.now)) c.in_ok-show_all.ensures c.in_ok-meet_all.ensures;
       holds = λ history known. holds_start g.F.Find.objects c.args.objects.now history (rows_in c.args.graph) (ids_of c.args.tips.now.items) c.args.hidden_tips.now (blank history) c.in_ok-show_all.ensures c.in_ok-meet_all.ensures;

@@ -1,5 +1,5 @@
 use Rattle.gix_paint.proofs.Common.{Objects, room, IsHistory, ids_of}
-use Rattle.gix_paint.specs.Inside.Painter.{rows_in}
+use Rattle.gix_revwalk.specs.Agreeing.{rows_in}
 use Rattle.gix_paint.proofs.Invariant.{IsSafe}
 use Rattle.gix_paint.proofs.Order.{HoldsOf}
 use Rattle.gix_paint.proofs.Ends.{names}

@@ -12,8 +12,9 @@ use Rattle.gix_paint.specs.declared.queue.Generation.{Generation}
 use Rattle.gix_paint.specs.declared.queue.Generation.TheVariants.{Told, Infinite}
 use Rattle.gix_paint.specs.Inside.Queue.{QueueEntry, is_told, AreAllTold, IsNoneAbove}
 use Rattle.gix_paint.specs.declared.Painter.{Painter}
-use Rattle.gix_paint.specs.Reading.{ReadsParents, rows_used}
-pub use Rattle.gix_revwalk.specs.Agreeing.{rows_in}
+use Rattle.gix_paint.specs.Reading.{ReadsParents}
+use Rattle.gix_revwalk.specs.Reading.{rows_used}
+pub use Rattle.gix_revwalk.specs.Agreeing.{rows_of}
 use Rattle.gix_revwalk.specs.Ids.{new_ids}
 
 -- the marks of all ids that were met
@@ -104,7 +105,7 @@ pub record Takes {F : Type 0} (old : Painter F) (top : QueueEntry) (new : Painte
 -- the entry is left to the hidden side, or its parents are read and met
 pub data TreatsEntry {F : Type 0} (objects : F → Objects) (old : Painter F) (top : QueueEntry) : Painter F → Type 0 where
   skips : {new : Painter F} → is_turn old.marks top ≡ false → Takes old top new → new.source.in_use ≡ old.source.in_use → TreatsEntry objects old top new
-  reads : {mid new : Painter F} {ids : List ObjectId} → is_turn old.marks top ≡ true → Takes old top mid → ReadsParents (objects old.source.objects.now) (rows_in old.source.graph) old.source.in_use top.1.id ids mid.source.in_use
+  reads : {mid new : Painter F} {ids : List ObjectId} → is_turn old.marks top ≡ true → Takes old top mid → ReadsParents (objects old.source.objects.now) (rows_of old.source.graph) old.source.in_use top.1.id ids mid.source.in_use
       → Meets top.1.side ids mid new → TreatsEntry objects old top new
 
 -- nothing is queued; or the rows are in use, and all that is queued is hidden and has a row

@@ -1,7 +1,7 @@
 use Rattle.std.proofs.Common.{sym, ◌∙◌}
 use Rattle.std.proofs.Math.Path.{transport}
 use Rattle.gix_paint.proofs.Common.{reads, ReadsParents, skips}
-use Rattle.gix_paint.specs.Inside.Painter.{rows_in}
+use Rattle.gix_paint.specs.Inside.Painter.{rows_of}
 use Rattle.gix_paint.proofs.Painter.treat.Goals as goal
 
 pub returns-then-not-begins-clause-ok : goal.returns-then-not-begins-clause-ok
@@ -18,5 +18,5 @@ returns-clause-ok g c =
       queue_stays = takes.queue_stays;
       frontier = takes.frontier;
     })
-    (transport (λ k. ReadsParents (g.F.Find.objects (takes.objects_stay k).now) (rows_in (takes.graph_stays k)) (c.begins.ensures.in_use k) c.args.entry.id (sym c.as_slice.ensures k) c.parents.new.self.in_use) c.in_ok-parent_ids.ensures.parents)
+    (transport (λ k. ReadsParents (g.F.Find.objects (takes.objects_stay k).now) (rows_of (takes.graph_stays k)) (c.begins.ensures.in_use k) c.args.entry.id (sym c.as_slice.ensures k) c.parents.new.source.in_use) c.in_ok-parent_ids.ensures.parents)
     c.in_ok-meet_all.ensures
