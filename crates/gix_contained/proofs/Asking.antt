@@ -1,5 +1,5 @@
 -- The ids that are asked about: how they are looked up, and which is the lowest.
-use Rattle.std.proofs.Common.{Bor, ◌≡◌, ◌≢◌, ◌⊎◌, ◌≤◌, ℕ, suc, Bool, List, [], ◌∷◌, ◌++◌, length, slice_get, true, false, Option, Some, None, Contains, IfSome, IsPermutation, IsSome, sym, subst, inl, inr, ⊎_elim, ◌∙◌, is_lt, nat_cmp, arith}
+use Rattle.std.proofs.Common.{◌≡◌, ◌≢◌, ◌⊎◌, ◌≤◌, ℕ, suc, Bool, List, [], ◌∷◌, ◌++◌, length, slice_get, true, false, Option, Some, None, Contains, IfSome, IsPermutation, IsSome, sym, subst, inl, inr, ⊎_elim, ◌∙◌, is_lt, nat_cmp, arith}
 use Rattle.std.specs.FinSet as set
 use Rattle.std.specs.BinaryHeap.{IsUpperBound}
 use Rattle.std.specs.declared.cmp.Reverse.{Reverse}
@@ -21,7 +21,6 @@ use Rattle.gix_paint.specs.declared.Hidden.{Hidden}
 use Rattle.gix_paint.specs.declared.Hidden.TheVariants as hidden_by
 use Rattle.gix_revwalk.specs.Infos.{generation_in}
 use Rattle.gix_paint.specs.Painting.{IsFaultAt}
-use Rattle.gix_revwalk.specs.Agreeing.{rows_in}
 use Rattle.gix_revwalk.specs.Commits.{commit_at}
 use Rattle.gix_revwalk.specs.PriorityQueue.{keys}
 
@@ -75,12 +74,12 @@ module _ (objects : Objects) (rows : List GraphRow) where
   })
 
 -- what was looked up by the same store and graph, while rows are in use
-module _ {F : Type 0} (objects : F → Objects) (faulty : F → ObjectId → Type 0) {a b : F} {g h : Option (Bor (List GraphRow))} {in_use : Bool} (same : a ≡ b) (graph : g ≡ h) (used : in_use ≡ true) where
-  pub fails_among : (ids : List ObjectId) (i : ObjectId) (why : Hidden) → Contains ids i → (why ≢ hidden_by.Find existing.Memory → IsRowless (rows_in g) in_use i × IsFaultAt (objects a) (faulty a) i why)
-      → AskFails (objects b) (faulty b) (rows_in h) ids why
+module _ {F : Type 0} (objects : F → Objects) (faulty : F → ObjectId → Type 0) {a b : F} {g h : List GraphRow} {in_use : Bool} (same : a ≡ b) (graph : g ≡ h) (used : in_use ≡ true) where
+  pub fails_among : (ids : List ObjectId) (i : ObjectId) (why : Hidden) → Contains ids i → (why ≢ hidden_by.Find existing.Memory → IsRowless g in_use i × IsFaultAt (objects a) (faulty a) i why)
+      → AskFails (objects b) (faulty b) h ids why
   fails_among ids i why m f n =
       let k = f n in
-      (i, m, ⊎_elim (λ r. transport (λ j. row_of (rows_in (graph j)) i ≡ None) r) (λ u. absurd (false≢true (sym u ∙ used))) k.0, transport (λ j. IsFaultAt (objects (same j)) (faulty (same j)) i why) k.1)
+      (i, m, ⊎_elim (λ r. transport (λ j. row_of (graph j) i ≡ None) r) (λ u. absurd (false≢true (sym u ∙ used))) k.0, transport (λ j. IsFaultAt (objects (same j)) (faulty (same j)) i why) k.1)
 
-  pub known_there : (i : ObjectId) (q : Queued) → Knows (objects a) (rows_in g) in_use i q → Knows (objects b) (rows_in h) true i q
-  known_there i q l = transport (λ j. Knows (objects (same j)) (rows_in (graph j)) (used j) i q) l
+  pub known_there : (i : ObjectId) (q : Queued) → Knows (objects a) g in_use i q → Knows (objects b) h true i q
+  known_there i q l = transport (λ j. Knows (objects (same j)) (graph j) (used j) i q) l

@@ -19,7 +19,7 @@ use Rattle.gix_contained.proofs.Holding.{Holds, blank, dropped_for, given_there,
 use Rattle.gix_paint.specs.declared.Hidden.{Hidden}
 use Rattle.gix_revwalk.specs.Infos.{generation_in}
 use Rattle.gix_paint.specs.Painting.{IsFaultAt, IsHistory}
-use Rattle.gix_revwalk.specs.Agreeing.{rows_in}
+use Rattle.gix_revwalk.specs.Agreeing.{rows_of}
 use Rattle.gix_revwalk.specs.Commits.{commit_of_object, parents_in, parents_of}
 use Rattle.gix_revwalk.specs.Ids.{new_ids}
 use Rattle.gix_revwalk.specs.Reading.{DropsRows}
@@ -56,13 +56,13 @@ module _ {F : Type 0} (objects : F → Objects) (faulty : F → ObjectId → Typ
   -- what holds whatever the rows say
   pub record IsSafe (s : Search F) : Type 0 where
     pub same_store : s.source.objects.now ≡ store
-    pub same_rows : rows_in s.source.graph ≡ rows
+    pub same_rows : rows_of s.source.graph ≡ rows
     pub bring : (q : Queued) → Contains s.queue q → (ids : List ObjectId) → brings q.1 ≡ Some ids → Reads (objects store) q.1.id ids
 
   pub safe_meets : {ids : List ObjectId} {s new : Search F} → IsSafe s → Meets objects ids s new → IsSafe new
   safe_meets {s = s} h m = record {
     same_store = ap (λ o. o.now) m.objects_stay ∙ h.same_store;
-    same_rows = ap rows_in m.graph_stays ∙ h.same_rows;
+    same_rows = ap rows_of m.graph_stays ∙ h.same_rows;
     bring = λ q c ids e. ⊎_elim (λ o. h.bring q o ids e) (λ n. subst (λ o. Reads (objects o) q.1.id ids) h.same_store (n.1.brought ids e)) (m.adds q c);
   }
 
@@ -76,7 +76,7 @@ module _ {F : Type 0} (objects : F → Objects) (faulty : F → ObjectId → Typ
       pub holds : (ids : List ObjectId) → AreAsked rows ids asked → (history : Objects) (known : IsHistory (objects store) rows history) → Holds (objects store) history rows known tips ids [] s
 
     -- at the start the tips are met
-    module _ (first : Search F) (same_store : first.source.objects.now ≡ store) (same_rows : rows_in first.source.graph ≡ rows) (none_met : first.met ≡ set.empty) (none_waits : first.queue ≡ []) (used : first.source.in_use ≡ true) where
+    module _ (first : Search F) (same_store : first.source.objects.now ≡ store) (same_rows : rows_of first.source.graph ≡ rows) (none_met : first.met ≡ set.empty) (none_waits : first.queue ≡ []) (used : first.source.in_use ≡ true) where
       pub goes_start : {new : Search F} → Meets objects tips first new → Goes asked new
       goes_start {new} m = record {
         safe = safe_meets (record { same_store = same_store; same_rows = same_rows; bring = λ q c. absurd (no_member q (subst (λ qs. Contains qs q) none_waits c)) }) m;
@@ -108,7 +108,7 @@ module _ {F : Type 0} (objects : F → Objects) (faulty : F → ObjectId → Typ
       safe_mid : IsSafe mid
       safe_mid = record {
         same_store = ap (λ x. x.objects.now) source ∙ goes.safe.same_store;
-        same_rows = ap (λ x. rows_in x.graph) source ∙ goes.safe.same_rows;
+        same_rows = ap (λ x. rows_of x.graph) source ∙ goes.safe.same_rows;
         bring = λ w c. goes.safe.bring w (Contains-permutation _ _ w (IsPermutation-sym _ _ queue) (Contains-there w q mid.queue c));
       }
 
@@ -155,10 +155,10 @@ module _ {F : Type 0} (objects : F → Objects) (faulty : F → ObjectId → Typ
 
       -- its parents are met
       module _ (high : lowest ≤ q.0.generation) where
-        given : {ids : List ObjectId} {after : Bool} → GivesParents (objects mid.source.objects.now) (rows_in mid.source.graph) mid.source.in_use q.1 ids after → GivesParents (objects store) rows s.source.in_use q.1 ids after
+        given : {ids : List ObjectId} {after : Bool} → GivesParents (objects mid.source.objects.now) (rows_of mid.source.graph) mid.source.in_use q.1 ids after → GivesParents (objects store) rows s.source.in_use q.1 ids after
         given {ids} {after} g =
             subst (λ b. GivesParents (objects store) rows b q.1 ids after) (ap (λ x. x.in_use) source)
-            (subst (λ rs. GivesParents (objects store) rs mid.source.in_use q.1 ids after) safe_mid.same_rows (subst (λ o. GivesParents (objects o) (rows_in mid.source.graph) mid.source.in_use q.1 ids after) safe_mid.same_store g))
+            (subst (λ rs. GivesParents (objects store) rs mid.source.in_use q.1 ids after) safe_mid.same_rows (subst (λ o. GivesParents (objects o) (rows_of mid.source.graph) mid.source.in_use q.1 ids after) safe_mid.same_store g))
 
         module _ (ids : List ObjectId) (are : AreAsked rows ids asked) (history : Objects) (known : IsHistory (objects store) rows history) where
           reach : {named : List ObjectId} {after : Bool} → GivesParents (objects store) rows s.source.in_use q.1 named after → (i : ObjectId) → Contains named i → Reaches (parents_of history) tips i
@@ -173,7 +173,7 @@ module _ {F : Type 0} (objects : F → Objects) (faulty : F → ObjectId → Typ
           safe_given : IsSafe f.mid
           safe_given = record {
             same_store = ap (λ o. o.now) f.objects_stay ∙ safe_mid.same_store;
-            same_rows = ap rows_in f.graph_stays ∙ safe_mid.same_rows;
+            same_rows = ap rows_of f.graph_stays ∙ safe_mid.same_rows;
             bring = λ w c. safe_mid.bring w (subst (λ qs. Contains qs w) f.queue_stays c);
           }
 
@@ -216,7 +216,7 @@ module _ {F : Type 0} (objects : F → Objects) (faulty : F → ObjectId → Typ
                   (λ u. inr ((held ids are history known (record mid { source = record mid.source { in_use = k.1 } }) k.0 refl refl (given k.2)).dropped u)) w.2;
             }) (f n)
           where
-            passed : (history : Objects) (known : IsHistory (objects store) rows history) → IsPassed (rows_in mid.source.graph) mid.source.in_use q.1.id → (row_of rows q.1.id ≡ None) ⊎ DropsBy (parents_of history) rows tips ids
+            passed : (history : Objects) (known : IsHistory (objects store) rows history) → IsPassed (rows_of mid.source.graph) mid.source.in_use q.1.id → (row_of rows q.1.id ≡ None) ⊎ DropsBy (parents_of history) rows tips ids
             passed history known (inl r) = inl (ap (λ rs. row_of rs q.1.id) (sym safe_mid.same_rows) ∙ r)
             passed history known (inr (inl u)) = inr ((goes.holds ids are history known).dropped (sym (ap (λ x. x.in_use) source) ∙ u))
             passed history known (inr (inr d)) =

@@ -16,7 +16,7 @@ use Rattle.gix_paint.specs.Reading.{by_row, by_store, drops, Reads}
 use Rattle.gix_contained.specs.Inside.Search.{brings, GivesParents, brought, looked_up, Knows, Meets, Queued, generation_if}
 use Rattle.gix_revwalk.specs.Infos.{generation_in}
 use Rattle.gix_paint.specs.Painting.{IsHistory}
-use Rattle.gix_revwalk.specs.Agreeing.{RowAgrees, rows_in}
+use Rattle.gix_revwalk.specs.Agreeing.{RowAgrees, rows_of}
 use Rattle.gix_revwalk.specs.Commits.{commit_at, parents_in, parents_of}
 use Rattle.gix_revwalk.specs.Reading.{DropsRows}
 use Rattle.gix_revwalk.proofs.ReadsWhole.{corrupt_row, parent_below, row_parents, row_stands}
@@ -188,9 +188,9 @@ module _ (objects history : Objects) (rows : List GraphRow) (known : IsHistory o
           drop (looked_up (drops u d r)) f = dropped_for a asked deep d
 
     -- ids that the tips reach are met
-    module _ (busy : List ObjectId) (s new : Search F) (objects_of : F → Objects) (store : objects_of s.source.objects.now ≡ objects) (graph : rows_in s.source.graph ≡ rows) (m : Meets objects_of busy s new)
+    module _ (busy : List ObjectId) (s new : Search F) (objects_of : F → Objects) (store : objects_of s.source.objects.now ≡ objects) (graph : rows_of s.source.graph ≡ rows) (m : Meets objects_of busy s new)
         (reach : (i : ObjectId) → Contains busy i → Reaches (parents_of history) tips i) where
-      knows : (i : ObjectId) (q : Queued) → Knows (objects_of s.source.objects.now) (rows_in s.source.graph) s.source.in_use i q → Knows objects rows s.source.in_use i q
+      knows : (i : ObjectId) (q : Queued) → Knows (objects_of s.source.objects.now) (rows_of s.source.graph) s.source.in_use i q → Knows objects rows s.source.in_use i q
       knows i q h = subst (λ o. Knows o rows s.source.in_use i q) store (subst (λ rs. Knows (objects_of s.source.objects.now) rs s.source.in_use i q) graph h)
 
       -- an id that was met is old, or waits

@@ -17,7 +17,7 @@ use Rattle.gix_contained.specs.declared.search.Search.{Search}
 use Rattle.gix_contained.specs.Inside.Search.{Knows, MeetFails, Meets, Queued}
 use Rattle.gix_paint.specs.declared.Hidden.{Hidden}
 use Rattle.gix_paint.specs.Painting.{IsFaultAt}
-use Rattle.gix_revwalk.specs.Agreeing.{rows_in}
+use Rattle.gix_revwalk.specs.Agreeing.{rows_of}
 use Rattle.gix_revwalk.specs.Ids.{new_ids}
 use Rattle.gix_revwalk.proofs.NewIds.{fresh_agree, new_less}
 
@@ -44,11 +44,11 @@ module _ {F : Type 0} (objects : F → Objects) where
   }
 
   module _ (xs ys : List ObjectId) {p mid : Search F} (a : Meets objects xs p mid) where
-    moved : (i : ObjectId) (q : Queued) → Knows (objects mid.source.objects.now) (rows_in mid.source.graph) mid.source.in_use i q → Knows (objects p.source.objects.now) (rows_in p.source.graph) p.source.in_use i q
-    moved i q h = transport (λ k. Knows (objects (a.objects_stay k).now) (rows_in (a.graph_stays k)) (a.use_stays k) i q) h
+    moved : (i : ObjectId) (q : Queued) → Knows (objects mid.source.objects.now) (rows_of mid.source.graph) mid.source.in_use i q → Knows (objects p.source.objects.now) (rows_of p.source.graph) p.source.in_use i q
+    moved i q h = transport (λ k. Knows (objects (a.objects_stay k).now) (rows_of (a.graph_stays k)) (a.use_stays k) i q) h
 
     abbrev WaitsSo : Search F → ObjectId → Type 0
-    WaitsSo new i = (q : Queued) × Contains new.queue q × Knows (objects p.source.objects.now) (rows_in p.source.graph) p.source.in_use i q
+    WaitsSo new i = (q : Queued) × Contains new.queue q × Knows (objects p.source.objects.now) (rows_of p.source.graph) p.source.in_use i q
 
     pub meets_then : {new : Search F} → Meets objects ys mid new → Meets objects (xs ++ ys) p new
     meets_then {new} b = record {
@@ -75,7 +75,7 @@ module _ {F : Type 0} (objects : F → Objects) where
         let k = f n in (
           k.0,
           Contains-append_right xs ys k.0 k.1,
-          ⊎_elim (λ r. inl (transport (λ j. row_of (rows_in (a.graph_stays j)) k.0 ≡ None) r)) (λ u. inr (sym a.use_stays ∙ u)) k.2,
+          ⊎_elim (λ r. inl (transport (λ j. row_of (rows_of (a.graph_stays j)) k.0 ≡ None) r)) (λ u. inr (sym a.use_stays ∙ u)) k.2,
           transport (λ j. IsFaultAt (objects (a.objects_stay j).now) (faulty (a.objects_stay j).now) k.0 why) k.3,
         )
 
@@ -110,7 +110,7 @@ module _ {F : Type 0} (objects : F → Objects) where
       spends = λ named h. let same = room_same named e in let rest = ap length queue in omega arith;
     }
 
-    pub met_new : set.contains p.met i ≡ false → (q : Queued) → Knows (objects p.source.objects.now) (rows_in p.source.graph) p.source.in_use i q → IsPermutation (q ∷ p.queue) new.queue → Meets objects (i ∷ []) p new
+    pub met_new : set.contains p.met i ≡ false → (q : Queued) → Knows (objects p.source.objects.now) (rows_of p.source.graph) p.source.in_use i q → IsPermutation (q ∷ p.queue) new.queue → Meets objects (i ∷ []) p new
     met_new unmet q known queue = record {
       objects_stay = objects_stay;
       graph_stays = graph_stays;
@@ -118,10 +118,10 @@ module _ {F : Type 0} (objects : F → Objects) where
       met = λ j. marked j ∙ also (is_same j i) (set.contains p.met j);
       keeps = λ w c. Contains-permutation _ _ w queue (Contains-there w q p.queue c);
       adds = λ w c. ⊎_elim
-          (λ s. inr (subst (λ x. Contains (i ∷ []) x.1.id × Knows (objects p.source.objects.now) (rows_in p.source.graph) p.source.in_use x.1.id x) s
-          (subst (Contains (i ∷ [])) (sym known.of_id) (Contains-here i []), subst (λ j. Knows (objects p.source.objects.now) (rows_in p.source.graph) p.source.in_use j q) (sym known.of_id) known)))
+          (λ s. inr (subst (λ x. Contains (i ∷ []) x.1.id × Knows (objects p.source.objects.now) (rows_of p.source.graph) p.source.in_use x.1.id x) s
+          (subst (Contains (i ∷ [])) (sym known.of_id) (Contains-here i []), subst (λ j. Knows (objects p.source.objects.now) (rows_of p.source.graph) p.source.in_use j q) (sym known.of_id) known)))
           (λ o. inl o) (Contains-cons_cases w q p.queue (Contains-permutation _ _ w (IsPermutation-sym _ _ queue) c));
-      waits = λ j c n. (q, Contains-permutation _ _ q queue (Contains-here q p.queue), subst (λ k. Knows (objects p.source.objects.now) (rows_in p.source.graph) p.source.in_use k q) (only_member i j c) known);
+      waits = λ j c n. (q, Contains-permutation _ _ q queue (Contains-here q p.queue), subst (λ k. Knows (objects p.source.objects.now) (rows_of p.source.graph) p.source.in_use k q) (only_member i j c) known);
       spends = λ named h. let less = room_less named (h i (Contains-here i [])) unmet in let one : suc (length p.queue) ≡ length new.queue = sym (length_permutation _ _ queue) in omega arith;
     }
 

@@ -11,9 +11,10 @@ use gix_hash::ObjectId;
 use gix_hash::hashtable::IdSet;
 use gix_object::find::Find;
 use gix_paint::Hidden;
-use gix_paint::source::{Named, Source};
+use gix_paint::source::Named;
 use gix_revwalk::queue::PriorityQueue;
-use gix_revwalk::row::{NOWHERE, Near};
+use gix_revwalk::row::{NOWHERE, Near, copy_of};
+use gix_revwalk::source::Source;
 use std::alloc::Global;
 use std::cmp::Reverse;
 
@@ -30,6 +31,7 @@ pub(super) fn look_up_all<'a, F: Find>(
     ensures ok { IfOk result (AreLookedUp (F.objects objects.now) (rows_in graph.entry) ids.now) }
     ensures fault { IfErr result (AskFails (F.objects objects.now) (F.faulty objects.now) (rows_in graph.entry) ids.now) }
 {
+    let graph = copy_of(graph)?;
     let mut source = Source::new(alloc, objects, graph);
     let mut asked = AskedIds::new(alloc);
     for id in ids {
@@ -58,7 +60,7 @@ fn lowest_left(asked: &mut AskedIds, met: &IdSet) -> Option<u32>
 /// What was met, and what waits.
 #[derive(Drop)]
 struct Search<'a, F> {
-    source: Source<'a, F>,
+    source: Source<&'a F>,
     /// Ids that the tips were found to reach.
     met: IdSet,
     queue: PriorityQueue<Key, Waiting>,
@@ -115,6 +117,7 @@ pub(super) fn reached<'a, F: Find>(
     ensures fault { IfErr result (λ why. (ids : List ObjectId) → AreAsked (rows_in graph.entry) ids asked
         → SearchFails (F.objects objects.now) (F.faulty objects.now) (rows_in graph.entry) tips.now ids why) }
 {
+    let graph = copy_of(graph)?;
     let mut search = Search {
         source: Source::new(alloc, objects, graph),
         met: IdSet::new(alloc, objects.keys()),

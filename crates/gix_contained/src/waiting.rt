@@ -3,15 +3,16 @@ ghost use Rattle.std.specs.Prelude.{◌≡◌, ◌≢◌, IfOk, IfErr};
 ghost use Rattle.gix_object.specs.declared.find.existing_iter.Error.TheVariants as existing;
 ghost use Rattle.gix_paint.specs.Painting.{IsFaultAt};
 ghost use Rattle.gix_paint.specs.Reading.{IsRowless, ReadFails};
-ghost use Rattle.gix_revwalk.specs.Agreeing.{rows_in};
+ghost use Rattle.gix_revwalk.specs.Agreeing.{rows_of};
 ghost use Rattle.gix_contained.specs.Inside.Search.{GivesParents, Knows};
 
 use gix_hash::ObjectId;
 use gix_object::find::Find;
 use gix_paint::Hidden;
-use gix_paint::source::{Named, Source, Stored};
+use gix_paint::source::{Named, Stored, parents, read_stored};
 use gix_revwalk::ParentIds;
 use gix_revwalk::row::Near;
+use gix_revwalk::source::Source;
 
 /// The generation of a commit without a row, which is greater than that of any row.
 const INFINITE: u32 = u32::MAX;
@@ -34,15 +35,15 @@ pub(super) struct Waiting {
 
 /// What is known of a commit by its row, whose places are left alone, or else by the store.
 pub(super) fn look_up<F: Find>(
-    source: &mut Source<'_, F>,
+    source: &mut Source<&F>,
     id: ObjectId,
     near: u32,
 ) -> Result<(Key, Waiting), Hidden>
     ensures objects { source.new.objects ≡ source.old.objects }
     ensures graph { source.new.graph ≡ source.old.graph }
     ensures in_use { source.new.in_use ≡ source.old.in_use }
-    ensures known { IfOk result (Knows (F.objects source.old.objects.now) (rows_in source.old.graph) source.old.in_use id) }
-    ensures fault { IfErr result (λ why. why ≢ Hidden.Find existing.Memory → IsRowless (rows_in source.old.graph) source.old.in_use id
+    ensures known { IfOk result (Knows (F.objects source.old.objects.now) (rows_of source.old.graph) source.old.in_use id) }
+    ensures fault { IfErr result (λ why. why ≢ Hidden.Find existing.Memory → IsRowless (rows_of source.old.graph) source.old.in_use id
         × IsFaultAt (F.objects source.old.objects.now) (F.faulty source.old.objects.now) id why) }
 {
     if let Some(commit) = source.row(&id, near) {
@@ -59,7 +60,7 @@ pub(super) fn look_up<F: Find>(
             },
         ));
     }
-    let Stored { parent_ids, time } = source.stored(&id)?;
+    let Stored { parent_ids, time } = read_stored(source, &id)?;
     let key = Key {
         generation: INFINITE,
         time,
@@ -76,13 +77,13 @@ pub(super) fn look_up<F: Find>(
 
 impl Waiting {
     /// The parents of a commit that waited: those that it brings, or else those that are read now.
-    pub(super) fn parents<F: Find>(self, source: &mut Source<'_, F>) -> Result<Named, Hidden>
+    pub(super) fn parents<F: Find>(self, source: &mut Source<&F>) -> Result<Named, Hidden>
         ensures objects { source.new.objects ≡ source.old.objects }
         ensures graph { source.new.graph ≡ source.old.graph }
-        ensures parents { IfOk result (λ named. GivesParents (F.objects source.old.objects.now) (rows_in source.old.graph) source.old.in_use
+        ensures parents { IfOk result (λ named. GivesParents (F.objects source.old.objects.now) (rows_of source.old.graph) source.old.in_use
             self named.parent_ids.items source.new.in_use) }
         ensures fault { IfErr result (ReadFails (F.objects source.old.objects.now) (F.faulty source.old.objects.now)
-            (rows_in source.old.graph) source.old.in_use self.id) }
+            (rows_of source.old.graph) source.old.in_use self.id) }
     {
         let Waiting {
             id,
@@ -94,7 +95,7 @@ impl Waiting {
                 parent_ids,
                 near: Near::nowhere(),
             }),
-            None => source.parents(&id, near),
+            None => parents(source, &id, near),
         }
     }
 }

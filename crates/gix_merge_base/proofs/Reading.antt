@@ -1,6 +1,6 @@
 -- How the parents of commits are read, and why they aren't.
 use Rattle.std.proofs.Math.Path.{transport}
-use Rattle.std.proofs.Common.{Bor, Option, ◌≡◌, ◌≢◌, List, [], ◌∷◌, ◌++◌, not, cond, Bool, Result, Err, IfErr, Contains, sym, ap, subst, ◌∙◌, append_assoc, append-nil, arith}
+use Rattle.std.proofs.Common.{◌≡◌, ◌≢◌, List, [], ◌∷◌, ◌++◌, not, cond, Bool, Result, Err, IfErr, Contains, sym, ap, subst, ◌∙◌, append_assoc, append-nil, arith}
 use Rattle.std.specs.List.{flat_map}
 use Rattle.std.proofs.lemmas.List.Elements.{filter-append}
 use Rattle.std.proofs.lemmas.Grind.{flat_map-append}
@@ -18,18 +18,18 @@ use Rattle.gix_merge_base.specs.declared.Error.{Error}
 use Rattle.gix_merge_base.specs.declared.Error.TheVariants as error
 use Rattle.gix_merge_base.specs.Errors.{error_of}
 use Rattle.gix_merge_base.specs.Inside.Steps.{ReadFailsAmong, ReadsOthers, OthersOf, others_among}
-use Rattle.gix_revwalk.specs.Agreeing.{IsAgreeing, rows_in}
+use Rattle.gix_revwalk.specs.Agreeing.{IsAgreeing}
 use Rattle.gix_revwalk.specs.Commits.{parents_of}
 use Rattle.gix_revwalk.proofs.ReadsWhole.{row_parents}
 
 module _ {F : Type 0} (objects : F → Objects) (faulty : F → ObjectId → Type 0) {store there : F} (same : there ≡ store) where
   -- the parents that are read are the commit's, where the rows agree
-  pub parents_read : {graph own : Option (Bor (List GraphRow))} → graph ≡ own → {i : ObjectId} {ids : List ObjectId} {in_use after : Bool} → ReadsParents (objects there) (rows_in graph) in_use i ids after
-      → IsAgreeing (objects store) (rows_in own) → ids ≡ parents_of (objects store) i
-  parents_read {own = own} graph {i = i} {ids = ids} {in_use = in_use} {after = after} read agreeing = go (transport (λ k. ReadsParents (objects (same k)) (rows_in (graph k)) in_use i ids after) read)
+  pub parents_read : {graph own : List GraphRow} → graph ≡ own → {i : ObjectId} {ids : List ObjectId} {in_use after : Bool} → ReadsParents (objects there) graph in_use i ids after
+      → IsAgreeing (objects store) own → ids ≡ parents_of (objects store) i
+  parents_read {own = own} graph {i = i} {ids = ids} {in_use = in_use} {after = after} read agreeing = go (transport (λ k. ReadsParents (objects (same k)) (graph k) in_use i ids after) read)
     where
-      go : {used later : Bool} → ReadsParents (objects store) (rows_in own) used i ids later → ids ≡ parents_of (objects store) i
-      go (by_row {row = row} u e f) = row_parents (objects store) (rows_in own) agreeing i row ids e f
+      go : {used later : Bool} → ReadsParents (objects store) own used i ids later → ids ≡ parents_of (objects store) i
+      go (by_row {row = row} u e f) = row_parents (objects store) own agreeing i row ids e f
       go (by_store n r) = reads_parents (objects store) i ids r
       go (drops u d r) = reads_parents (objects store) i ids r
 

@@ -23,8 +23,9 @@ use gix_hash::{Keys, ObjectId};
 use gix_object::decode;
 use gix_object::find::{Find, existing_iter};
 use gix_paint::Hidden;
-use gix_paint::source::{Named, Source};
+use gix_paint::source::{Named, parents};
 use gix_revwalk::row::{NOWHERE, copy_of};
+use gix_revwalk::source::Source;
 use gix_revwalk::{Info, Unfiltered};
 use gix_simple::Simple;
 use std::alloc::{AllocError, Global};
@@ -270,10 +271,11 @@ fn other_parents<F: Find>(
     ensures ok { IfOk result (λ those. ReadsOthers (F.objects objects.now) (rows_in graph.entry) ids.now those.items) }
     ensures err { IfErr result (λ e. e ≢ error.Memory → ReadFailsAmong (F.objects objects.now) (F.faulty objects.now) ids.now e) }
 {
+    let graph = copy_of(graph)?;
     let mut source = Source::new(alloc, objects, graph);
     let mut those = Vec::new(alloc);
     for id in ids {
-        let Named { parent_ids, .. } = source.parents(id, NOWHERE)?;
+        let Named { parent_ids, .. } = parents(&mut source, id, NOWHERE)?;
         push_others(id, parent_ids.as_slice(), &mut those)?;
     }
     Ok(those)

@@ -83,8 +83,8 @@ impl<F: Find + Drop, P: Predicate + Drop> Simple<F, P> {
             (ids_of tips.now.items) self.now.hidden_tips why) }
     {
         paint(
-            self.alloc,
-            &self.find,
+            self.source.alloc,
+            &self.source.objects,
             self.graph(),
             tips,
             self.hidden_tips.as_slice(),
@@ -106,7 +106,7 @@ impl<F: Find + Drop, P: Predicate + Drop> Simple<F, P> {
     ) -> Result<VecDeque<Pending>, AllocError>
         ensures { IfOk result (λ shown. shown.items ≡ filter (λ tip. not (set.contains hidden.now tip.id)) tips.items) }
     {
-        visible(self.alloc, tips, hidden)
+        visible(self.source.alloc, tips, hidden)
     }
 
     fn has_nothing_to_hide(&self) -> bool
@@ -132,7 +132,7 @@ impl<F: Find + Drop, P: Predicate + Drop> Simple<F, P> {
         self.hidden = painting.hidden;
         self.hidden_tips.clear();
         if !painting.rows_in_use {
-            self.in_use = false;
+            self.source.in_use = false;
         }
     }
 }

@@ -29,6 +29,7 @@ use gix_object::decode;
 use gix_object::find::{Find, existing_iter};
 use gix_paint::{Hidden, HiddenIds};
 use gix_revwalk::row::NOWHERE;
+use gix_revwalk::source::Source;
 use gix_revwalk::{CommitTimeOrder, Info, Parents, Predicate, Unfiltered};
 use pending::PendingQueue;
 use std::alloc::{AllocError, AllocFailed, Global};
@@ -196,11 +197,9 @@ impl<T: Drop> From<AllocFailed<T>> for Error {
 /// After each error `commit_data` is empty.
 #[derive(Drop)]
 pub struct Simple<F, P> {
-    find: F,
+    /// Where commits are read, and parents for their times.
+    source: Source<F>,
     predicate: P,
-    graph: Option<Graph>,
-    /// Whether rows are read: they are until one proves corrupt.
-    in_use: bool,
     parents: Parents,
     sorting: Sorting,
     pending: PendingQueue,
@@ -216,9 +215,6 @@ pub struct Simple<F, P> {
     text: Vec<u8>,
     /// The commit last taken.
     current: Option<ObjectId>,
-    /// Where a parent is read for its time.
-    buf: Vec<u8>,
-    alloc: Global,
 }
 
 impl<F, P> Model for Simple<F, P> {
@@ -226,16 +222,16 @@ impl<F, P> Model for Simple<F, P> {
     ghost use Rattle.std.specs.Prelude.{[], if◌then◌else◌};
     ghost use Rattle.gix_hash.specs.Id.{id_set_code};
     ghost use Rattle.gix_simple.specs.Walk.{SimpleWalk};
-    ghost use Rattle.gix_simple.specs.Inside.Steps.{rows_of};
+    ghost use Rattle.gix_revwalk.specs.Reading.{rows_used};
 
     ghost Value = { SimpleWalk F P };
 
     ghost coded = { Prim.hlevel (codes, id_set_code) };
 
     ghost view = { λ w. record {
-      store = w.find;
+      store = w.source.objects;
       predicate = w.predicate;
-      rows = if w.in_use then rows_of w.graph else [];
+      rows = rows_used w.source;
       parents = w.parents;
       sorting = w.sorting;
       pending = w.pending.items;
@@ -293,10 +289,8 @@ impl<F: Find + Drop, P: Predicate + Drop> Simple<F, P> {
     {
         let keys = find.keys();
         let mut walk = Simple {
-            find,
+            source: Source::new(alloc, find, None),
             predicate,
-            graph: None,
-            in_use: true,
             parents: Parents::All,
             sorting: Sorting::BreadthFirst,
             pending: PendingQueue::new(alloc),
@@ -307,8 +301,6 @@ impl<F: Find + Drop, P: Predicate + Drop> Simple<F, P> {
             hidden: HiddenIds::new(alloc, keys),
             text: Vec::new(alloc),
             current: None,
-            buf: Vec::new(alloc),
-            alloc,
         };
         for tip in tips {
             // Breadth first no time is read, so the only fault is out of memory.
@@ -358,7 +350,7 @@ impl<F: Find + Drop, P: Predicate + Drop> Simple<F, P> {
             (λ ids. walk ≡ record self { hidden_tips = ids })) }
         ensures err { IfErr result (λ e. e ≡ error.Memory) }
     {
-        let mut hidden_tips = Vec::new(self.alloc);
+        let mut hidden_tips = Vec::new(self.source.alloc);
         for tip in tips {
             hidden_tips.push(tip)?;
         }
@@ -380,8 +372,8 @@ impl<F: Find + Drop, P: Predicate + Drop> Simple<F, P> {
     pub fn commit_graph(mut self, graph: Option<Graph>) -> Self
         ensures { result ≡ record self { rows = rows_of graph } }
     {
-        self.graph = graph;
-        self.in_use = true;
+        self.source.graph = graph;
+        self.source.in_use = true;
         self
     }
 
@@ -400,10 +392,7 @@ impl<F: Find + Drop, P: Predicate + Drop> Simple<F, P> {
     pub fn graph(&self) -> Option<&Graph>
         ensures { rows_in result ≡ self.now.rows }
     {
-        if !self.in_use {
-            return None;
-        }
-        self.graph.as_ref()
+        self.source.graph()
     }
 
     /// The text of the commit last given. It is empty where a row gave the commit, before the first commit and after a fault, and

@@ -20,7 +20,7 @@ use gix_object::commit::CommitRefIter;
 use gix_object::decode;
 use gix_object::find::{Find, existing_iter};
 use gix_revwalk::read::{Scanned, scan};
-use gix_revwalk::row::{Near, RowRead, find_row, read_row};
+use gix_revwalk::row::{Near, RowRead};
 use gix_revwalk::{CommitTimeOrder, Info, ParentIds, Parents, Pending, Predicate};
 use std::alloc::{AllocError, Global};
 
@@ -162,7 +162,7 @@ impl<F: Find + Drop, P: Predicate + Drop> Simple<F, P> {
         ensures err { IfErr result (λ why. why ≡ stop.Store → F.faulty self.old.store id.now) }
         ensures kept { self.new ≡ self.old }
     {
-        let items = match self.find.find_commit_iter(id, &mut self.buf) {
+        let items = match self.source.objects.find_commit_iter(id, &mut self.source.text) {
             Ok(items) => items,
             Err(existing_iter::Error::NotFound { .. }) => return Ok(0),
             Err(existing_iter::Error::ObjectKind { .. }) => return Ok(0),
@@ -179,10 +179,7 @@ impl<F: Find + Drop, P: Predicate + Drop> Simple<F, P> {
     fn row_time(&self, id: &ObjectId, near: u32) -> i64
         ensures { result ≡ row_time (row_of self.now.rows id.now) }
     {
-        let Some(graph) = self.graph() else {
-            return 0;
-        };
-        match find_row(graph, id, near) {
+        match self.source.row(id, near) {
             Some(commit) => commit.committer_timestamp(),
             None => 0,
         }
@@ -299,13 +296,14 @@ impl<F: Find + Drop, P: Predicate + Drop> Simple<F, P> {
     {
         let id = taken.id;
         if let Err(fault) = self
-            .find
+            .source
+            .objects
             .find_kind_into(&id, object::Kind::Commit, &mut self.text)
         {
             return Err(self.fail(&id, Error::from(fault)));
         }
         let items = CommitRefIter::from_bytes(&self.text, id.kind());
-        let Ok(scanned) = scan(self.alloc, self.parents, items) else {
+        let Ok(scanned) = scan(self.source.alloc, self.parents, items) else {
             return Err(self.fail(&id, Error::Memory));
         };
         let near = Near::nowhere();
@@ -319,13 +317,7 @@ impl<F: Find + Drop, P: Predicate + Drop> Simple<F, P> {
         ensures takes { Takes F.objects F.faulty P.answers self.old taken result self.new }
         ensures asks { P.can_accept self.new.predicate }
     {
-        let row = match read_row(
-            self.alloc,
-            self.graph.as_ref(),
-            &mut self.in_use,
-            &taken.id,
-            taken.near,
-        ) {
+        let row = match self.source.read_row(&taken.id, taken.near) {
             Ok(row) => row,
             Err(_) => return Err(self.fail(&taken.id, Error::Memory)),
         };

@@ -133,7 +133,7 @@ impl<F: Find + Drop> Counting<F> {
             → IfErr result (IsBuildFault F.objects F.faulty (plan_over reader parents sorting tips.now ends.now)) }
     {
         let mut counting = Counting {
-            frontier: Frontier::new(reader.alloc, reader.find.keys()),
+            frontier: Frontier::new(reader.source.alloc, reader.source.objects.keys()),
             reader,
             parents,
             depth: GENERATION_NUMBER_INFINITY,
@@ -177,9 +177,9 @@ impl<F: Find + Drop> Counting<F> {
             Side::Tips => self.parents,
             Side::Ends => Parents::All,
         };
-        let keys = self.reader.find.keys();
+        let keys = self.reader.source.objects.keys();
         let parents = walked(mode, info.parent_ids.as_slice());
-        Ok(last_places(self.reader.alloc, keys, parents)?)
+        Ok(last_places(self.reader.source.alloc, keys, parents)?)
     }
 
     /// Looks a parent up, unless the rows are in use and it has a row or a search has read it.
@@ -194,7 +194,7 @@ impl<F: Find + Drop> Counting<F> {
         ensures fault { IfErr result (LookUpFails (F.objects self.old.reader.find) (F.faulty self.old.reader.find)
             (rows_of self.old.reader.graph) self.old.reader.in_use id.now) }
     {
-        if self.reader.in_use && self.frontier.known(id).is_done() {
+        if self.reader.source.in_use && self.frontier.known(id).is_done() {
             return Ok(());
         }
         self.reader.look_up(id)
@@ -265,7 +265,7 @@ impl<F: Find + Drop> Counting<F> {
         ensures rested { result ≡ false → IsRested self.now.reader.in_use self.now.depth self.now.frontier.queue }
     {
         match self.frontier.queue.peek() {
-            Some((generation, _)) => !self.reader.in_use || self.depth <= *generation,
+            Some((generation, _)) => !self.reader.source.in_use || self.depth <= *generation,
             None => false,
         }
     }

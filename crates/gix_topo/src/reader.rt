@@ -13,22 +13,18 @@ use gix_hash::ObjectId;
 use gix_object::decode;
 use gix_object::find::Find;
 use gix_revwalk::Info;
-use gix_revwalk::read::{Header, find_header};
-use gix_revwalk::row::{NOWHERE, Near, find_row, read_row};
+use gix_revwalk::read::Header;
+use gix_revwalk::row::{NOWHERE, Near, find_row};
+use gix_revwalk::source::Source;
 use std::alloc::Global;
 use std::marker::Model;
 
 /// What commits are read from.
 #[derive(Drop)]
 pub(super) struct Reader<F> {
-    pub(super) find: F,
-    pub(super) graph: Option<Graph>,
-    /// Whether rows are read: they are until one proves corrupt.
-    pub(super) in_use: bool,
+    pub(super) source: Source<F>,
     /// Where to look first for the rows of the parents of the commit that was read last.
     pub(super) near: Near,
-    pub(super) text: Vec<u8>,
-    pub(super) alloc: Global,
 }
 
 impl<F> Model for Reader<F> {
@@ -36,7 +32,7 @@ impl<F> Model for Reader<F> {
 
     ghost Value = { model.Reader F };
 
-    ghost view = { λ r. model.reader_by r.find r.graph r.in_use };
+    ghost view = { λ r. model.reader_by r.source.objects r.source.graph r.source.in_use };
 }
 
 impl<F: Find + Drop> Reader<F> {
@@ -44,12 +40,8 @@ impl<F: Find + Drop> Reader<F> {
         ensures { result ≡ reader_by find graph true }
     {
         Reader {
-            find,
-            graph,
-            in_use: true,
+            source: Source::new(alloc, find, graph),
             near: Near::nowhere(),
-            text: Vec::new(alloc),
-            alloc,
         }
     }
 
@@ -57,17 +49,14 @@ impl<F: Find + Drop> Reader<F> {
     pub(super) fn graph(&self) -> Option<&Graph>
         ensures { rows_in result ≡ if self.now.in_use then rows_of self.now.graph else [] }
     {
-        if !self.in_use {
-            return None;
-        }
-        self.graph.as_ref()
+        self.source.graph()
     }
 
     /// The generation that a row says, and infinity where there is none. `near` is where to look first for the row.
     pub(super) fn generation(&self, id: &ObjectId, near: u32) -> u32
         ensures { result ≡ known_generation (rows_of self.now.graph) id.now }
     {
-        let Some(graph) = &self.graph else {
+        let Some(graph) = &self.source.graph else {
             return GENERATION_NUMBER_INFINITY;
         };
         match find_row(graph, id, near) {
@@ -81,7 +70,7 @@ impl<F: Find + Drop> Reader<F> {
         ensures same { self.new ≡ self.old }
         ensures reads { ReadsText (F.objects self.old.find) (F.faulty self.old.find) id.now result }
     {
-        let Header { parent_ids, time } = find_header(self.alloc, &self.find, id, &mut self.text)?;
+        let Header { parent_ids, time } = self.source.header(id)?;
         let time = match time {
             Ok(seconds) => seconds,
             Err(decode::Error::Missing) => 0,
@@ -107,8 +96,7 @@ impl<F: Find + Drop> Reader<F> {
             self.new.in_use }
     {
         self.near = Near::nowhere();
-        let row = read_row(self.alloc, self.graph.as_ref(), &mut self.in_use, id, near)?;
-        let Some(row) = row else {
+        let Some(row) = self.source.read_row(id, near)? else {
             return self.read_text(id);
         };
         self.near = row.near;
@@ -135,7 +123,7 @@ impl<F: Find + Drop> Reader<F> {
         ensures fault { IfErr result (LookUpFails (F.objects self.old.find) (F.faulty self.old.find) (rows_of self.old.graph)
             self.old.in_use id.now) }
     {
-        if self.in_use && self.generation(id, NOWHERE) < GENERATION_NUMBER_INFINITY {
+        if self.source.in_use && self.generation(id, NOWHERE) < GENERATION_NUMBER_INFINITY {
             return Ok(());
         }
         self.read_text(id)?;

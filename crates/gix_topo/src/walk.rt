@@ -108,7 +108,7 @@ impl<F: Find + Drop> Walk<F> {
         ensures begun { IfOk result (IsBegunWalk F.objects F.faulty (plan_over reader parents sorting tips.items ends.items)) }
         ensures fault { IfErr result (IsBuildFault F.objects F.faulty (plan_over reader parents sorting tips.items ends.items)) }
     {
-        let alloc = reader.alloc;
+        let alloc = reader.source.alloc;
         let counting = Counting::begin(reader, parents, tips.as_slice(), ends.as_slice())?;
         let mut walk = Walk {
             counting,
@@ -162,8 +162,8 @@ impl<F: Find + Drop> Walk<F> {
         if named.len() <= 1 {
             return self.release_all(named, commit.near);
         }
-        let keys = self.counting.reader.find.keys();
-        let ids = last_places(self.counting.reader.alloc, keys, named)?;
+        let keys = self.counting.reader.source.objects.keys();
+        let ids = last_places(self.counting.reader.source.alloc, keys, named)?;
         self.release_all(ids.as_slice(), commit.near)
     }
 

@@ -18,7 +18,7 @@ use Rattle.gix_paint.specs.declared.Hidden.TheVariants as hidden_by
 use Rattle.gix_revwalk.specs.Infos.{generation_in}
 use Rattle.gix_paint.specs.Reading.{IsPassed, IsRowless, Reads, ReadsParents}
 use Rattle.gix_paint.specs.Painting.{IsFaultAt, IsHistory}
-use Rattle.gix_revwalk.specs.Agreeing.{rows_in}
+use Rattle.gix_revwalk.specs.Agreeing.{rows_of}
 use Rattle.gix_revwalk.specs.Commits.{commit_at, parents_of}
 use Rattle.gix_revwalk.specs.Ids.{new_ids}
 
@@ -82,15 +82,15 @@ pub record Meets {F : Type 0} (objects : F → Objects) (ids : List ObjectId) (o
   pub met : (i : ObjectId) → set.contains new.met i ≡ (is_among i ids || set.contains old.met i)
   pub keeps : (q : Queued) → Contains old.queue q → Contains new.queue q
   pub adds : (q : Queued) → Contains new.queue q → Contains old.queue q
-      ⊎ (Contains ids q.1.id × Knows (objects old.source.objects.now) (rows_in old.source.graph) old.source.in_use q.1.id q)
+      ⊎ (Contains ids q.1.id × Knows (objects old.source.objects.now) (rows_of old.source.graph) old.source.in_use q.1.id q)
   pub waits : (i : ObjectId) → Contains ids i → set.contains old.met i ≡ false
-      → (q : Queued) × Contains new.queue q × Knows (objects old.source.objects.now) (rows_in old.source.graph) old.source.in_use i q
+      → (q : Queued) × Contains new.queue q × Knows (objects old.source.objects.now) (rows_of old.source.graph) old.source.in_use i q
   pub spends : (named : List ObjectId) → ((i : ObjectId) → Contains ids i → is_among i named ≡ true) → room named new ≤ room named old
 
 -- out of memory, or one of the ids can't be read, for which no row is read
 abbrev pub MeetFails : {F : Type 0} → (F → Objects) → (F → ObjectId → Type 0) → List ObjectId → Search F → Hidden → Type 0
 MeetFails objects faulty ids old why = why ≢ hidden_by.Find existing.Memory
-    → (i : ObjectId) × Contains ids i × IsRowless (rows_in old.source.graph) old.source.in_use i
+    → (i : ObjectId) × Contains ids i × IsRowless (rows_of old.source.graph) old.source.in_use i
     × IsFaultAt (objects old.source.objects.now) (faulty old.source.objects.now) i why
 
 -- the parents of a commit are met
@@ -101,15 +101,15 @@ pub record Follows {F : Type 0} (objects : F → Objects) (w : Waiting) (old new
   pub graph_stays : mid.source.graph ≡ old.source.graph
   pub met_stays : mid.met ≡ old.met
   pub queue_stays : mid.queue ≡ old.queue
-  pub gives : GivesParents (objects old.source.objects.now) (rows_in old.source.graph) old.source.in_use w ids mid.source.in_use
+  pub gives : GivesParents (objects old.source.objects.now) (rows_of old.source.graph) old.source.in_use w ids mid.source.in_use
   pub meets : Meets objects ids mid new
 
 -- out of memory, or the commit can't be read, or one of its parents
 abbrev pub FollowFails : {F : Type 0} → (F → Objects) → (F → ObjectId → Type 0) → Waiting → Search F → Hidden → Type 0
 FollowFails objects faulty w old why = why ≢ hidden_by.Find existing.Memory
-    → (IsPassed (rows_in old.source.graph) old.source.in_use w.id × IsFaultAt (objects old.source.objects.now) (faulty old.source.objects.now) w.id why)
-    ⊎ ((ids : List ObjectId) × (after : Bool) × GivesParents (objects old.source.objects.now) (rows_in old.source.graph) old.source.in_use w ids after
-    × ((i : ObjectId) × Contains ids i × IsRowless (rows_in old.source.graph) after i × IsFaultAt (objects old.source.objects.now) (faulty old.source.objects.now) i why))
+    → (IsPassed (rows_of old.source.graph) old.source.in_use w.id × IsFaultAt (objects old.source.objects.now) (faulty old.source.objects.now) w.id why)
+    ⊎ ((ids : List ObjectId) × (after : Bool) × GivesParents (objects old.source.objects.now) (rows_of old.source.graph) old.source.in_use w ids after
+    × ((i : ObjectId) × Contains ids i × IsRowless (rows_of old.source.graph) after i × IsFaultAt (objects old.source.objects.now) (faulty old.source.objects.now) i why))
 
 -- what was met tells which of the ids the tips reach
 pub record Decides (objects : Objects) (rows : List GraphRow) (tips ids : List ObjectId) (met : set.FinSet id_cmp) : Type 0 where
