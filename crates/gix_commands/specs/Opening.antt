@@ -1,5 +1,5 @@
 -- The layers of Git's commit-graph, opened as rows that can be used without a store.
-use Rattle.std.specs.Prelude.{◌≡◌, ◌≢◌, ◌⊎◌, ℕ, List, map, All, Vec, vec_items}
+use Rattle.std.specs.Prelude.{◌≡◌, ◌≢◌, ◌⊎◌, ℕ, List, All}
 use Rattle.gix_hash.specs.declared.ObjectId.{ObjectId}
 use Rattle.gix_commitgraph.specs.Packed.{AreBytes}
 use Rattle.gix_commitgraph.specs.Rows.{GraphRow}
@@ -9,10 +9,6 @@ use Rattle.gix_graph_file.specs.declared.error.ChainError.TheVariants as chain
 use Rattle.gix_graph_file.specs.Chain.{HasChain, RefusesChain}
 use Rattle.gix_words.specs.declared.fault.Fault.{Fault}
 use Rattle.gix_words.specs.declared.fault.Fault.TheVariants as fault
-
--- the bytes of each layer
-abbrev pub layers_seen : {Z : Type 0} → List (Vec ℕ Z) → List (List ℕ)
-layers_seen layers = map vec_items layers
 
 -- the layers are bytes, and a chain that reads as these rows
 pub record AreReadFrom (layers : List (List ℕ)) (rows : List GraphRow) : Type 0 where
@@ -30,6 +26,10 @@ FailsToOpen layers (fault.Graph e) = (e ≢ chain.Memory) × RefusesChain layers
 FailsToOpen layers (fault.Row i) = (rows : List GraphRow) × HasChain layers rows × IsFirstUnsound rows i
 FailsToOpen layers fault.Memory = Unit {0}
 FailsToOpen layers e = ⊥
+
+-- why layers aren't opened of which a chain's error says this
+abbrev pub IsFaultOf : ChainError → Fault → Type 0
+IsFaultOf error why = (layers : List (List ℕ)) → RefusesChain layers error → FailsToOpen layers why
 
 -- a fault that only layers have that aren't opened
 abbrev pub IsOpeningFault : Fault → Type 0

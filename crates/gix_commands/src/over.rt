@@ -2,9 +2,10 @@
 
 ghost use Rattle.std.specs.Prelude.{◌≡◌, ◌≢◌, ℕ, List, [], map, Some, Err, string_bytes, vec_items};
 ghost use Rattle.gix_records.specs.Records.{Record, AreRecords};
+ghost use Rattle.gix_graph_file.specs.ChainSteps.{layers_seen};
 ghost use Rattle.gix_statement.specs.CommitGraph.{AreLayers};
 ghost use Rattle.gix_statement.specs.WholeStatement.{AreFed, Objects, Promises, Row};
-ghost use Rattle.gix_commands.specs.Opening.{IsOpeningFault, layers_seen};
+ghost use Rattle.gix_commands.specs.Opening.{IsOpeningFault};
 ghost use Rattle.gix_commands.specs.Run.{RunsOver};
 ghost use Rattle.gix_words.specs.Words.{request_of};
 

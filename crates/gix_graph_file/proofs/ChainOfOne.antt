@@ -1,9 +1,9 @@
 -- A chain of one file is the file, where it says no layers below it; and a graph has the rows that it has.
-use Rattle.std.proofs.Common.{◌≡◌, ◌≢◌, ℕ, ◌+◌, true, false, cond, not, eqb, bytes_eq, List, [], ◌∷◌, length, map, get_or, Bor, Option, Some, None, Result, Ok, Err, IfOk, IfErr, refl, ap, ◌∙◌, arith, option_map, eqb-true}
+use Rattle.std.proofs.Common.{◌≡◌, ◌≢◌, ℕ, ◌+◌, true, false, cond, not, eqb, bytes_eq, List, [], ◌∷◌, ◌++◌, length, length-append, Vec, vec_items, map, get_or, Bor, Option, Some, None, Result, Ok, Err, IfOk, IfErr, refl, ap, ◌∙◌, arith, option_map, eqb-true}
 use Rattle.std.specs.List.{AllByRecursion}
 use Rattle.std.proofs.lemmas.Map.Keys.{IsDistinct-from_sorted}
 use Rattle.gix_graph_file.proofs.Common.{Kind, id_cmp, ParentPlace, GraphRow, AreGraphRows, IsRowAmong, IsPlaceAmong, ids_of_rows, kind_of_rows, words_of, AreOfKind, moved, renumbered, HasSameRows, IsAccepted, Error, ChainError, ◌>>=◌}
-use Rattle.gix_graph_file.proofs.Common.{Parts, read_layer, rows_from, rows_of, Lower, base_of, with_rows, with_parts, layer_then, nothing, read_chain, HasChain, files_seen}
+use Rattle.gix_graph_file.proofs.Common.{Parts, read_layer, rows_from, rows_of, Lower, base_of, with_rows, with_parts, layer_then, nothing, read_chain, HasChain, files_seen, layers_seen}
 use Rattle.gix_commitgraph.specs.declared.ParentPlace.TheVariants.{At, Fault}
 use Rattle.gix_graph_file.specs.declared.error.Error.TheVariants as error
 use Rattle.gix_graph_file.specs.declared.error.ChainError.TheVariants as chain
@@ -111,3 +111,9 @@ files-one (file ∷ other ∷ layers) d one = absurd (omega (arith, one))
 
 pub one-has : (layers : List (Bor (List ℕ))) (d : Bor (List ℕ)) (graph : List GraphRow) → length layers ≡ 1 → AreGraphRows graph → read_chain ((get_or layers 0 d).now ∷ []) ≡ Ok graph → HasChain (files_seen layers) graph
 one-has layers d graph one sound read = rw (files-one layers d one) (has-chain _ graph sound read)
+
+-- the one file of a list that is given up
+pub one-owned : {Z : Type 0} (layers others : List (Vec ℕ Z)) (file : Vec ℕ Z) (graph : List GraphRow) → length layers ≡ 1 → layers ≡ others ++ file ∷ [] → AreGraphRows graph → read_chain (vec_items file ∷ []) ≡ Ok graph
+    → HasChain (layers_seen layers) graph
+one-owned layers [] file graph one layers_is sound read = rw layers_is (has-chain (vec_items file ∷ []) graph sound read)
+one-owned layers (other ∷ others) file graph one layers_is sound read = absurd (omega (arith, one, ap length layers_is, length-append others (file ∷ [])))

@@ -12,9 +12,9 @@ pub use Rattle.gix_hash.specs.Id.{id_cmp, id_len, id_of, kind_of}
 pub use Rattle.gix_hash.specs.declared.Kind.{Kind}
 pub use Rattle.gix_hash.specs.declared.ObjectId.{ObjectId}
 pub use Rattle.gix_graph_file.specs.Chain.{base_of, chain_from, HasChain, is_kind, IsOfRows, layer_rows, layer_then, Lower, nothing, read_chain, RefusesChain, with_layer, with_parts, with_rows}
-pub use Rattle.gix_graph_file.specs.ChainSteps.{below_seen, files_seen, IsAtLayer, IsForRows, IsLayerFault, joined, prepended, row_or_fault, row_read, RowRead}
+pub use Rattle.gix_graph_file.specs.ChainSteps.{below_seen, files_seen, IsAtLayer, IsForRows, IsLayerFault, joined, layers_seen, prepended, row_or_fault, row_read, RowRead}
 pub use Rattle.gix_graph_file.specs.FileRows.{edge_list, long_edge_list, no_parent, Parents, parents_said, place_named, read_file, row_said, row_then, rows_from, rows_of, second_said, with_parent}
 pub use Rattle.gix_graph_file.specs.FileTable.{chunk_from, is_last, is_table_from, long_at, most_rows, name_at, name_of, offset_at, Parts, read_layer, read_parts, table_len, ◌>>=◌}
-pub use Rattle.gix_graph_file.specs.PackedParts.{edge_packed, fault_of, first_packed, IsWhole, kind_packed, parts_packed, place_packed, row_packed, rows_packed, second_packed, seen, words_packed}
+pub use Rattle.gix_graph_file.specs.PackedParts.{edge_packed, fault_of, first_packed, IsWhole, ReadsAs, kind_packed, parts_packed, place_packed, row_packed, rows_packed, second_packed, seen, words_packed}
 pub use Rattle.gix_graph_file.specs.declared.error.ChainError.{ChainError}
 pub use Rattle.gix_graph_file.specs.declared.error.Error.{Error}

@@ -4,6 +4,8 @@ mod Common
 pub mod Entries
 -- Rows written one after the other.
 pub mod Written
+-- A file's rows, packed by halves.
+pub mod HalfRows
 -- The parents that words say, in the file and in packed bytes.
 pub mod SameParents
 -- The fields of a row, in the file and in packed bytes.

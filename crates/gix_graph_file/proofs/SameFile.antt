@@ -2,7 +2,7 @@
 use Rattle.std.proofs.Common.{◌≡◌, ◌≢◌, ℕ, zero, suc, ◌+◌, ◌-◌, ◌*◌, ◌/◌, ◌^◌, ◌<◌, ◌≤◌, Bool, true, false, ltb, List, [], ◌∷◌, ◌++◌, length, map, take, drop, None, Result, Ok, Err, IfOk, IfErr, refl, sym, ap, subst, ◌∙◌, arith}
 use Rattle.std.proofs.Common.{w32, flat_map, ne_eqb, eq-eqb, le-leb, lt-ltb, length-append, length-drop, length-take}
 use Rattle.gix_graph_file.proofs.Common.{to_be_bytes, Kind, GraphError, id_len, GraphRow, most, layout_name, AreBytes, AreGraphRows, words_of, row_len, may_have, is_sized, rows_at, read_packed, opened, Error}
-use Rattle.gix_graph_file.proofs.Common.{◌>>=◌, Parts, most_rows, read_parts, flag, rows_from, rows_of, IsWhole, edge_packed, kind_packed, row_packed, fault_of}
+use Rattle.gix_graph_file.proofs.Common.{◌>>=◌, Parts, most_rows, read_parts, flag, rows_from, rows_of, IsWhole, ReadsAs, edge_packed, kind_packed, row_packed, fault_of}
 use Rattle.std.proofs.lemmas.List.{length-map}
 use Rattle.gix_hash.specs.declared.Kind.TheVariants as kind
 use Rattle.gix_commitgraph.specs.declared.Place.{Place}
@@ -103,6 +103,17 @@ opens-parts packed p result whole packed_is result_is =
     let here = opens (read_packed (parts_packed p)) (rows_of p) (says-parts p whole) in
     let opened_is : result ≡ opened (read_packed (parts_packed p)) = result_is ∙ ap (λ (x : List ℕ). opened (read_packed x)) packed_is in
     subst (λ (x : Result (List GraphRow) GraphError). Opens x (rows_of p)) (sym opened_is) here
+
+-- packed bytes that are opened say what the parts say that they were packed from
+pub packed-says : (packed : List ℕ) (p : Parts) (result : Result (List GraphRow) Error) → IsWhole p → packed ≡ parts_packed p → IfOk result (λ (rows : List GraphRow). AreGraphRows rows × ReadsAs packed (Ok rows))
+    → IfOk result (λ (rows : List GraphRow). AreGraphRows rows × (rows_of p ≡ Ok rows))
+packed-says packed p (Ok rows) whole packed_is here = (here.0, here.1 p whole packed_is)
+packed-says packed p (Err e) whole packed_is here = tt
+
+pub packed-refuses : (packed : List ℕ) (p : Parts) (result : Result (List GraphRow) Error) → IsWhole p → packed ≡ parts_packed p → IfErr result (λ (e : Error). ReadsAs packed (Err e))
+    → IfErr result (λ (e : Error). e ≢ error.Memory → rows_of p ≡ Err e)
+packed-refuses packed p (Ok rows) whole packed_is here = tt
+packed-refuses packed p (Err e) whole packed_is here = λ other. here p whole packed_is
 
 -- the file's rows are those that its parts say
 parts-rows : (file : List ℕ) (p : Parts) → read_parts file ≡ Ok p → read_file file ≡ rows_of p

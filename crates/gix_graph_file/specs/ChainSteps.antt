@@ -1,6 +1,6 @@
 -- How a chain of files is read, step by step.
 use Rattle.std.specs.Borrow.{Bor}
-use Rattle.std.specs.Prelude.{◌≡◌, ◌≢◌, ℕ, ◌-◌, ◌≤◌, IsTrue, List, ◌++◌, length, map, Option, Some, None, Result, Ok, Err, if◌then◌else◌}
+use Rattle.std.specs.Prelude.{◌≡◌, ◌≢◌, ℕ, ◌-◌, ◌≤◌, IsTrue, List, ◌++◌, length, map, Option, Some, None, Result, Ok, Err, Vec, vec_items, if◌then◌else◌}
 use Rattle.gix_hash.specs.declared.Kind.{Kind}
 use Rattle.gix_hash.specs.declared.ObjectId.{ObjectId}
 use Rattle.gix_hash.specs.Id.{id_len, id_of}
@@ -64,6 +64,10 @@ ReadsLayerRow k limit at given (Err e) = e ≢ error.Memory → row_of_layer k l
 
 abbrev pub files_seen : List (Bor (List ℕ)) → List (List ℕ)
 files_seen layers = map (λ layer. layer.now) layers
+
+-- the bytes of each layer
+abbrev pub layers_seen : {Z : Type 0} → List (Vec ℕ Z) → List (List ℕ)
+layers_seen layers = map vec_items layers
 
 -- a layer's fault as the chain's
 abbrev pub IsAtLayer : ℕ → Error → ChainError → Type 0

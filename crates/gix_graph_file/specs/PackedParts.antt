@@ -1,5 +1,5 @@
 -- The packed bytes that say the same rows as the parts of a file.
-use Rattle.std.specs.Prelude.{◌≡◌, ℕ, zero, suc, ◌+◌, ◌-◌, ◌*◌, ◌/◌, ◌%◌, ◌^◌, ◌==◌, ◌≤◌, nat_lt, List, [], ◌++◌, length, take, drop, map, if◌then◌else◌}
+use Rattle.std.specs.Prelude.{◌≡◌, ℕ, zero, suc, ◌+◌, ◌-◌, ◌*◌, ◌/◌, ◌%◌, ◌^◌, ◌==◌, ◌≤◌, nat_lt, List, [], ◌++◌, length, take, drop, map, Result, if◌then◌else◌}
 use Rattle.std.specs.Int.{w32, w64, to_be_bytes}
 use Rattle.std.specs.List.{flat_map}
 use Rattle.gix_hash.specs.declared.Kind.{Kind}
@@ -11,11 +11,12 @@ use Rattle.gix_hash.specs.Id.{id_len}
 use Rattle.gix_commitgraph.specs.Packed.{fault_word, layout_name, AreBytes, flag}
 use Rattle.gix_commitgraph.specs.Packed as packed
 use Rattle.gix_commitgraph.specs.PackedReading.{word_at, words_of}
+use Rattle.gix_commitgraph.specs.Rows.{GraphRow}
 use Rattle.gix_graph_file.specs.declared.error.Error.{Error}
 use Rattle.gix_graph_file.specs.declared.error.Error.TheVariants as error
 use Rattle.gix_graph_file.specs.declared.table.Layout.{Layout}
 use Rattle.gix_graph_file.specs.FileTable.{long_at, Parts, most_rows, most_words}
-use Rattle.gix_graph_file.specs.FileRows.{no_parent}
+use Rattle.gix_graph_file.specs.FileRows.{no_parent, rows_of}
 
 -- parts without where they lie in memory
 abbrev pub seen : Layout → Parts
@@ -77,3 +78,7 @@ fault_of (refused.Packed (place.Order r)) = error.Order r
 fault_of (refused.Packed (place.Parents r)) = error.Parents r
 fault_of (refused.Packed place.Overflow) = error.Edges
 fault_of e = error.TooMany
+
+-- these bytes, packed from whatever parts, say what the parts say
+abbrev pub ReadsAs : List ℕ → Result (List GraphRow) Error → Type 0
+ReadsAs packed read = (p : Parts) → IsWhole p → packed ≡ parts_packed p → rows_of p ≡ read

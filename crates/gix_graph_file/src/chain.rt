@@ -321,7 +321,7 @@ fn add_layer(alloc: Global, below: &mut Below, number: usize, file: &[u8]) -> Re
 }
 
 /// A layer's fault as the chain's.
-fn at_layer(number: usize, error: Error) -> ChainError
+pub(super) fn at_layer(number: usize, error: Error) -> ChainError
     ensures { IsAtLayer number error result }
 {
     match error {

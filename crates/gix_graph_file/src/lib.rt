@@ -4,10 +4,12 @@
 ghost use Rattle.std.specs.Prelude.{◌≡◌, ◌≢◌, Ok, Err, IfOk, IfErr};
 ghost use Rattle.gix_commitgraph.specs.Packed.{AreGraphRows};
 ghost use Rattle.gix_graph_file.specs.FileRows.{rows_of, read_file};
-ghost use Rattle.gix_graph_file.specs.PackedParts.{seen, IsWhole, fault_of};
+ghost use Rattle.gix_graph_file.specs.PackedParts.{seen, IsWhole, ReadsAs, fault_of};
 
 mod chain;
 mod error;
+mod halves;
+mod owned;
 mod packing;
 mod table;
 mod trailer;
@@ -15,6 +17,7 @@ mod trailer;
 pub use chain::graph_of_chain;
 pub use error::{ChainError, Chunk, Error};
 use gix_commitgraph::{Graph, GraphError, Place};
+pub use owned::{graph_of_layers, graph_of_owned_layers};
 use std::alloc::Global;
 use table::Layout;
 pub use trailer::has_its_hash;
@@ -45,6 +48,14 @@ fn graph_of_parts(alloc: Global, layout: Layout<'_>) -> Result<Graph, Error>
     ensures fault { IfErr result (λ error. error ≢ Error.Memory → rows_of (seen layout.entry) ≡ Err error) }
 {
     let packed = packing::packed_of(alloc, layout)?;
+    graph_of_packed(packed)
+}
+
+/// The rows that packed bytes say, which are those of the parts that they were packed from.
+fn graph_of_packed(packed: Vec<u8>) -> Result<Graph, Error>
+    ensures rows { IfOk result (λ rows. AreGraphRows rows × ReadsAs packed.items (Ok rows)) }
+    ensures fault { IfErr result (λ error. ReadsAs packed.items (Err error)) }
+{
     match Graph::from_packed(packed) {
         Ok(graph) => Ok(graph),
         Err(error) => Err(fault_of(error)),

@@ -104,28 +104,35 @@ fn push_numbers(
     out.extend_from_slice(&[a, b, c, d, e, f, g, h, i, j, k, l, m, n, o, p, q, r, s, t])
 }
 
-/// Writes the rows.
-fn push_rows(out: &mut Vec<u8>, layout: Layout<'_>) -> Result<(), AllocError>
-    requires { IsWhole (seen layout) }
-    ensures { OnOk result (out.new.items ≡ out.old.items
-        ++ rows_packed layout.entry.kind layout.entry.rows layout.entry.rows layout.entry.ids.now layout.entry.commits.now) }
+/// Writes the first `count` of the rows that these bytes begin with, among so many rows.
+pub(super) fn push_rows(
+    out: &mut Vec<u8>,
+    kind: Kind,
+    rows: u32,
+    count: u32,
+    ids: &[u8],
+    commits: &[u8],
+) -> Result<(), AllocError>
+    requires ids { id_len kind * count ≤ length ids.now }
+    requires commits { id_len kind * count + 16 * count ≤ length commits.now }
+    ensures { OnOk result (out.new.items ≡ out.old.items ++ rows_packed kind rows count ids.now commits.now) }
 {
-    let len = layout.kind.len_in_bytes();
-    let mut ids = layout.ids;
-    let mut commits = layout.commits;
-    for _row in 0..layout.rows {
-        let (id, ids_left) = ids.split_at(len);
-        let (tree, behind) = commits.split_at(len);
-        let (numbers, commits_left) = behind.split_at(16);
-        push_row(out, layout.rows, id, tree, numbers)?;
-        ids = ids_left;
-        commits = commits_left;
+    let len = kind.len_in_bytes();
+    let mut ids_left = ids;
+    let mut commits_left = commits;
+    for _row in 0..count {
+        let (id, next_ids) = ids_left.split_at(len);
+        let (tree, behind) = commits_left.split_at(len);
+        let (numbers, next_commits) = behind.split_at(16);
+        push_row(out, rows, id, tree, numbers)?;
+        ids_left = next_ids;
+        commits_left = next_commits;
     }
     Ok(())
 }
 
 /// Writes the words of lists of parents.
-fn push_edges(out: &mut Vec<u8>, rows: u32, edges: &[u8]) -> Result<(), AllocError>
+pub(super) fn push_edges(out: &mut Vec<u8>, rows: u32, edges: &[u8]) -> Result<(), AllocError>
     ensures { OnOk result (out.new.items ≡ out.old.items ++ flat_map (to_be_bytes w32) (map (edge_packed rows) (words_of edges.now))) }
 {
     let mut left = edges;
@@ -138,7 +145,12 @@ fn push_edges(out: &mut Vec<u8>, rows: u32, edges: &[u8]) -> Result<(), AllocErr
 }
 
 /// Writes the head: the layout's name, the number of rows and the number of words.
-fn push_head(out: &mut Vec<u8>, kind: Kind, rows: u32, words: u32) -> Result<(), AllocError>
+pub(super) fn push_head(
+    out: &mut Vec<u8>,
+    kind: Kind,
+    rows: u32,
+    words: u32,
+) -> Result<(), AllocError>
     ensures { OnOk result (out.new.items ≡ out.old.items ++ head_packed kind rows words) }
 {
     let name = match kind {
@@ -151,7 +163,7 @@ fn push_head(out: &mut Vec<u8>, kind: Kind, rows: u32, words: u32) -> Result<(),
 }
 
 /// How many bytes so many rows and words are packed into.
-fn packed_len(kind: Kind, rows: u32, words: u32) -> usize {
+pub(super) fn packed_len(kind: Kind, rows: u32, words: u32) -> usize {
     let words_len = 4 * words as usize;
     match kind {
         Kind::Sha1 => 12 + 60 * rows as usize + words_len,
@@ -167,7 +179,14 @@ pub(super) fn packed_of(alloc: Global, layout: Layout<'_>) -> Result<Vec<u8>, Al
     let words = (layout.edges.len() / 4) as u32;
     let mut out = Vec::with_capacity(alloc, packed_len(layout.kind, layout.rows, words))?;
     push_head(&mut out, layout.kind, layout.rows, words)?;
-    push_rows(&mut out, layout)?;
+    push_rows(
+        &mut out,
+        layout.kind,
+        layout.rows,
+        layout.rows,
+        layout.ids,
+        layout.commits,
+    )?;
     push_edges(&mut out, layout.rows, layout.edges)?;
     Ok(out)
 }

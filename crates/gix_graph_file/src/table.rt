@@ -1,11 +1,13 @@
 //! Where the chunks of a commit-graph file are, and whether their sizes fit.
-ghost use Rattle.std.specs.Prelude.{◌≡◌, ◌+◌, ◌*◌, ◌≤◌, IsTrue, true, length, take, drop, Ok, Err, MatchResult, IfOk};
+ghost use Rattle.std.specs.Prelude.{◌≡◌, ◌+◌, ◌*◌, ◌≤◌, IsTrue, true, [], length, take, drop, unwrap_or, Ok, Err, MatchResult, IfOk, IfSome};
 ghost use Rattle.std.specs.Int.{w64, from_be_bytes};
 ghost use Rattle.std.specs.Option.{option_map};
 ghost use Rattle.gix_hash.specs.Id.{id_len};
+ghost use Rattle.gix_commitgraph.specs.Packed.{AreBytes};
 ghost use Rattle.gix_commitgraph.specs.PackedReading.{word_at};
 ghost use Rattle.gix_graph_file.specs.FileTable.{long_at, name_of, name_at, offset_at, kind_placed, kind_said, is_last, is_table_from, chunk_from, needed, parts_of, sized_parts, read_layer, table_len};
 ghost use Rattle.gix_graph_file.specs.PackedParts.{seen, IsWhole};
+ghost use Rattle.gix_graph_file.specs.Halves.{LiesIn, HasPlaces};
 ghost use Rattle.gix_graph_file.specs.Chain.{base_of, hash_of};
 ghost use Rattle.gix_graph_file.specs.ChainSteps.{HasTable};
 
@@ -17,6 +19,14 @@ const MOST_ROWS: u32 = 0x7000_0000;
 /// The most words in `EDGE`.
 const MOST_WORDS: usize = 2_147_483_646;
 
+/// Bytes of a file.
+#[derive(Clone, Copy, Debug)]
+pub(super) struct Piece<'a> {
+    /// Where they begin in the file.
+    pub at: usize,
+    pub bytes: &'a [u8],
+}
+
 /// The parts of a file that say its rows.
 #[derive(Clone, Copy, Debug)]
 pub(super) struct Layout<'a> {
@@ -24,8 +34,12 @@ pub(super) struct Layout<'a> {
     pub kind: Kind,
     /// How many rows.
     pub rows: u32,
+    /// Where the ids begin in the file.
+    pub ids_at: usize,
     /// An id for each row.
     pub ids: &'a [u8],
+    /// Where the commits begin in the file.
+    pub commits_at: usize,
     /// A tree's id and 16 bytes for each row.
     pub commits: &'a [u8],
     /// Words of parents.
@@ -132,12 +146,13 @@ fn is_table(file: &[u8], count: usize, end: usize) -> bool
     is_last(file, end, count, lower)
 }
 
-/// The bytes of a chunk.
-fn chunk_of(file: &[u8], count: usize, end: usize, chunk: Chunk) -> Option<&[u8]>
+/// A chunk.
+fn piece_of(file: &[u8], count: usize, end: usize, chunk: Chunk) -> Option<Piece<'_>>
     requires long { table_len count ≤ length file.now }
     requires ends { end ≤ length file.now }
     requires table { IsTrue (is_table_from file.now end count 0 (table_len count)) }
-    ensures { option_map (λ bytes. bytes.now) result ≡ chunk_from file.now (name_of chunk) count 0 }
+    ensures bytes { option_map (λ piece. piece.bytes.now) result ≡ chunk_from file.now (name_of chunk) count 0 }
+    ensures place { IfSome result (LiesIn file.now) }
 {
     for entry in 0..count {
         let name = name_at(file, entry);
@@ -146,27 +161,42 @@ fn chunk_of(file: &[u8], count: usize, end: usize, chunk: Chunk) -> Option<&[u8]
             let to = offset_at(file, entry + 1) as usize;
             let (_, behind) = file.split_at(from);
             let (bytes, _) = behind.split_at(to - from);
-            return Some(bytes);
+            return Some(Piece { at: from, bytes });
         }
     }
     None
 }
 
-/// The bytes of a chunk that each file has.
-fn needed_chunk(file: &[u8], count: usize, end: usize, chunk: Chunk) -> Result<&[u8], Error>
+/// The bytes of a chunk that some files have. None are like no chunk.
+fn bytes_of(file: &[u8], count: usize, end: usize, chunk: Chunk) -> &[u8]
     requires long { table_len count ≤ length file.now }
     requires ends { end ≤ length file.now }
     requires table { IsTrue (is_table_from file.now end count 0 (table_len count)) }
-    ensures { MatchResult result (λ bytes. needed file.now count chunk ≡ Ok bytes.now) (λ error. needed file.now count chunk ≡ Err error) }
+    ensures { result.now ≡ unwrap_or (chunk_from file.now (name_of chunk) count 0) [] }
 {
-    match chunk_of(file, count, end, chunk) {
-        Some(bytes) => Ok(bytes),
+    match piece_of(file, count, end, chunk) {
+        Some(piece) => piece.bytes,
+        None => &[],
+    }
+}
+
+/// A chunk that each file has.
+fn needed_piece(file: &[u8], count: usize, end: usize, chunk: Chunk) -> Result<Piece<'_>, Error>
+    requires long { table_len count ≤ length file.now }
+    requires ends { end ≤ length file.now }
+    requires table { IsTrue (is_table_from file.now end count 0 (table_len count)) }
+    ensures bytes { MatchResult result (λ piece. needed file.now count chunk ≡ Ok piece.bytes.now)
+        (λ error. needed file.now count chunk ≡ Err error) }
+    ensures place { IfOk result (LiesIn file.now) }
+{
+    match piece_of(file, count, end, chunk) {
+        Some(piece) => Ok(piece),
         None => Err(Error::Missing(chunk)),
     }
 }
 
 /// How many bytes the ids of so many rows have.
-fn ids_len(kind: Kind, rows: u32) -> usize
+pub(super) fn ids_len(kind: Kind, rows: u32) -> usize
     ensures { result ≡ id_len kind * rows }
 {
     match kind {
@@ -175,19 +205,29 @@ fn ids_len(kind: Kind, rows: u32) -> usize
     }
 }
 
+/// How many bytes a file has of so many rows, besides their ids.
+pub(super) fn commits_len(kind: Kind, rows: u32) -> usize
+    ensures { result ≡ id_len kind * rows + 16 * rows }
+{
+    ids_len(kind, rows) + 16 * rows as usize
+}
+
 /// The parts, where the chunks' sizes fit.
 #[tactic(auto, unfolding(crate::specs::FileTable::sized_parts))]
 fn sized<'a>(
     kind: Kind,
     fan_out: &'a [u8],
-    ids: &'a [u8],
-    commits: &'a [u8],
+    ids: Piece<'a>,
+    commits: Piece<'a>,
     edges: &'a [u8],
 ) -> Result<Layout<'a>, Error>
-    ensures parts { MatchResult result (λ layout. sized_parts kind fan_out.now ids.now commits.now edges.now ≡ Ok (seen layout))
-        (λ error. sized_parts kind fan_out.now ids.now commits.now edges.now ≡ Err error) }
+    requires { AreBytes commits.bytes.now }
+    ensures parts { let said = sized_parts kind fan_out.now ids.entry.bytes.now commits.entry.bytes.now edges.now in
+        MatchResult result (λ layout. said ≡ Ok (seen layout)) (λ error. said ≡ Err error) }
     ensures whole { IfOk result (λ layout. IsWhole (seen layout)) }
     ensures kind { IfOk result (λ layout. layout.kind ≡ kind) }
+    ensures ids { IfOk result (λ layout. (layout.ids_at ≡ ids.entry.at) × (layout.ids.now ≡ ids.entry.bytes.now)) }
+    ensures commits { IfOk result (λ layout. (layout.commits_at ≡ commits.entry.at) × (layout.commits.now ≡ commits.entry.bytes.now)) }
 {
     if fan_out.len() != 1024 {
         return Err(Error::Size(Chunk::FanOut));
@@ -196,10 +236,10 @@ fn sized<'a>(
     if rows > MOST_ROWS {
         return Err(Error::TooMany);
     }
-    if ids.len() != ids_len(kind, rows) {
+    if ids.bytes.len() != ids_len(kind, rows) {
         return Err(Error::Size(Chunk::Ids));
     }
-    if commits.len() != ids_len(kind, rows) + 16 * rows as usize {
+    if commits.bytes.len() != commits_len(kind, rows) {
         return Err(Error::Size(Chunk::Data));
     }
     if edges.len() % 4 != 0 {
@@ -211,8 +251,10 @@ fn sized<'a>(
     Ok(Layout {
         kind,
         rows,
-        ids,
-        commits,
+        ids_at: ids.at,
+        ids: ids.bytes,
+        commits_at: commits.at,
+        commits: commits.bytes,
         edges,
     })
 }
@@ -224,6 +266,7 @@ fn parts_of(kind: Kind, file: &[u8]) -> Result<Layout<'_>, Error>
     ensures parts { MatchResult result (λ layout. parts_of kind file.now ≡ Ok (seen layout)) (λ error. parts_of kind file.now ≡ Err error) }
     ensures whole { IfOk result (λ layout. IsWhole (seen layout)) }
     ensures table { IfOk result (λ layout. HasTable layout.kind file.now) }
+    ensures places { IfOk result (HasPlaces file.now) }
 {
     let count = file[6] as usize;
     let end = file.len().saturating_sub(kind.len_in_bytes());
@@ -233,11 +276,11 @@ fn parts_of(kind: Kind, file: &[u8]) -> Result<Layout<'_>, Error>
     if !is_table(file, count, end) {
         return Err(Error::Table);
     }
-    let fan_out = needed_chunk(file, count, end, Chunk::FanOut)?;
-    let ids = needed_chunk(file, count, end, Chunk::Ids)?;
-    let commits = needed_chunk(file, count, end, Chunk::Data)?;
-    let edges = chunk_of(file, count, end, Chunk::Edges).unwrap_or(&[]);
-    sized(kind, fan_out, ids, commits, edges)
+    let fan_out = needed_piece(file, count, end, Chunk::FanOut)?;
+    let ids = needed_piece(file, count, end, Chunk::Ids)?;
+    let commits = needed_piece(file, count, end, Chunk::Data)?;
+    let edges = bytes_of(file, count, end, Chunk::Edges);
+    sized(kind, fan_out.bytes, ids, commits, edges)
 }
 
 /// The parts of a file that say its rows, where it has this number of lower layers.
@@ -246,6 +289,7 @@ pub(super) fn layout_of(number: usize, file: &[u8]) -> Result<Layout<'_>, Error>
         (λ error. read_layer number file.now ≡ Err error) }
     ensures whole { IfOk result (λ layout. IsWhole (seen layout)) }
     ensures table { IfOk result (λ layout. HasTable layout.kind file.now) }
+    ensures places { IfOk result (HasPlaces file.now) }
 {
     let kind = kind_of(number, file)?;
     parts_of(kind, file)
@@ -258,7 +302,7 @@ pub(super) fn base_of(kind: Kind, file: &[u8]) -> &[u8]
 {
     let count = file[6] as usize;
     let end = file.len() - kind.len_in_bytes();
-    chunk_of(file, count, end, Chunk::Base).unwrap_or(&[])
+    bytes_of(file, count, end, Chunk::Base)
 }
 
 /// The hash of a file, which is behind its chunks.

@@ -20,8 +20,6 @@ use std::io::Write;
 
 /// The generation of a row that has no parents.
 const FIRST_GENERATION: u32 = 1;
-/// The least bytes of a block that the C library never keeps when it is given back: 32 MiB, and what it adds to a block.
-const HANDED_BACK: usize = (32 << 20) + (1 << 14);
 
 /// The rows of a question.
 #[derive(Drop)]
@@ -115,11 +113,7 @@ fn rows_of_layers(rt: &HostRuntime, layers: Vec<Layer>) -> Result<Known, Fault> 
     for layer in layers {
         files.push(layer.bytes).map_err(AllocError::from)?;
     }
-    let graph = read_graph(rt.alloc(), files.as_slice());
-    for file in files {
-        hand_back(file);
-    }
-    match graph {
+    match read_graph(rt.alloc(), files) {
         Ok(graph) => Ok(Known {
             graph: Some(graph),
             is_unchecked: false,
@@ -130,12 +124,6 @@ fn rows_of_layers(rt: &HostRuntime, layers: Vec<Layer>) -> Result<Known, Fault> 
             Ok(nothing())
         }
     }
-}
-
-/// Hands the bytes of a file back to the system. The C library would keep this block and from then on all that aren't larger, with holes
-/// between them, so it is made larger than those that are kept. None of its new pages is touched.
-fn hand_back(mut bytes: Vec<u8>) {
-    let _ = bytes.reserve(HANDED_BACK);
 }
 
 /// Whether these options take a file that is open: it has passed, or is trusted.

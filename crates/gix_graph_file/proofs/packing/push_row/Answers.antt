@@ -1,4 +1,4 @@
-use Rattle.std.proofs.Common.{ℕ, ◌/◌, ◌%◌, ◌^◌, ◌++◌, ap, ◌∙◌, w32, w64}
+use Rattle.std.proofs.Common.{◌/◌, ◌%◌, ◌^◌, ◌++◌, ap, ◌∙◌, w32, w64}
 use Rattle.std.proofs.lemmas.List.{append_assoc}
 use Rattle.std.proofs.lemmas.Result.{on_ok_weaker}
 use Rattle.gix_graph_file.proofs.Common.{to_be_bytes, first_packed, second_packed}

@@ -2,9 +2,8 @@ use Rattle.std.proofs.Common.{◌≡◌, ◌<◌, ◌+◌, ℕ, All, List, [], �
 use Rattle.std.proofs.lemmas.List.{map_push, drop_more}
 use Rattle.std.proofs.lemmas.List.Elements.{All-push}
 use Rattle.gix_commitgraph.specs.Packed.{AreBytes}
-use Rattle.gix_graph_file.specs.ChainSteps.{files_seen}
-use Rattle.gix_commands.specs.Opening.{layers_seen}
-use Rattle.gix_commands.proofs.graph.lend.Goals as goal
+use Rattle.gix_graph_file.specs.ChainSteps.{files_seen, layers_seen}
+use Rattle.gix_graph_file.proofs.owned.lend.Goals as goal
 
 -- one more layer is lent
 one_more : {Z : Type 0} (files all : List (List ℕ)) (layers : List (Vec ℕ Z)) (i : ℕ) (layer : Vec ℕ Z) (file : List ℕ) → i < length layers → layer ≡ get_or layers i layer → file ≡ vec_items layer

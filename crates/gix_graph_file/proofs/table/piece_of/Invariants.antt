@@ -1,6 +1,6 @@
 use Rattle.std.proofs.Common.{◌≡◌, ℕ, ◌-◌, true}
 use Rattle.gix_graph_file.proofs.Common.{is_table_from, chunk_from, name_of}
-use Rattle.gix_graph_file.proofs.table.chunk_of.Given as goal
+use Rattle.gix_graph_file.proofs.table.piece_of.Given as goal
 
 -- the entries that are left are as they should be, and searching on finds what searching all finds
 abbrev pub invariant-loop-entry : goal.invariant-loop-entry
