@@ -2,5 +2,7 @@
 pub mod Membership
 -- The derived `==` holds exactly where two ids are the same.
 pub mod Equality
--- A list of distinct ids as a set, and a list of entries as a map.
+-- A table of the ids of one length, and the map of all ids.
 pub mod Tables
+-- The set of the ids that have a value.
+pub mod Sets

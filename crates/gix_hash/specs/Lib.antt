@@ -6,3 +6,5 @@ pub mod Reach
 pub mod Keyed
 -- What a change of one value makes of a map.
 pub mod Changes
+-- What two tables of ids hold together.
+pub mod Tables

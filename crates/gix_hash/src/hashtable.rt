@@ -9,25 +9,47 @@ ghost use Rattle.std.specs.Fn.{FnOnceReturnsAtMut};
 
 use crate::{Keys, ObjectId};
 use std::alloc::{AllocError, Global};
-use std::collections::{HashMap, HashSet};
+use std::collections::HashMap;
+use std::hash::{Hash, Hasher};
 use std::marker::Model;
 use std::mem;
+
+/// The bytes of an id as a key. A table's keys are of one length each, so that the many ids of 20 bytes don't take the room of 32.
+#[derive(Clone, Copy, PartialEq, Eq)]
+struct Bytes<const N: usize>([u8; N]);
+
+/// The bytes are written at once, as [`Keys`] wants.
+impl<const N: usize> Hash for Bytes<N> {
+    ghost use Rattle.std.specs.Prelude.{◌∷◌, []};
+    ghost use Rattle.std.specs.Cmp.Rules.{hashing};
+    ghost use Rattle.std.proofs.Common.{rules};
+
+    ghost hash_input = { λ b. b.0 ∷ [] };
+
+    ghost respects_eq = { Prim.search (hashing, rules) };
+
+    #[inline(always)]
+    fn hash<H: Hasher>(&self, state: &mut H) {
+        state.write(&self.0);
+    }
+}
 
 /// A set of ids.
 #[derive(Drop)]
 pub struct IdSet {
-    ids: HashSet<ObjectId, Keys>,
+    ids: IdMap<()>,
 }
 
 impl Model for IdSet {
     ghost use Rattle.std.specs.FinSet as set;
     ghost use Rattle.gix_hash.specs.Id.{id_cmp, id_code};
+    ghost use Rattle.gix_hash.specs.Tables.{ids_of};
 
     ghost Value = { set.FinSet id_cmp };
 
     ghost coded = { set.code id_code };
 
-    ghost view = { λ s. set.from_list s.ids.keys };
+    ghost view = { λ s. ids_of s.ids };
 }
 
 impl IdSet {
@@ -36,20 +58,20 @@ impl IdSet {
         ensures { result ≡ set.empty }
     {
         IdSet {
-            ids: HashSet::with_hasher(alloc, keys),
+            ids: IdMap::new(alloc, keys),
         }
     }
 
     /// The keys of the set, for further tables of a run.
     pub fn keys(&self) -> Keys {
-        *self.ids.hasher()
+        self.ids.keys()
     }
 
     /// Whether the set has the id.
     pub fn contains(&self, id: &ObjectId) -> bool
         ensures { result ≡ set.contains self.now id.now }
     {
-        self.ids.contains(id)
+        self.ids.get(id).is_some()
     }
 
     /// Puts an id in, and says whether it is new. Only a new id takes memory.
@@ -63,7 +85,7 @@ impl IdSet {
         ensures err { OnErr result (self.new ≡ self.old) }
         ensures absent { OnErr result (set.contains self.old id ≡ false) }
     {
-        Ok(self.ids.insert(id)?)
+        Ok(self.ids.insert(id, ())?.is_none())
     }
 
     /// Takes an id out, and says whether it was in the set. For an empty set the id isn't hashed.
@@ -72,15 +94,7 @@ impl IdSet {
         ensures removed { result ≡ set.contains self.old id.now }
         ensures set { self.new ≡ set.remove self.old id.now }
     {
-        !self.ids.is_empty() && self.take_out(id)
-    }
-
-    /// A call of its own, so that the test for none is inlined.
-    fn take_out(&mut self, id: &ObjectId) -> bool
-        ensures removed { result ≡ set.contains self.old id.now }
-        ensures set { self.new ≡ set.remove self.old id.now }
-    {
-        self.ids.remove(id)
+        !self.is_empty() && self.ids.remove(id).is_some()
     }
 
     /// How many ids the set has.
@@ -108,18 +122,20 @@ impl IdSet {
 /// A map from ids to values.
 #[derive(Drop)]
 pub struct IdMap<T> {
-    values: HashMap<ObjectId, T, Keys>,
+    short: HashMap<Bytes<20>, T, Keys>,
+    long: HashMap<Bytes<32>, T, Keys>,
 }
 
 impl<T> Model for IdMap<T> {
     ghost use Rattle.std.specs.FinMap as map;
     ghost use Rattle.gix_hash.specs.Id.{id_cmp, id_code};
+    ghost use Rattle.gix_hash.specs.Tables.{map_of};
 
     ghost Value = { map.FinMap id_cmp T };
 
     ghost coded = { map.code id_code T.code };
 
-    ghost view = { λ m. map.from_entries m.values.entries };
+    ghost view = { λ m. map_of m.short.entries m.long.entries };
 }
 
 impl<T> IdMap<T> {
@@ -128,23 +144,28 @@ impl<T> IdMap<T> {
         ensures { result ≡ map.empty }
     {
         IdMap {
-            values: HashMap::with_hasher(alloc, keys),
+            short: HashMap::with_hasher(alloc, keys),
+            long: HashMap::with_hasher(alloc, keys),
         }
     }
 
-    /// The empty map with these keys, which has room for so many values where there is memory for that. It grows as any other.
+    /// The empty map with these keys, which has room for so many values of ids of 20 bytes where there is memory for that. It grows as any
+    /// other.
     pub fn with_room(alloc: Global, keys: Keys, room: usize) -> IdMap<T>
         ensures { result ≡ map.empty }
     {
         match HashMap::with_capacity_and_hasher(alloc, room, keys) {
-            Ok(values) => IdMap { values },
+            Ok(short) => IdMap {
+                short,
+                long: HashMap::with_hasher(alloc, keys),
+            },
             Err(_) => IdMap::new(alloc, keys),
         }
     }
 
     /// The keys of the map, for further tables of a run.
     pub fn keys(&self) -> Keys {
-        *self.values.hasher()
+        *self.short.hasher()
     }
 
     /// The value of an id, and None where it has none. For an empty map the id isn't hashed.
@@ -152,7 +173,7 @@ impl<T> IdMap<T> {
     pub fn get(&self, id: &ObjectId) -> Option<&T>
         ensures { option_copied result ≡ map.get self.now id.now }
     {
-        if self.values.is_empty() {
+        if self.is_empty() {
             return None;
         }
         self.look_up(id)
@@ -162,7 +183,10 @@ impl<T> IdMap<T> {
     fn look_up(&self, id: &ObjectId) -> Option<&T>
         ensures { option_copied result ≡ map.get self.now id.now }
     {
-        self.values.get(id)
+        match id {
+            ObjectId::Sha1(bytes) => self.short.get(&Bytes(*bytes)),
+            ObjectId::Sha256(bytes) => self.long.get(&Bytes(*bytes)),
+        }
     }
 
     /// Gives an id a value, and returns the value that it had. Only a new id takes memory.
@@ -178,7 +202,10 @@ impl<T> IdMap<T> {
         ensures err { OnErr result (self.new ≡ self.old) }
         ensures absent { OnErr result (map.get self.old id ≡ None) }
     {
-        Ok(self.values.insert(id, value)?)
+        match id {
+            ObjectId::Sha1(bytes) => Ok(self.short.insert(Bytes(bytes), value)?),
+            ObjectId::Sha256(bytes) => Ok(self.long.insert(Bytes(bytes), value)?),
+        }
     }
 
     /// Replaces the value of an id that has one, and returns the old value. Where the id has no value, the answer is None and the
@@ -190,10 +217,7 @@ impl<T> IdMap<T> {
         ensures some { OnSome result (self.new ≡ map.insert self.old id.now value) }
         ensures none { IfNone result (self.new ≡ self.old) }
     {
-        let Some(place) = self.values.get_mut(id) else {
-            return None;
-        };
-        Some(mem::replace(place, value))
+        self.change(id, |place| mem::replace(place, value))
     }
 
     /// Changes the value of an id that has one, and returns what the change returns. Where the id has no value, the answer is None and the map
@@ -206,8 +230,10 @@ impl<T> IdMap<T> {
         ensures some { IfSome result (λ r. Changes (λ old new. FnOnceReturnsAtMut C.FnOnce change old r new) self.old id.now self.new) }
         ensures none { IfNone result (self.new ≡ self.old) }
     {
-        let value = self.values.get_mut(id)?;
-        Some(change(value))
+        match id {
+            ObjectId::Sha1(bytes) => Some(change(self.short.get_mut(&Bytes(*bytes))?)),
+            ObjectId::Sha256(bytes) => Some(change(self.long.get_mut(&Bytes(*bytes))?)),
+        }
     }
 
     /// Takes the value of an id out and returns it. None where the id has none.
@@ -215,7 +241,10 @@ impl<T> IdMap<T> {
         ensures value { result ≡ map.get self.old id.now }
         ensures map { self.new ≡ map.remove self.old id.now }
     {
-        self.values.remove(id)
+        match id {
+            ObjectId::Sha1(bytes) => self.short.remove(&Bytes(*bytes)),
+            ObjectId::Sha256(bytes) => self.long.remove(&Bytes(*bytes)),
+        }
     }
 
     /// The ids that have a value, each once, in no order that means anything.
@@ -226,9 +255,12 @@ impl<T> IdMap<T> {
     pub fn ids(&self, alloc: Global) -> Result<Vec<ObjectId>, AllocError>
         ensures { IfOk result (λ ids. (i : ObjectId) → is_among i ids.items ≡ is_some (map.get self.now i)) }
     {
-        let mut ids = Vec::with_capacity(alloc, self.values.len())?;
-        for id in self.values.keys() {
-            ids.push(*id)?;
+        let mut ids = Vec::with_capacity(alloc, self.len())?;
+        for bytes in self.short.keys() {
+            ids.push(ObjectId::Sha1(bytes.0))?;
+        }
+        for bytes in self.long.keys() {
+            ids.push(ObjectId::Sha256(bytes.0))?;
         }
         Ok(ids)
     }
@@ -237,7 +269,7 @@ impl<T> IdMap<T> {
     pub fn len(&self) -> usize
         ensures { result ≡ map.len self.now }
     {
-        self.values.len()
+        self.short.len() + self.long.len()
     }
 
     /// Whether no id has a value.
@@ -253,6 +285,7 @@ impl<T> IdMap<T> {
         T: Drop,
         ensures { self.new ≡ map.empty }
     {
-        self.values.clear();
+        self.short.clear();
+        self.long.clear();
     }
 }

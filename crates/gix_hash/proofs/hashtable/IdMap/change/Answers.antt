@@ -1,26 +1,40 @@
 use Rattle.std.proofs.Common.{◌≡◌, Option, Some, IsSome, is_some, ap, sym, ◌∙◌, rules}
-use Rattle.std.specs.FinMap as map
-use Rattle.gix_hash.proofs.Ids.Tables.{holds, updated}
-use Rattle.gix_hash.proofs.Ids.Equality.{eq_is_same}
+use Rattle.gix_hash.proofs.Ids.Tables.{the_short, the_long, holds, updated}
 use Rattle.gix_hash.proofs.hashtable.IdMap.change.Goals as goal
 
 is_there : {X : Type 0} (x : X) (o : Option X) → Some x ≡ o → IsSome o
 is_there x o e = ap is_some (sym e)
 
-pub returns-in_err-value-clause-found : goal.returns-in_err-value-clause-found
-returns-in_err-value-clause-found g c =
-    ap is_some c.from_residual.ensures ∙ ap is_some (c.in_err-value.ensures.value ∙ holds _ eq_is_same c.self.inside.values.entries c.args.id.now ∙ ap (λ m. map.get m c.args.id.now) c.self.view_is)
+pub returns-in_err-get_mut-in-Sha1-clause-found : goal.returns-in_err-get_mut-in-Sha1-clause-found
+returns-in_err-get_mut-in-Sha1-clause-found g c =
+    ap is_some c.from_residual.ensures ∙ ap is_some (c.in_err-get_mut-in-Sha1.ensures.value ∙ holds (the_short c.self.inside.long.entries) _ _ _ _ c.self.view_is c.in-Sha1.is)
 
-pub returns-clause-found : goal.returns-clause-found
-returns-clause-found g c = ap is_some (c.in_ok-value.ensures.value ∙ holds _ eq_is_same c.self.inside.values.entries c.args.id.now ∙ ap (λ m. map.get m c.args.id.now) c.self.view_is)
+pub returns-in_ok-get_mut-in-Sha1-clause-found : goal.returns-in_ok-get_mut-in-Sha1-clause-found
+returns-in_ok-get_mut-in-Sha1-clause-found g c = ap is_some (c.in_ok-get_mut-in-Sha1.ensures.value ∙ holds (the_short c.self.inside.long.entries) _ _ _ _ c.self.view_is c.in-Sha1.is)
 
-pub returns-clause-some : goal.returns-clause-some
-returns-clause-some g c =
+pub returns-in_ok-get_mut-in-Sha1-clause-some : goal.returns-in_ok-get_mut-in-Sha1-clause-some
+returns-in_ok-get_mut-in-Sha1-clause-some g c =
     let written = c.get_mut.follows.holds c.change.new.arg2 in (
-      c.in_ok-value.value.now,
+      c.in_ok-get_mut-in-Sha1.field-0.now,
       c.change.new.arg2,
-      sym (c.in_ok-value.ensures.value ∙ holds _ eq_is_same c.self.inside.values.entries c.args.id.now ∙ ap (λ m. map.get m c.args.id.now) c.self.view_is),
+      sym (c.in_ok-get_mut-in-Sha1.ensures.value ∙ holds (the_short c.self.inside.long.entries) _ _ _ _ c.self.view_is c.in-Sha1.is),
       search rules,
-      updated _ eq_is_same c.self.inside.values.entries _ c.args.id.now c.change.new.arg2 (written.3 (is_there _ _ c.in_ok-value.ensures.value)).0
-          ∙ ap (λ m. map.insert m c.args.id.now c.change.new.arg2) c.self.view_is,
+      updated (the_short c.self.inside.long.entries) _ _ _ _ _ _ c.self.view_is c.in-Sha1.is (written.3 (is_there _ _ c.in_ok-get_mut-in-Sha1.ensures.value)).0,
+    )
+
+pub returns-in_err-get_mut-in-Sha256-clause-found : goal.returns-in_err-get_mut-in-Sha256-clause-found
+returns-in_err-get_mut-in-Sha256-clause-found g c =
+    ap is_some c.from_residual-in_err-get_mut-in-Sha256.ensures ∙ ap is_some (c.in_err-get_mut-in-Sha256.ensures.value ∙ holds (the_long c.self.inside.short.entries) _ _ _ _ c.self.view_is c.in-Sha256.is)
+
+pub returns-in_ok-get_mut-in-Sha256-clause-found : goal.returns-in_ok-get_mut-in-Sha256-clause-found
+returns-in_ok-get_mut-in-Sha256-clause-found g c = ap is_some (c.in_ok-get_mut-in-Sha256.ensures.value ∙ holds (the_long c.self.inside.short.entries) _ _ _ _ c.self.view_is c.in-Sha256.is)
+
+pub returns-in_ok-get_mut-in-Sha256-clause-some : goal.returns-in_ok-get_mut-in-Sha256-clause-some
+returns-in_ok-get_mut-in-Sha256-clause-some g c =
+    let written = c.get_mut-in-Sha256.follows.holds c.change-in-Sha256.new.arg2 in (
+      c.in_ok-get_mut-in-Sha256.field-0.now,
+      c.change-in-Sha256.new.arg2,
+      sym (c.in_ok-get_mut-in-Sha256.ensures.value ∙ holds (the_long c.self.inside.short.entries) _ _ _ _ c.self.view_is c.in-Sha256.is),
+      search rules,
+      updated (the_long c.self.inside.short.entries) _ _ _ _ _ _ c.self.view_is c.in-Sha256.is (written.3 (is_there _ _ c.in_ok-get_mut-in-Sha256.ensures.value)).0,
     )

@@ -1,8 +1,7 @@
-use Rattle.std.proofs.Common.{ap, ◌∙◌}
+use Rattle.std.proofs.Common.{is_some, ap, ◌∙◌, rules}
 use Rattle.std.specs.FinSet as set
-use Rattle.gix_hash.proofs.Ids.Tables.{has}
-use Rattle.gix_hash.proofs.Ids.Equality.{eq_is_same}
+use Rattle.gix_hash.proofs.Ids.Sets.{has}
 use Rattle.gix_hash.proofs.hashtable.IdSet.contains.Goals as goal
 
 pub returns : goal.returns
-returns c = c.contains.ensures ∙ has _ eq_is_same c.self.inside.ids.keys c.args.id.now ∙ ap (λ s. set.contains s c.args.id.now) c.self.view_is
+returns c = c.is_some.ensures ∙ search rules ∙ ap is_some c.get.ensures ∙ has c.self.inside.ids c.args.id.now ∙ ap (λ s. set.contains s c.args.id.now) c.self.view_is
