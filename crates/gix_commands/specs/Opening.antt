@@ -28,8 +28,8 @@ FailsToOpen layers fault.Memory = Unit {0}
 FailsToOpen layers e = ⊥
 
 -- why layers aren't opened of which a chain's error says this
-abbrev pub IsFaultOf : ChainError → Fault → Type 0
-IsFaultOf error why = (layers : List (List ℕ)) → RefusesChain layers error → FailsToOpen layers why
+abbrev pub FailsAsRefused : ChainError → Fault → Type 0
+FailsAsRefused error why = (layers : List (List ℕ)) → RefusesChain layers error → FailsToOpen layers why
 
 -- a fault that only layers have that aren't opened
 abbrev pub IsOpeningFault : Fault → Type 0

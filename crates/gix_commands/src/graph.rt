@@ -1,7 +1,7 @@
 //! Git's commit-graph as rows that can be used without a store.
 ghost use Rattle.std.specs.Prelude.{IfErr, IfOk};
 ghost use Rattle.gix_graph_file.specs.ChainSteps.{layers_seen};
-ghost use Rattle.gix_commands.specs.Opening.{FailsToOpen, AreReadFrom, IsFaultOf, Opens};
+ghost use Rattle.gix_commands.specs.Opening.{FailsToOpen, AreReadFrom, FailsAsRefused, Opens};
 
 use gix_commitgraph::Graph;
 use gix_graph_check::first_unsound;
@@ -53,7 +53,7 @@ pub fn read_graph(alloc: Global, layers: Vec<Vec<u8>>) -> Result<Graph, Fault>
 
 /// Why layers aren't opened that are no chain.
 fn fault_of(error: ChainError) -> Fault
-    ensures { IsFaultOf error result }
+    ensures { FailsAsRefused error result }
 {
     match error {
         ChainError::Memory => Fault::Memory,

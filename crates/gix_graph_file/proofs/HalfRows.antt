@@ -5,7 +5,7 @@ use Rattle.gix_graph_file.proofs.Common.{id_len, to_be_bytes, layout_name, kind_
 use Rattle.gix_graph_file.specs.declared.halves.Lower.{Lower}
 use Rattle.gix_graph_file.specs.declared.table.Layout.{Layout}
 use Rattle.gix_graph_file.specs.PackedParts.{parts_packed}
-use Rattle.gix_graph_file.specs.Halves.{LiesAt, HasPlaces, lower_half, commits_len, ids_len, lower_end, lower_packed, upper_packed, halves_packed}
+use Rattle.gix_graph_file.specs.Halves.{LiesAt, HasOffsets, lower_half, commits_len, ids_len, lower_end, lower_packed, upper_packed, halves_packed}
 use Rattle.gix_graph_file.proofs.Written.{rows_packed-same, rows_packed-split}
 
 -- what is cut off a file is not missed before it
@@ -32,7 +32,7 @@ half-within : (len n : ℕ) → len * (n / 2) ≤ len * n
 half-within len n = mul-le-mul_left len (omega arith)
 
 -- both halves are all rows
-pub halves-whole : (layout : Layout) (file : List ℕ) → IsWhole (seen layout) → HasPlaces file layout → halves_packed (lower_half layout) file (upper_packed (seen layout)) ≡ parts_packed (seen layout)
+pub halves-whole : (layout : Layout) (file : List ℕ) → IsWhole (seen layout) → HasOffsets file layout → halves_packed (lower_half layout) file (upper_packed (seen layout)) ≡ parts_packed (seen layout)
 unfolding parts_packed upper_packed
 halves-whole layout file whole places =
     let k = layout.kind in
@@ -58,7 +58,7 @@ halves-whole layout file whole places =
     regrouped name rows count here lower upper all words here_is all_is = rw (here_is, all_is) (simp append_assoc)
 
 -- what is packed by halves is what the parts are packed into
-pub halves-file : (layout : Layout) (read file upper packed : List ℕ) (lower : Lower) → IsWhole (seen layout) → HasPlaces read layout → read ≡ file
+pub halves-file : (layout : Layout) (read file upper packed : List ℕ) (lower : Lower) → IsWhole (seen layout) → HasOffsets read layout → read ≡ file
     → lower ≡ lower_half layout → upper ≡ upper_packed (seen layout) → packed ≡ halves_packed lower file upper → packed ≡ parts_packed (seen layout)
 halves-file layout read file upper packed lower whole places read_is lower_is upper_is packed_is =
     packed_is ∙ (λ i. halves_packed (lower_is i) (sym read_is i) (upper_is i)) ∙ halves-whole layout read whole places

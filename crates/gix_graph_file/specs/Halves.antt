@@ -20,7 +20,7 @@ abbrev pub LiesIn : List ℕ → Piece → Type 0
 LiesIn file piece = LiesAt file piece.at piece.bytes.now
 
 -- the layout says where in the file its rows lie
-pub record HasPlaces (file : List ℕ) (layout : Layout) : Type 0 where
+pub record HasOffsets (file : List ℕ) (layout : Layout) : Type 0 where
   pub ids : LiesAt file layout.ids_at layout.ids.now
   pub commits : LiesAt file layout.commits_at layout.commits.now
 

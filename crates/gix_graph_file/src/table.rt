@@ -7,7 +7,7 @@ ghost use Rattle.gix_commitgraph.specs.Packed.{AreBytes};
 ghost use Rattle.gix_commitgraph.specs.PackedReading.{word_at};
 ghost use Rattle.gix_graph_file.specs.FileTable.{long_at, name_of, name_at, offset_at, kind_placed, kind_said, is_last, is_table_from, chunk_from, needed, parts_of, sized_parts, read_layer, table_len};
 ghost use Rattle.gix_graph_file.specs.PackedParts.{seen, IsWhole};
-ghost use Rattle.gix_graph_file.specs.Halves.{LiesIn, HasPlaces};
+ghost use Rattle.gix_graph_file.specs.Halves.{LiesIn, HasOffsets};
 ghost use Rattle.gix_graph_file.specs.Chain.{base_of, hash_of};
 ghost use Rattle.gix_graph_file.specs.ChainSteps.{HasTable};
 
@@ -266,7 +266,7 @@ fn parts_of(kind: Kind, file: &[u8]) -> Result<Layout<'_>, Error>
     ensures parts { MatchResult result (λ layout. parts_of kind file.now ≡ Ok (seen layout)) (λ error. parts_of kind file.now ≡ Err error) }
     ensures whole { IfOk result (λ layout. IsWhole (seen layout)) }
     ensures table { IfOk result (λ layout. HasTable layout.kind file.now) }
-    ensures places { IfOk result (HasPlaces file.now) }
+    ensures places { IfOk result (HasOffsets file.now) }
 {
     let count = file[6] as usize;
     let end = file.len().saturating_sub(kind.len_in_bytes());
@@ -289,7 +289,7 @@ pub(super) fn layout_of(number: usize, file: &[u8]) -> Result<Layout<'_>, Error>
         (λ error. read_layer number file.now ≡ Err error) }
     ensures whole { IfOk result (λ layout. IsWhole (seen layout)) }
     ensures table { IfOk result (λ layout. HasTable layout.kind file.now) }
-    ensures places { IfOk result (HasPlaces file.now) }
+    ensures places { IfOk result (HasOffsets file.now) }
 {
     let kind = kind_of(number, file)?;
     parts_of(kind, file)

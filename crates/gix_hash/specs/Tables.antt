@@ -23,5 +23,5 @@ abbrev pub map_of : {X : Type 0} → List (Bytes 20 × X) → List (Bytes 32 × 
 map_of short long = with_all short_id short (with_all long_id long map.empty)
 
 -- the ids that have a value
-abbrev pub ids_of : {X : Type 0} → map.FinMap id_cmp X → set.FinSet id_cmp
-ids_of m = set.from_list (map.keys m)
+abbrev pub ids_with_value : {X : Type 0} → map.FinMap id_cmp X → set.FinSet id_cmp
+ids_with_value m = set.from_list (map.keys m)

@@ -43,13 +43,13 @@ pub struct IdSet {
 impl Model for IdSet {
     ghost use Rattle.std.specs.FinSet as set;
     ghost use Rattle.gix_hash.specs.Id.{id_cmp, id_code};
-    ghost use Rattle.gix_hash.specs.Tables.{ids_of};
+    ghost use Rattle.gix_hash.specs.Tables.{ids_with_value};
 
     ghost Value = { set.FinSet id_cmp };
 
     ghost coded = { set.code id_code };
 
-    ghost view = { λ s. ids_of s.ids };
+    ghost view = { λ s. ids_with_value s.ids };
 }
 
 impl IdSet {

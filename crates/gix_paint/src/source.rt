@@ -66,11 +66,7 @@ fn stored_parents<F: Find>(source: &mut Source<&F>, id: &ObjectId) -> Result<Par
 ///
 /// As [`read_stored`].
 #[inline(always)]
-pub fn parents<F: Find>(
-    source: &mut Source<&F>,
-    id: &ObjectId,
-    near: u32,
-) -> Result<Named, Hidden>
+pub fn parents<F: Find>(source: &mut Source<&F>, id: &ObjectId, near: u32) -> Result<Named, Hidden>
     ensures objects { source.new.objects ≡ source.old.objects }
     ensures graph { source.new.graph ≡ source.old.graph }
     ensures parents { IfOk result (λ named. ReadsParents (F.objects source.old.objects.now) (rows_of source.old.graph) source.old.in_use

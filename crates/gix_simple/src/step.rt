@@ -162,7 +162,11 @@ impl<F: Find + Drop, P: Predicate + Drop> Simple<F, P> {
         ensures err { IfErr result (λ why. why ≡ stop.Store → F.faulty self.old.store id.now) }
         ensures kept { self.new ≡ self.old }
     {
-        let items = match self.source.objects.find_commit_iter(id, &mut self.source.text) {
+        let items = match self
+            .source
+            .objects
+            .find_commit_iter(id, &mut self.source.text)
+        {
             Ok(items) => items,
             Err(existing_iter::Error::NotFound { .. }) => return Ok(0),
             Err(existing_iter::Error::ObjectKind { .. }) => return Ok(0),

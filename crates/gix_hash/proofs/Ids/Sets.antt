@@ -7,7 +7,7 @@ use Rattle.std.specs.FinMap.Entries.{below_all, is_sorted}
 use Rattle.std.specs.Map.{keys_of}
 use Rattle.gix_hash.specs.declared.ObjectId.{ObjectId}
 use Rattle.gix_hash.specs.Id.{id_cmp, is_same}
-use Rattle.gix_hash.specs.Tables.{ids_of}
+use Rattle.gix_hash.specs.Tables.{ids_with_value}
 use Rattle.gix_hash.proofs.Ids.Membership.{id_total, id_apart}
 
 some_or : {X : Type 0} (b : Bool) (v : X) (o : Option X) → is_some (cond b (Some v) o) ≡ (b || is_some o)
@@ -18,21 +18,21 @@ none_or : {X : Type 0} (b : Bool) (o : Option X) → is_some (cond b None o) ≡
 none_or true o = refl
 none_or false o = refl
 
-pub has : {X : Type 0} (m : map.FinMap id_cmp X) (i : ObjectId) → is_some (map.get m i) ≡ set.contains (ids_of m) i
+pub has : {X : Type 0} (m : map.FinMap id_cmp X) (i : ObjectId) → is_some (map.get m i) ≡ set.contains (ids_with_value m) i
 has m i = map.contains_key-keys m i ∙ sym (set.contains-from_list id_total (map.keys m) i)
 
-pub none : ids_of (map.empty {X = Unit {0}} {R = id_cmp}) ≡ set.empty
+pub none : ids_with_value (map.empty {X = Unit {0}} {R = id_cmp}) ≡ set.empty
 none = set.same_set id_total id_apart _ _ (λ i. sym (has map.empty i) ∙ ap is_some (map.get-empty id_cmp i) ∙ sym (set.contains-empty id_cmp i))
 
-pub inserted : {X : Type 0} (m : map.FinMap id_cmp X) (i : ObjectId) (v : X) → ids_of (map.insert m i v) ≡ set.insert (ids_of m) i
+pub inserted : {X : Type 0} (m : map.FinMap id_cmp X) (i : ObjectId) (v : X) → ids_with_value (map.insert m i v) ≡ set.insert (ids_with_value m) i
 inserted m i v = set.same_set id_total id_apart _ _ (λ q.
     sym (has (map.insert m i v) q) ∙ ap is_some (map.get-insert id_total m i v q) ∙ some_or (is_same q i) v (map.get m q)
-    ∙ ap (λ b. is_same q i || b) (has m q) ∙ sym (set.contains-insert id_total (ids_of m) i q))
+    ∙ ap (λ b. is_same q i || b) (has m q) ∙ sym (set.contains-insert id_total (ids_with_value m) i q))
 
-pub removed : {X : Type 0} (m : map.FinMap id_cmp X) (i : ObjectId) → ids_of (map.remove m i) ≡ set.remove (ids_of m) i
+pub removed : {X : Type 0} (m : map.FinMap id_cmp X) (i : ObjectId) → ids_with_value (map.remove m i) ≡ set.remove (ids_with_value m) i
 removed m i = set.same_set id_total id_apart _ _ (λ q.
     sym (has (map.remove m i) q) ∙ ap is_some (map.get-remove id_total m i q) ∙ none_or (is_same q i) (map.get m q)
-    ∙ ap (λ b. not (is_same q i) && b) (has m q) ∙ sym (set.contains-remove id_total (ids_of m) i q))
+    ∙ ap (λ b. not (is_same q i) && b) (has m q) ∙ sym (set.contains-remove id_total (ids_with_value m) i q))
 
 pub none_removed : (i : ObjectId) → set.empty {R = id_cmp} ≡ set.remove set.empty i
 none_removed i = set.same_set id_total id_apart _ _ (λ q. set.contains-empty id_cmp q
@@ -68,5 +68,5 @@ counted_rising (e ∷ es) h =
     ∙ ap (λ b. cond b (set.len others) (set.len others + 1)) (set.contains-from_list id_total (keys_of es) e.0 ∙ apart e.0 es (first _ _ h))
     ∙ ap (λ n. n + 1) (counted_rising es (second _ _ h)) ∙ omega arith
 
-pub counted : {X : Type 0} (m : map.FinMap id_cmp X) → map.len m ≡ set.len (ids_of m)
+pub counted : {X : Type 0} (m : map.FinMap id_cmp X) → map.len m ≡ set.len (ids_with_value m)
 counted m = map.len-entries m ∙ sym (counted_rising (map.entries m) (map.entries_sorted m))

@@ -83,23 +83,23 @@ module _ {X : Type 0} where
 
   pub the_short : (long : List (Bytes 32 × X)) → Half X short_id (λ short. map_of short long)
   the_short long = record {
-      same = same_short;
-      inside = in_short long;
-      each = λ P here there. elim [
-        | id.Sha1 b ↦ here (record { 0 = b })
-        | id.Sha256 b ↦ there (id.Sha256 b) (λ k. refl) (λ es fs. in_long es long (record { 0 = b }) ∙ sym (in_long fs long (record { 0 = b })))
-      ];
-    }
+    same = same_short;
+    inside = in_short long;
+    each = λ P here there. elim [
+      | id.Sha1 b ↦ here (record { 0 = b })
+      | id.Sha256 b ↦ there (id.Sha256 b) (λ k. refl) (λ es fs. in_long es long (record { 0 = b }) ∙ sym (in_long fs long (record { 0 = b })))
+    ];
+  }
 
   pub the_long : (short : List (Bytes 20 × X)) → Half X long_id (λ long. map_of short long)
   the_long short = record {
-      same = same_long;
-      inside = in_long short;
-      each = λ P here there. elim [
-        | id.Sha1 b ↦ there (id.Sha1 b) (λ k. refl) (λ es fs. in_short es short (record { 0 = b }) ∙ sym (in_short fs short (record { 0 = b })))
-        | id.Sha256 b ↦ here (record { 0 = b })
-      ];
-    }
+    same = same_long;
+    inside = in_long short;
+    each = λ P here there. elim [
+      | id.Sha1 b ↦ there (id.Sha1 b) (λ k. refl) (λ es fs. in_short es short (record { 0 = b }) ∙ sym (in_short fs short (record { 0 = b })))
+      | id.Sha256 b ↦ here (record { 0 = b })
+    ];
+  }
 
   pub counted_both : (short : List (Bytes 20 × X)) (long : List (Bytes 32 × X)) → IsDistinct tied (keys_of short) → IsDistinct tied (keys_of long)
       → map.len (map_of short long) ≡ length short + length long
@@ -135,4 +135,4 @@ module _ {X : Type 0} where
       → is_among i (mapped short_id (keys_of short) ++ mapped long_id (keys_of long)) ≡ is_some (map.get (map_of short long) i)
   listed_both short long i =
       listed short_id i short (mapped long_id (keys_of long)) (with_all long_id long map.empty)
-          (ap (is_among i) (sym (append-nil (mapped long_id (keys_of long)))) ∙ listed long_id i long [] map.empty (ap is_some (sym (map.get-empty id_cmp i))))
+      (ap (is_among i) (sym (append-nil (mapped long_id (keys_of long)))) ∙ listed long_id i long [] map.empty (ap is_some (sym (map.get-empty id_cmp i))))

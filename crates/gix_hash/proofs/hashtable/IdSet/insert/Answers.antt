@@ -1,6 +1,6 @@
 use Rattle.std.proofs.Common.{◌≡◌, Bool, true, false, not, is_some, refl, sym, ap, ◌∙◌}
 use Rattle.std.specs.FinSet as set
-use Rattle.gix_hash.specs.Tables.{ids_of}
+use Rattle.gix_hash.specs.Tables.{ids_with_value}
 use Rattle.gix_hash.proofs.Ids.Tables.{on_err}
 use Rattle.gix_hash.proofs.Ids.Sets.{has, inserted}
 use Rattle.gix_hash.proofs.hashtable.IdSet.insert.Goals as goal
@@ -15,7 +15,7 @@ returns-clause-added c =
     ∙ ap not (sym c.is_none.ensures ∙ ap is_some c.in_ok-insert.ensures.old ∙ has c.self.inside.ids c.args.id ∙ ap (λ s. set.contains s c.args.id) c.self.view_is)
 
 pub returns-clause-ok : goal.returns-clause-ok
-returns-clause-ok c = ap ids_of c.in_ok-insert.ensures.ok ∙ inserted c.self.inside.ids c.args.id _ ∙ ap (λ s. set.insert s c.args.id) c.self.view_is
+returns-clause-ok c = ap ids_with_value c.in_ok-insert.ensures.ok ∙ inserted c.self.inside.ids c.args.id _ ∙ ap (λ s. set.insert s c.args.id) c.self.view_is
 
 pub returns-in_err-insert-clause-absent : goal.returns-in_err-insert-clause-absent
 returns-in_err-insert-clause-absent c =

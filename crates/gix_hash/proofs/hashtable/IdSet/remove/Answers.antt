@@ -1,7 +1,7 @@
 use Rattle.std.proofs.Common.{◌≡◌, not, is_some, sym, ap, ◌∙◌}
 use Rattle.std.specs.FinSet as set
 use Rattle.gix_hash.specs.Id.{id_cmp}
-use Rattle.gix_hash.specs.Tables.{ids_of}
+use Rattle.gix_hash.specs.Tables.{ids_with_value}
 use Rattle.gix_hash.proofs.Ids.Sets.{has, removed, none_removed}
 use Rattle.gix_hash.proofs.hashtable.IdSet.remove.Goals as goal
 
@@ -11,7 +11,7 @@ returns-then-not-is_empty-clause-removed c =
 
 pub returns-then-not-is_empty-clause-set : goal.returns-then-not-is_empty-clause-set
 returns-then-not-is_empty-clause-set c =
-    ap ids_of c.remove.ensures.map ∙ removed c.self.inside.ids c.args.id.now ∙ ap (λ s. set.remove s c.args.id.now) c.self.view_is
+    ap ids_with_value c.remove.ensures.map ∙ removed c.self.inside.ids c.args.id.now ∙ ap (λ s. set.remove s c.args.id.now) c.self.view_is
 
 pub returns-else-not-is_empty-clause-removed : goal.returns-else-not-is_empty-clause-removed
 returns-else-not-is_empty-clause-removed c =
