@@ -2,7 +2,7 @@
 use Rattle.std.proofs.Common.{◌≡◌, ℕ, ◌+◌, ◌-◌, ◌*◌, ◌/◌, ◌≤◌, List, [], ◌++◌, length, take, drop, sym, ap, ◌∙◌, arith, append_assoc, w32, flat_map, mul-le-mul_left}
 use Rattle.std.proofs.lemmas.List.{take-take, drop-take}
 use Rattle.gix_graph_file.proofs.Common.{id_len, to_be_bytes, layout_name, kind_packed, rows_packed, words_packed, IsWhole, seen}
-use Rattle.gix_graph_file.specs.declared.halves.Lower.{Lower}
+use Rattle.gix_graph_file.specs.declared.halves.LowerHalf.{LowerHalf}
 use Rattle.gix_graph_file.specs.declared.table.Layout.{Layout}
 use Rattle.gix_graph_file.specs.PackedParts.{parts_packed}
 use Rattle.gix_graph_file.specs.Halves.{LiesAt, HasOffsets, lower_half, commits_len, ids_len, lower_end, lower_packed, upper_packed, halves_packed}
@@ -14,7 +14,7 @@ cut-within at count end file within =
     let whole : end ≡ at + (end - at) = omega arith in
     ap (λ (n : ℕ). take count (drop at (take n file))) whole ∙ ap (take count) (drop-take at (end - at) file) ∙ take-take count (end - at) (drop at file) (omega arith)
 
-pub lower-cut : (lower : Lower) (file : List ℕ) → lower_packed lower (take (lower_end lower) file) ≡ lower_packed lower file
+pub lower-cut : (lower : LowerHalf) (file : List ℕ) → lower_packed lower (take (lower_end lower) file) ≡ lower_packed lower file
 lower-cut lower file =
     let end = lower_end lower in
     rows_packed-same lower.kind lower.rows lower.count (drop lower.ids_at (take end file)) (drop lower.commits_at (take end file)) (drop lower.ids_at file) (drop lower.commits_at file)
@@ -58,7 +58,7 @@ halves-whole layout file whole places =
     regrouped name rows count here lower upper all words here_is all_is = rw (here_is, all_is) (simp append_assoc)
 
 -- what is packed by halves is what the parts are packed into
-pub halves-file : (layout : Layout) (read file upper packed : List ℕ) (lower : Lower) → IsWhole (seen layout) → HasOffsets read layout → read ≡ file
+pub halves-file : (layout : Layout) (read file upper packed : List ℕ) (lower : LowerHalf) → IsWhole (seen layout) → HasOffsets read layout → read ≡ file
     → lower ≡ lower_half layout → upper ≡ upper_packed (seen layout) → packed ≡ halves_packed lower file upper → packed ≡ parts_packed (seen layout)
 halves-file layout read file upper packed lower whole places read_is lower_is upper_is packed_is =
     packed_is ∙ (λ i. halves_packed (lower_is i) (sym read_is i) (upper_is i)) ∙ halves-whole layout read whole places

@@ -6,7 +6,7 @@ use Rattle.gix_hash.specs.Id.{id_len}
 use Rattle.gix_commitgraph.specs.Packed.{AreBytes}
 use Rattle.gix_graph_file.specs.declared.table.Layout.{Layout}
 use Rattle.gix_graph_file.specs.declared.table.Piece.{Piece}
-use Rattle.gix_graph_file.specs.declared.halves.Lower.{Lower}
+use Rattle.gix_graph_file.specs.declared.halves.LowerHalf.{LowerHalf}
 use Rattle.gix_graph_file.specs.FileTable.{Parts}
 use Rattle.gix_graph_file.specs.PackedParts.{rows_packed, head_packed, words_packed}
 
@@ -25,28 +25,28 @@ pub record HasOffsets (file : List ℕ) (layout : Layout) : Type 0 where
   pub commits : LiesAt file layout.commits_at layout.commits.now
 
 -- the lower half of the rows
-abbrev pub lower_half : Layout → Lower
+abbrev pub lower_half : Layout → LowerHalf
 lower_half layout =
     record { kind = layout.kind; rows = layout.rows; words = length layout.edges.now / 4; count = layout.rows / 2; ids_at = layout.ids_at; commits_at = layout.commits_at }
 
 -- how many bytes its ids have, and what else a file has of it
-abbrev pub ids_len : Lower → ℕ
+abbrev pub ids_len : LowerHalf → ℕ
 ids_len lower = id_len lower.kind * lower.count
 
-abbrev pub commits_len : Lower → ℕ
+abbrev pub commits_len : LowerHalf → ℕ
 commits_len lower = id_len lower.kind * lower.count + 16 * lower.count
 
 -- where the file's bytes of it end
-abbrev pub lower_end : Lower → ℕ
+abbrev pub lower_end : LowerHalf → ℕ
 lower_end lower = max (lower.ids_at + ids_len lower) (lower.commits_at + commits_len lower)
 
 -- the file has the lower half of the rows
-pub record HasLower (file : List ℕ) (lower : Lower) : Type 0 where
+pub record HasLower (file : List ℕ) (lower : LowerHalf) : Type 0 where
   pub ids : lower.ids_at + ids_len lower ≤ length file
   pub commits : lower.commits_at + commits_len lower ≤ length file
 
 -- the bytes of the lower half, packed
-abbrev pub lower_packed : Lower → List ℕ → List ℕ
+abbrev pub lower_packed : LowerHalf → List ℕ → List ℕ
 lower_packed lower file = rows_packed lower.kind lower.rows lower.count (drop lower.ids_at file) (drop lower.commits_at file)
 
 -- the upper half, packed, and all words
@@ -57,5 +57,5 @@ upper_packed p =
     ++ flat_map (to_be_bytes w32) (words_packed p.count p.edges)
 
 -- the packed bytes of the lower half of a file, and then those of its upper half
-abbrev pub halves_packed : Lower → List ℕ → List ℕ → List ℕ
+abbrev pub halves_packed : LowerHalf → List ℕ → List ℕ → List ℕ
 halves_packed lower file upper = head_packed lower.kind lower.rows lower.words ++ (lower_packed lower file ++ upper)

@@ -14,7 +14,7 @@ const HANDED_BACK: usize = (32 << 20) + (1 << 14);
 
 /// The lower half of the rows of a file, which is left to pack.
 #[derive(Clone, Copy)]
-pub(super) struct Lower {
+pub(super) struct LowerHalf {
     pub kind: Kind,
     /// How many rows the file has.
     pub rows: u32,
@@ -29,11 +29,11 @@ pub(super) struct Lower {
 }
 
 /// The lower half of these rows.
-pub(super) fn lower_of(layout: Layout<'_>) -> Lower
+pub(super) fn lower_of(layout: Layout<'_>) -> LowerHalf
     requires { IsWhole (seen layout) }
     ensures { result ≡ lower_half layout.entry }
 {
-    Lower {
+    LowerHalf {
         kind: layout.kind,
         rows: layout.rows,
         words: (layout.edges.len() / 4) as u32,
@@ -62,7 +62,7 @@ pub(super) fn upper_of(alloc: Global, layout: Layout<'_>) -> Result<Vec<u8>, All
 }
 
 /// Cuts off what is behind the lower half of the rows. The memory of what is cut off is given back.
-fn cut(file: &mut Vec<u8>, lower: Lower)
+fn cut(file: &mut Vec<u8>, lower: LowerHalf)
     requires { HasLower file.old.items lower }
     ensures { file.new.items ≡ take (lower_end lower) file.old.items }
 {
@@ -75,7 +75,7 @@ fn cut(file: &mut Vec<u8>, lower: Lower)
 /// The packed bytes of a file, of whose rows the upper half and the words are packed.
 pub(super) fn packed_of_halves(
     alloc: Global,
-    lower: Lower,
+    lower: LowerHalf,
     mut file: Vec<u8>,
     upper: Vec<u8>,
 ) -> Result<Vec<u8>, AllocError>
@@ -83,7 +83,7 @@ pub(super) fn packed_of_halves(
     ensures { IfOk result (λ bytes. bytes.items ≡ halves_packed lower file.items upper.items) }
 {
     cut(&mut file, lower);
-    let Lower {
+    let LowerHalf {
         kind,
         rows,
         words,
