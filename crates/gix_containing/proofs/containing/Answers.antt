@@ -22,3 +22,8 @@ returns-in_err-reaches-clause-err g c =
     let rows = rows_in c.args.graph in
     fails_among those fails rows c.args.target c.args.tips.now c.in_ok-others.others.items (filtered_within _ c.args.tips.now c.in_ok-others.others.items c.in_ok-others.ensures) _ _ _ p.1 p.2
     (λ ne. subst (λ (xs : List ObjectId). FailsBy those fails rows c.args.target xs c.in_err-reaches.field-0.0) c.deref.ensures.value (c.in_err-reaches.ensures.err ne))
+
+pub returns-in_err-those-clause-err : goal.returns-in_err-those-clause-err
+returns-in_err-those-clause-err g c =
+    let p = err_from_is_err_and c.from_residual-in_err-those.result c.from_residual-in_err-those.ensures.1 in
+    fails_among (g.F.Find.objects c.args.objects.now) (g.F.Find.faulty c.args.objects.now) (rows_in c.args.graph) c.args.target c.args.tips.now c.args.tips.now (λ i m. m) _ _ _ p.1 p.2 c.in_err-those.ensures.err
