@@ -32,7 +32,7 @@ const TREE: ObjectId = ObjectId::Sha1([0x4b; 20]);
 /// A store that counts its look-ups.
 #[derive(Clone, Copy)]
 struct Counted<'a> {
-    store: &'a MemoryStore,
+    store: &'a MemoryStore<'a>,
     look_ups: &'a Cell<u64>,
 }
 
@@ -88,7 +88,7 @@ fn time_of(commit: u32) -> i64 {
 #[derive(Drop)]
 struct History {
     alloc: Global,
-    store: MemoryStore,
+    store: MemoryStore<'static>,
     /// The row of each commit, if rows are wanted.
     rows: Option<Vec<Row>>,
     generations: Vec<u32>,

@@ -25,7 +25,8 @@ use fill::fill_from;
 use gix_commands::checked::Checked;
 use gix_commands::commits::{Ends, topo_walk_from, walk_from};
 use gix_hash::Keys;
-use gix_records::{LentStore, NamedObjects, records_in};
+use gix_object::memory::MemoryStore;
+use gix_records::{NamedObjects, records_in};
 use gix_simple::Sorting;
 use gix_words::{Fault, Order};
 use listing::Listing;
@@ -133,8 +134,7 @@ fn try_named(
     ensures parents_stay { IfErr result (λ e. parents.new ≡ parents.old) }
 {
     let listing = Listing::read(alloc, words)?;
-    let lent = objects.store();
-    batch_of(alloc, listing, &lent, skip, commits, parents)
+    batch_of(alloc, listing, objects.store(), skip, commits, parents)
 }
 
 /// Fills the slices from the walk that a list asks for, over what is stored.
@@ -144,7 +144,7 @@ fn try_named(
 fn batch_of(
     alloc: Global,
     listing: Listing,
-    store: &LentStore<'_>,
+    store: &MemoryStore<'_>,
     skip: u64,
     commits: &mut [Commit],
     parents: &mut [CommitId],

@@ -1,8 +1,8 @@
 -- What a run of `merge-base` writes, by what commits reach.
 use Rattle.std.proofs.Common.{◌≢◌, ℕ, List, [], ◌∷◌, Option, Result, Ok, IsSome, refl, sym, ap, subst}
-use Rattle.gix_commands.proofs.Common.{Appends, ObjectId, Objects, GraphRow, IsAgreeing, parents_of, whole_from, Fault, fault_of_bases, AreWhole, EndsWell}
+use Rattle.gix_commands.proofs.Common.{Appends, ObjectId, Objects, GraphRow, IsAgreeing, parents_of, whole_from, Fault, fault_of_search, AreWhole, EndsWell}
 use Rattle.gix_commands.proofs.Common.{BasesSucceeds, joined, not_joined, never_faulty, Bases}
-use Rattle.gix_merge_base.specs.declared.Error.{Error}
+use Rattle.gix_contained.specs.declared.Error.{Error}
 use Rattle.gix_merge_base.specs.Bases.{AreBases, FailsBy}
 use Rattle.gix_merge_base.proofs.Tops.{store_alone}
 use Rattle.gix_commands.specs.Run.{Serves}
@@ -15,7 +15,7 @@ module _ (objects : Objects) (rows : List GraphRow) (agreeing : IsAgreeing objec
   pub no_fault_reached : AreWhole objects (one ∷ others) → (e : Error) → FailsBy objects (never_faulty objects) rows one others e → ⊥
   no_fault_reached whole e f =
       bases_sound objects rows agreeing one others e f
-      (ap fault_of_bases (store_alone objects (never_faulty objects) rows one others e agreeing (λ i r. whole_from objects i (whole i r)) f))
+      (ap fault_of_search (store_alone objects (never_faulty objects) rows one others e agreeing (λ i r. whole_from objects i (whole i r)) f))
 
   -- all that was reached was read, or has a row that agrees
   pub joined_so : {Stored : ObjectId → Type 0} → (old new : Option (List ℕ)) → others ≢ [] → Serves Stored objects rows old (Bases one others) (Ok tt) new

@@ -40,7 +40,7 @@ pub use Rattle.gix_tree.specs.Script.{breaks, cycles, DepthScript, ends_inside, 
 pub use Rattle.gix_tree.specs.Tracked.{fresh_recorder, Tracked, Tracks}
 pub use Rattle.gix_tree.specs.Visits.{Broken, descent, Ending, Enters, Failed, is_broken, IsUnfailed, Items, Leaves, outcome_of, Place, Visit, visit, Whole}
 pub use Rattle.gix_tree.specs.Walk.{depth_answer, DepthFirst, items_of_kind, items_of_object, LookUpFailed, LookUpFails, trees_of}
-pub use Rattle.gix_words.specs.Faults.{fault_of_bases, fault_of_contained, fault_of_disagreement, fault_of_find, fault_of_records, fault_of_topo_walk, fault_of_tree_walk, fault_of_walk}
+pub use Rattle.gix_words.specs.Faults.{fault_of_disagreement, fault_of_find, fault_of_records, fault_of_search, fault_of_topo_walk, fault_of_tree_walk, fault_of_walk}
 pub use Rattle.gix_words.specs.Words.{Ahead, ahead_from, ahead_of, asked, Asked, Bases, begins_with_caret, begins_with_sign, by_cutoff, by_first_parents, chosen_from, chosen_of, Commits, commits_in, Contained, Containing, ended_files_of, file_of, Files, files_by, files_from, files_of, Ids, ids_from, in_order_of, is_shown, limited_files_of}
 pub use Rattle.gix_words.specs.Words.{listed_of, number_in, order_named, plain_of, Ranked, recent_of, Request, request_named, request_of, several_among, several_from, several_of, since_of, until_of, with_id, with_word, without_caret}
 pub use Rattle.gix_words.specs.declared.fault.Fault.{Fault}

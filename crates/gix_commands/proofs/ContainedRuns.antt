@@ -1,7 +1,7 @@
 -- What a run of `contains` writes, by what commits reach.
 use Rattle.std.proofs.Common.{◌≡◌, ◌≢◌, ℕ, List, [], ◌∷◌, ◌++◌, Option, Some, None, Result, Ok, Contains, IsSome, refl, sym, ap, subst, ⊎_elim, ◌∙◌}
 use Rattle.gix_commands.proofs.Common.{Appends, Contains-append_left, Contains-append_right, Contains-append_cases, ObjectId, Contains-here, Contains-there, Contains-cons_cases, only_member, Objects, GraphRow}
-use Rattle.gix_commands.proofs.Common.{row_of, IsAgreeing, RowAgrees, commit_at, parents_of, reach_more, row_stands, whole_from, Fault, fault_of_contained, AreWhole, EndsWell}
+use Rattle.gix_commands.proofs.Common.{row_of, IsAgreeing, RowAgrees, commit_at, parents_of, reach_more, row_stands, whole_from, Fault, fault_of_search, AreWhole, EndsWell}
 use Rattle.gix_commands.proofs.Common.{ContainsSucceeds, selected, not_selected, never_faulty, Contained}
 use Rattle.gix_contained.specs.Contained.{AreContained}
 use Rattle.gix_hash.specs.Reach.{Reaches}
@@ -61,7 +61,7 @@ module _ (tip : ObjectId) (ids : List ObjectId) where
     selects_well whole answer new (not_selected e f) =
         absurd
         (contained_sound objects rows (tip ∷ []) ids e f
-        (ap fault_of_contained (store_alone objects (never_faulty objects) rows (tip ∷ []) ids e agreeing (λ i r. whole_from objects i (whole i (reach_more (parents_of objects) (ids ++ tip ∷ []) (tip ∷ ids) among_back i r))) f)))
+        (ap fault_of_search (store_alone objects (never_faulty objects) rows (tip ∷ []) ids e agreeing (λ i r. whole_from objects i (whole i (reach_more (parents_of objects) (ids ++ tip ∷ []) (tip ∷ ids) among_back i r))) f)))
     selects_well whole answer new s = tt
 
 pub contains_succeeds : ContainsSucceeds

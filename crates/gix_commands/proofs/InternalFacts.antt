@@ -1,18 +1,16 @@
 -- A store that is held in memory doesn't fail.
-use Rattle.std.proofs.Common.{◌≡◌, ◌≢◌, ℕ, ℤ, List, Bool, Option, Some, None, Result, Ok, Err, refl, sym, ap, ◌∙◌}
+use Rattle.std.proofs.Common.{◌≢◌, ℕ, ℤ, List, Bool, Option, Some, None, Result, Ok, Err, sym, ap, ◌∙◌}
 use Rattle.gix_commands.proofs.Common.{ObjectId, IsExistingFault, Objects, GraphRow, Info, Pending, Treated, StoreFails, NoMemory, ReadsTime, unasked, from_row, from_store, store_fails, Treats, hidden, known, accepted, no_memory_after}
-use Rattle.gix_commands.proofs.Common.{TreatsAll, none, more, stops, Concludes, broken, Takes, by_row, by_store, Steps, took, FirstStep, unhidden, paints, faulty_history, initial, later, fault_of_find, fault_of_walk, fault_of_bases, fault_of_contained, IsAgreeing}
+use Rattle.gix_commands.proofs.Common.{TreatsAll, none, more, stops, Concludes, broken, Takes, by_row, by_store, Steps, took, FirstStep, unhidden, paints, faulty_history, initial, later, fault_of_find, fault_of_walk, fault_of_search, IsAgreeing}
 use Rattle.gix_commands.proofs.Common.{FailsAtStart, objects_of, never_faulty, accepts_all}
 use Rattle.gix_object.specs.declared.Kind.{Kind}
 use Rattle.gix_object.specs.declared.Kind.TheVariants as object
 use Rattle.gix_object.specs.declared.decode.Error.{Error as DecodeError}
 use Rattle.gix_object.specs.declared.find.existing_iter.Error.{Error as ExistingError}
 use Rattle.gix_object.specs.declared.find.existing_iter.Error.TheVariants as existing
-use Rattle.gix_contained.specs.declared.Error.{Error as ContainedError}
-use Rattle.gix_contained.specs.Contained.{error_of, FailsBy, IsContainedFault}
-use Rattle.gix_merge_base.specs.declared.Error.{Error as BasesError}
+use Rattle.gix_contained.specs.declared.Error.{Error as SearchError}
+use Rattle.gix_contained.specs.Contained.{error_of, FailsBy}
 use Rattle.gix_merge_base.specs.Bases as base
-use Rattle.gix_merge_base.specs.Errors as base_error
 use Rattle.gix_simple.specs.declared.Error.{Error}
 use Rattle.gix_simple.specs.declared.Error.TheVariants as error
 use Rattle.gix_paint.specs.declared.Hidden.{Hidden}
@@ -87,34 +85,18 @@ history_sound : (objects : Objects) (rows : List GraphRow) (tips hidden_tips : L
 history_sound objects rows tips hidden_tips (hidden_by.Find e) h = find_sound objects h.id object.Commit e h.fault
 history_sound objects rows tips hidden_tips (hidden_by.ObjectDecode e) h = λ e. cc
 
-same_fault : (why : Hidden) → fault_of_contained (error_of why) ≡ fault_of_walk (error.HiddenGraph why)
-same_fault (hidden_by.Find existing.Memory) = refl
-same_fault (hidden_by.Find existing.Store) = refl
-same_fault (hidden_by.Find (existing.NotFound oid)) = refl
-same_fault (hidden_by.Find (existing.ObjectKind oid expected actual)) = refl
-same_fault (hidden_by.ObjectDecode e) = refl
-
-asked_sound : (objects : Objects) (rows : List GraphRow) (tips ids : List ObjectId) (why : Hidden) → IsContainedFault objects (never_faulty objects) rows tips ids why → fault_of_walk (error.HiddenGraph why) ≢ fault.Internal
-asked_sound objects rows tips ids (hidden_by.Find e) h = find_sound objects h.id object.Commit e h.fault
-asked_sound objects rows tips ids (hidden_by.ObjectDecode e) h = λ e. cc
+fault_sound : (objects : Objects) (i : ObjectId) (why : Hidden) → IsFaultAt objects (never_faulty objects) i why → fault_of_search (error_of why) ≢ fault.Internal
+fault_sound objects i (hidden_by.Find existing.Memory) h = absurd h
+fault_sound objects i (hidden_by.Find e) h = find_sound objects i object.Commit e h
+fault_sound objects i (hidden_by.ObjectDecode e) h = λ s. cc
 
 -- nor does a call that asks which ids are contained
-pub contained_sound : (objects : Objects) (rows : List GraphRow) (tips ids : List ObjectId) (e : ContainedError) → FailsBy objects (never_faulty objects) rows tips ids e → fault_of_contained e ≢ fault.Internal
-contained_sound objects rows tips ids e (why, f, is) same = asked_sound objects rows tips ids why f (sym (same_fault why) ∙ sym (ap fault_of_contained is) ∙ same)
-
-same_find : (e : ExistingError) → fault_of_bases (base_error.error_of_find e) ≡ fault_of_find e
-same_find existing.Memory = refl
-same_find existing.Store = refl
-same_find (existing.NotFound oid) = refl
-same_find (existing.ObjectKind oid expected actual) = refl
+pub contained_sound : (objects : Objects) (rows : List GraphRow) (tips ids : List ObjectId) (e : SearchError) → FailsBy objects (never_faulty objects) rows tips ids e → fault_of_search e ≢ fault.Internal
+contained_sound objects rows tips ids e (why, f, is) same = fault_sound objects f.id why f.fault (sym (ap fault_of_search is) ∙ same)
 
 -- nor does a call that asks for common ancestors
-pub bases_sound : (objects : Objects) (rows : List GraphRow) → IsAgreeing objects rows → (one : ObjectId) (others : List ObjectId) (e : BasesError) → base.FailsBy objects (never_faulty objects) rows one others e → fault_of_bases e ≢ fault.Internal
-bases_sound objects rows agreeing one others e fails same = let f = fails agreeing in go f f.why f.fault (sym (ap fault_of_bases f.is) ∙ same)
-  where
-    go : (f : base.IsFaultOf objects (never_faulty objects) one others e) (why : Hidden) → IsFaultAt objects (never_faulty objects) f.id why → fault_of_bases (base_error.error_of why) ≡ fault.Internal → ⊥
-    go f (hidden_by.Find e) h s = find_sound objects f.id object.Commit e h (sym (same_find e) ∙ s)
-    go f (hidden_by.ObjectDecode e) h s = cc
+pub bases_sound : (objects : Objects) (rows : List GraphRow) → IsAgreeing objects rows → (one : ObjectId) (others : List ObjectId) (e : SearchError) → base.FailsBy objects (never_faulty objects) rows one others e → fault_of_search e ≢ fault.Internal
+bases_sound objects rows agreeing one others e fails same = let f = fails agreeing in fault_sound objects f.id f.why f.fault (sym (ap fault_of_search f.is) ∙ same)
 
 first_sound : {old : Walk} {answer : Option (Result Info Error)} {new : Walk} → FirstStep objects_of never_faulty accepts_all old answer new → IsSound answer
 first_sound (unhidden h s) = steps_sound s

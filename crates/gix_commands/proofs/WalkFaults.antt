@@ -1,10 +1,8 @@
 -- Which faults walks may have, and commands that are served.
 use Rattle.std.proofs.Common.{◌≡◌, ◌≢◌, ℕ, List, Option, None, Some, Result, Ok, Err, refl, sym, ap, subst, inl, inr, ◌∙◌}
-use Rattle.gix_commands.proofs.Common.{ObjectId, GraphRow, Objects, Info, Fault, fault_of_find, fault_of_walk, fault_of_topo_walk, fault_of_bases, fault_of_contained, fault_of_tree_walk, walked, not_walked, walked_down, not_built, not_listed, not_ahead, not_behind, not_selected, not_reaching, not_joined, Ends, EndsBy, finished, cut_short, enough, before, Request, kept_in}
-use Rattle.gix_contained.specs.declared.Error.{Error as ContainedError}
-use Rattle.gix_contained.specs.declared.Error.TheVariants as contained_error
-use Rattle.gix_merge_base.specs.declared.Error.{Error as BasesError}
-use Rattle.gix_merge_base.specs.declared.Error.TheVariants as bases_error
+use Rattle.gix_commands.proofs.Common.{ObjectId, GraphRow, Objects, Info, Fault, fault_of_find, fault_of_walk, fault_of_topo_walk, fault_of_search, fault_of_tree_walk, walked, not_walked, walked_down, not_built, not_listed, not_ahead, not_behind, not_selected, not_reaching, not_joined, Ends, EndsBy, finished, cut_short, enough, before, Request, kept_in}
+use Rattle.gix_contained.specs.declared.Error.{Error as SearchError}
+use Rattle.gix_contained.specs.declared.Error.TheVariants as search_error
 use Rattle.gix_object.specs.declared.find.existing_iter.Error.{Error as ExistingError}
 use Rattle.gix_object.specs.declared.find.existing_iter.Error.TheVariants as existing
 use Rattle.gix_paint.specs.declared.Hidden.TheVariants as hidden_by
@@ -52,13 +50,9 @@ topo_of_walk : (e : TopoError) → IsOfWalk (fault_of_topo_walk e)
 topo_of_walk (topo_error.Find e) = find_of_walk e
 topo_of_walk e = tt
 
-contained_of_walk : (e : ContainedError) → IsOfWalk (fault_of_contained e)
-contained_of_walk (contained_error.Find e) = find_of_walk e
-contained_of_walk e = tt
-
-bases_of_walk : (e : BasesError) → IsOfWalk (fault_of_bases e)
-bases_of_walk (bases_error.Find e) = find_of_walk e
-bases_of_walk e = tt
+search_of_walk : (e : SearchError) → IsOfWalk (fault_of_search e)
+search_of_walk (search_error.Find e) = find_of_walk e
+search_of_walk e = tt
 
 tree_of_walk : (e : TreeError) → IsOfWalk (fault_of_tree_walk e)
 tree_of_walk (tree_error.Find e) = find_of_walk e
@@ -95,9 +89,9 @@ serves_of_walk (not_built why h) = topo_of_walk why
 serves_of_walk (not_listed recorder why r) = tree_of_walk why
 serves_of_walk (not_ahead f) = ends_of_walk simple_tells f.1.ends
 serves_of_walk (not_behind n a f) = ends_of_walk simple_tells f.1.ends
-serves_of_walk (not_selected why f) = contained_of_walk why
-serves_of_walk (not_reaching why f) = bases_of_walk why
-serves_of_walk (not_joined why f) = bases_of_walk why
+serves_of_walk (not_selected why f) = search_of_walk why
+serves_of_walk (not_reaching why f) = search_of_walk why
+serves_of_walk (not_joined why f) = search_of_walk why
 serves_of_walk s = tt
 
 -- a walk has no fault of layers that aren't opened

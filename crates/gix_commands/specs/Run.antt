@@ -6,10 +6,9 @@ use Rattle.std.specs.List.{flat_map}
 use Rattle.gix_hash.specs.declared.ObjectId.{ObjectId}
 use Rattle.gix_object.specs.Object.{Objects}
 use Rattle.gix_commitgraph.specs.Rows.{GraphRow}
-use Rattle.gix_contained.specs.declared.Error.{Error as ContainedError}
+use Rattle.gix_contained.specs.declared.Error.{Error as SearchError}
 use Rattle.gix_contained.specs.Contained.{Selects, FailsBy}
 use Rattle.gix_containing.specs.Containing.{FindsContaining}
-use Rattle.gix_merge_base.specs.declared.Error.{Error as BasesError}
 use Rattle.gix_merge_base.specs.Bases as base
 use Rattle.gix_merge_base.specs.Bases.{FindsBases}
 use Rattle.gix_revwalk.specs.declared.Info.{Info}
@@ -28,7 +27,7 @@ use Rattle.gix_words.specs.declared.words.EntryLines.{EntryLines}
 use Rattle.gix_words.specs.declared.words.Order.TheVariants.{Simple, Topo}
 use Rattle.gix_words.specs.declared.words.Shown.{Shown}
 use Rattle.gix_commands.specs.Ahead.{Counts, FailsToCount, ahead_line}
-use Rattle.gix_words.specs.Faults.{fault_of_walk, fault_of_topo_walk, fault_of_bases, fault_of_contained, fault_of_tree_walk}
+use Rattle.gix_words.specs.Faults.{fault_of_walk, fault_of_topo_walk, fault_of_search, fault_of_tree_walk}
 use Rattle.gix_commands.specs.Checked.{GoesOnWhole, LacksParent}
 use Rattle.gix_commands.specs.Chosen.{HasObject, HasText, Writes, kept_in, line_in}
 use Rattle.gix_commands.specs.Files.{IsMisnamed, RecordsTree, file_lines}
@@ -88,17 +87,17 @@ pub data Serves (IsStored : ObjectId → Type 0) (objects : Objects) (rows : Lis
       → Serves IsStored objects rows old (Ahead one other) (Err e) old
   selected : {tip : ObjectId} {ids : List ObjectId} (those : List ObjectId) {new : Option (List ℕ)}
       → Selects objects rows (tip ∷ []) ids those → Appends old new (flat_map line_of those) → Serves IsStored objects rows old (Contained tip ids) (Ok tt) new
-  not_selected : {tip : ObjectId} {ids : List ObjectId} (e : ContainedError) → FailsBy objects (never_faulty objects) rows (tip ∷ []) ids e
-      → Serves IsStored objects rows old (Contained tip ids) (Err (fault_of_contained e)) old
+  not_selected : {tip : ObjectId} {ids : List ObjectId} (e : SearchError) → FailsBy objects (never_faulty objects) rows (tip ∷ []) ids e
+      → Serves IsStored objects rows old (Contained tip ids) (Err (fault_of_search e)) old
   reaching : {target : ObjectId} {tips : List ObjectId} (those : List ObjectId) {new : Option (List ℕ)}
       → FindsContaining objects rows target tips those → Appends old new (flat_map line_of those)
       → Serves IsStored objects rows old (Containing target tips) (Ok tt) new
-  not_reaching : {target : ObjectId} {tips : List ObjectId} (e : BasesError) → base.FailsBy objects (never_faulty objects) rows target tips e
-      → Serves IsStored objects rows old (Containing target tips) (Err (fault_of_bases e)) old
+  not_reaching : {target : ObjectId} {tips : List ObjectId} (e : SearchError) → base.FailsBy objects (never_faulty objects) rows target tips e
+      → Serves IsStored objects rows old (Containing target tips) (Err (fault_of_search e)) old
   joined : {one : ObjectId} {others : List ObjectId} (bases : List ObjectId) {new : Option (List ℕ)}
       → FindsBases objects rows one others bases → Appends old new (flat_map line_of bases) → Serves IsStored objects rows old (Bases one others) (Ok tt) new
-  not_joined : {one : ObjectId} {others : List ObjectId} (e : BasesError) → base.FailsBy objects (never_faulty objects) rows one others e
-      → Serves IsStored objects rows old (Bases one others) (Err (fault_of_bases e)) old
+  not_joined : {one : ObjectId} {others : List ObjectId} (e : SearchError) → base.FailsBy objects (never_faulty objects) rows one others e
+      → Serves IsStored objects rows old (Bases one others) (Err (fault_of_search e)) old
   -- memory ran out before anything was written
   unserved : {request : Request} → Serves IsStored objects rows old request (Err fault.Memory) old
   -- the writer failed: a beginning of what another answer writes is written

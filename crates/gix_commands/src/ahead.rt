@@ -12,7 +12,7 @@ use crate::commits::{Ends, walk_from};
 use crate::output::write_out;
 use gix_commitgraph::Graph;
 use gix_hash::ObjectId;
-use gix_records::LentStore;
+use gix_object::memory::MemoryStore;
 use gix_revwalk::{Info, Parents};
 use gix_simple::Sorting;
 use gix_words::Fault;
@@ -29,7 +29,7 @@ pub fn write_ahead<W: Write>(
     alloc: Global,
     one: ObjectId,
     other: ObjectId,
-    store: &LentStore<'_>,
+    store: &MemoryStore<'_>,
     graph: Option<&Graph>,
     writer: &mut W,
 ) -> Result<(), Fault>
@@ -46,7 +46,7 @@ fn count(
     alloc: Global,
     tip: ObjectId,
     hidden: ObjectId,
-    store: &LentStore<'_>,
+    store: &MemoryStore<'_>,
     graph: Option<&Graph>,
 ) -> Result<usize, Fault>
     ensures ok { IfOk result (Counts (readable false (with_rows (rows_in graph.entry) store.now)) (rows_in graph.entry) tip hidden) }

@@ -9,7 +9,7 @@ use crate::output::write_out;
 use gix_commitgraph::Graph;
 use gix_hash::ObjectId;
 use gix_merge_base::merge_bases;
-use gix_records::LentStore;
+use gix_object::memory::MemoryStore;
 use gix_revwalk::Parents;
 use gix_words::Fault;
 use std::alloc::Global;
@@ -24,7 +24,7 @@ pub fn write_bases<W: Write>(
     alloc: Global,
     one: ObjectId,
     others: Vec<ObjectId>,
-    store: &LentStore<'_>,
+    store: &MemoryStore<'_>,
     graph: Option<&Graph>,
     writer: &mut W,
 ) -> Result<(), Fault>

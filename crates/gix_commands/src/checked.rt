@@ -11,7 +11,7 @@ use crate::commits::Lent;
 use gix_commitgraph::Graph;
 use gix_hash::ObjectId;
 use gix_object::find::Find;
-use gix_records::LentStore;
+use gix_object::memory::MemoryStore;
 use gix_revwalk::{Info, Parents, Unfiltered};
 use gix_simple::Simple;
 use gix_words::Fault;
@@ -59,7 +59,7 @@ impl<'a> Checked<'a> {
         alloc: Global,
         walk: Simple<Lent<'a>, Unfiltered>,
         parents: Parents,
-        store: &'a LentStore<'a>,
+        store: &'a MemoryStore<'a>,
         graph: Option<&'a Graph>,
     ) -> Checked<'a>
         requires { walk.rows ≡ rows_in graph }

@@ -22,7 +22,7 @@ use gix_commitgraph::Graph;
 use gix_format::{Commit, add_formatted};
 use gix_hash::ObjectId;
 use gix_object::find::{self, Find, existing_iter};
-use gix_records::LentStore;
+use gix_object::memory::MemoryStore;
 use gix_revwalk::read::{Header, find_header};
 use gix_revwalk::{ParentIds, Parents};
 use gix_words::{Fault, Form, Line, Merges, Shown};
@@ -35,7 +35,7 @@ use std::marker::Model;
 pub struct Chooser<'a> {
     alloc: Global,
     objects: Lent<'a>,
-    store: &'a LentStore<'a>,
+    store: &'a MemoryStore<'a>,
     graph: Option<&'a Graph>,
     shown: Shown,
     /// How many more commits are left out first.
@@ -74,7 +74,7 @@ impl<'a> Chooser<'a> {
         alloc: Global,
         shown: Shown,
         parents: Parents,
-        store: &'a LentStore<'a>,
+        store: &'a MemoryStore<'a>,
         graph: Option<&'a Graph>,
     ) -> Chooser<'a>
         ensures { result ≡ fresh_choosing (readable (is_first parents) (with_rows (rows_in graph.entry) store.now)) store.now

@@ -12,7 +12,7 @@ use gix_graph_store::WithRows;
 use gix_hash::{Keys, ObjectId};
 use gix_object::Kind;
 use gix_object::find::{self, Find};
-use gix_records::LentStore;
+use gix_object::memory::MemoryStore;
 use gix_revwalk::row::copy_of;
 use gix_revwalk::{Parents, Unfiltered};
 use gix_simple::{Simple, Sorting};
@@ -25,7 +25,7 @@ use std::marker::Model;
 /// is one. A commit whose bytes aren't a text it gives as one that no walk takes for a commit. The model of it is what it gives.
 #[derive(Drop)]
 pub struct Lent<'a> {
-    store: WithRows<'a, &'a LentStore<'a>>,
+    store: WithRows<'a, &'a MemoryStore<'a>>,
     /// Through which parents the walk goes. By first parents alone the lines of all parents are looked at.
     parents: Parents,
 }
@@ -46,7 +46,7 @@ impl<'a> Model for Lent<'a> {
 
 impl<'a> Lent<'a> {
     /// The store with these rows, if there are any, for a walk through these parents.
-    pub fn over(store: &'a LentStore<'a>, graph: Option<&'a Graph>, parents: Parents) -> Lent<'a>
+    pub fn over(store: &'a MemoryStore<'a>, graph: Option<&'a Graph>, parents: Parents) -> Lent<'a>
         ensures { result ≡ readable (is_first parents) (with_rows (rows_in graph.entry) store.now) }
     {
         Lent {
@@ -92,7 +92,7 @@ pub fn walk_from<'a>(
     parents: Parents,
     sorting: Sorting,
     ends: Ends,
-    store: &'a LentStore<'a>,
+    store: &'a MemoryStore<'a>,
     graph: Option<&'a Graph>,
 ) -> Result<Simple<Lent<'a>, Unfiltered>, Fault>
     ensures ok { IfOk result (StartsFrom (readable (is_first parents) (with_rows (rows_in graph.entry) store.now)) (rows_in graph.entry)
@@ -118,7 +118,7 @@ pub fn topo_walk_from<'a>(
     parents: Parents,
     sorting: gix_topo::Sorting,
     ends: Ends,
-    store: &'a LentStore<'a>,
+    store: &'a MemoryStore<'a>,
     graph: Option<&'a Graph>,
 ) -> Result<Topo<Lent<'a>, Unfiltered>, Fault>
     ensures ok { IfOk result (λ walk. topo_walk.IsBuiltFrom (readable false (with_rows (rows_in graph.entry) store.now))

@@ -12,7 +12,7 @@ use crate::output::write_out;
 use gix_commitgraph::Graph;
 use gix_contained::contained;
 use gix_hash::ObjectId;
-use gix_records::LentStore;
+use gix_object::memory::MemoryStore;
 use gix_revwalk::Parents;
 use gix_words::Fault;
 use std::alloc::{AllocError, Global};
@@ -27,7 +27,7 @@ pub fn write_contained<W: Write>(
     alloc: Global,
     tip: ObjectId,
     ids: Vec<ObjectId>,
-    store: &LentStore<'_>,
+    store: &MemoryStore<'_>,
     graph: Option<&Graph>,
     writer: &mut W,
 ) -> Result<(), Fault>

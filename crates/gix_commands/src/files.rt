@@ -13,8 +13,8 @@ use crate::output::write_out;
 use bstr::BStr;
 use gix_commitgraph::Graph;
 use gix_hash::ObjectId;
+use gix_object::memory::MemoryStore;
 use gix_object::tree::EntryRef;
-use gix_records::LentStore;
 use gix_revwalk::Parents;
 use gix_tree::Recorder;
 use gix_tree::depthfirst::{State, depthfirst};
@@ -35,7 +35,7 @@ pub fn write_files<W: Write>(
     alloc: Global,
     shown: EntryLines,
     tree: ObjectId,
-    store: &LentStore<'_>,
+    store: &MemoryStore<'_>,
     graph: Option<&Graph>,
     writer: &mut W,
 ) -> Result<(), Fault>

@@ -43,7 +43,7 @@ pub use given::run_in;
 use given::serve_records;
 use gix_commitgraph::Graph;
 use gix_hash::{Keys, ObjectId};
-use gix_records::LentStore;
+use gix_object::memory::MemoryStore;
 use gix_revwalk::Parents;
 use gix_simple::Sorting;
 pub use gix_words::Fault;
@@ -113,7 +113,7 @@ pub fn run<R: Read, W: Write>(
 fn serve<W: Write>(
     alloc: Global,
     command: Command,
-    store: &LentStore<'_>,
+    store: &MemoryStore<'_>,
     graph: Option<&Graph>,
     writer: &mut W,
 ) -> Result<(), Fault>
@@ -153,7 +153,7 @@ struct Listing {
 fn serve_commits<W: Write>(
     alloc: Global,
     listing: Listing,
-    store: &LentStore<'_>,
+    store: &MemoryStore<'_>,
     graph: Option<&Graph>,
     writer: &mut W,
 ) -> Result<(), Fault>

@@ -38,19 +38,19 @@ pub fn listed_ids(
     let store = objects.store();
     match order {
         Order::Simple { parents, sorting } => {
-            let walk = walk_from(alloc, parents, sorting, ends, &store, graph)?;
+            let walk = walk_from(alloc, parents, sorting, ends, store, graph)?;
             drawn(
                 alloc,
                 walk,
-                Chooser::new(alloc, shown, parents, &store, graph),
+                Chooser::new(alloc, shown, parents, store, graph),
             )
         }
         Order::Topo { parents, sorting } => {
-            let walk = topo_walk_from(alloc, parents, sorting, ends, &store, graph)?;
+            let walk = topo_walk_from(alloc, parents, sorting, ends, store, graph)?;
             drawn(
                 alloc,
                 walk,
-                Chooser::new(alloc, shown, Parents::All, &store, graph),
+                Chooser::new(alloc, shown, Parents::All, store, graph),
             )
         }
     }

@@ -18,7 +18,8 @@ use crate::serve;
 use gix_commitgraph::Graph;
 use gix_graph_check::{Disagreement, first_unsound};
 use gix_graph_store::{agree_at, check_stored};
-use gix_records::{LentStore, NamedObjects};
+use gix_object::memory::MemoryStore;
+use gix_records::NamedObjects;
 use gix_words::{Fault, read_command};
 use std::alloc::Global;
 use std::io::Write;
@@ -37,7 +38,7 @@ const FEW: usize = 4;
 pub fn run_stored<W: Write>(
     alloc: Global,
     words: &[String],
-    store: &LentStore<'_>,
+    store: &MemoryStore<'_>,
     graph: Option<&Graph>,
     writer: &mut W,
 ) -> Result<(), Fault>
@@ -81,14 +82,14 @@ pub fn run_named<W: Write>(
         (λ (given : Objects) (rows : List Row). AreNamed given × (given ≡ page_objects objects.now) × AreRows (rows_in graph.entry) rows)
         (W.contents writer.old) result (W.contents writer.new) }
 {
-    run_stored(alloc, words, &objects.store(), graph, writer)
+    run_stored(alloc, words, objects.store(), graph, writer)
 }
 
 /// Tests that the rows, if there are any, can be used together with the store.
 ///
 /// # Errors
 /// Those of `check_graph`.
-fn check_rows(alloc: Global, store: &LentStore<'_>, graph: Option<&Graph>) -> Result<(), Fault>
+fn check_rows(alloc: Global, store: &MemoryStore<'_>, graph: Option<&Graph>) -> Result<(), Fault>
     ensures graph { OnOk result (AreGraphRows (rows_in graph.entry)) }
     ensures sound { OnOk result (AreSound (rows_in graph.entry)) }
     ensures stored { OnOk result (StoredAgree (rows_in graph.entry) store.now) }
@@ -106,7 +107,7 @@ fn check_rows(alloc: Global, store: &LentStore<'_>, graph: Option<&Graph>) -> Re
 /// # Errors
 /// `Row` with the id of the first row, in rising order of ids, that isn't sound. `Disagrees` with that of the first row at whose id the
 /// store has something else. `Memory`.
-fn check_graph(alloc: Global, store: &LentStore<'_>, graph: &Graph) -> Result<(), Fault>
+fn check_graph(alloc: Global, store: &MemoryStore<'_>, graph: &Graph) -> Result<(), Fault>
     ensures graph { OnOk result (AreGraphRows graph.now) }
     ensures sound { OnOk result (AreSound graph.now) }
     ensures stored { OnOk result (StoredAgree graph.now store.now) }
@@ -131,7 +132,7 @@ fn check_graph(alloc: Global, store: &LentStore<'_>, graph: &Graph) -> Result<()
 pub(crate) fn check_store(
     alloc: Global,
     graph: &Graph,
-    store: &LentStore<'_>,
+    store: &MemoryStore<'_>,
 ) -> Result<(), Disagreement>
     ensures agrees { OnOk result (StoredAgree graph.now store.now) }
     ensures disagrees { IfErr result (StoredDisagrees store.now (never_faulty store.now) graph.now) }

@@ -23,7 +23,7 @@ use Rattle.gix_revwalk.proofs.ReadsWhole.{no_fault}
 
 module _ (objects : Objects) (faulty : ObjectId → Type 0) where
   -- at a commit that reads whole only the store fails
-  at_whole : (i : ObjectId) (why : Hidden) → ReadsWhole objects i → IsFaultAt objects faulty i why → error_of why ≡ error.Find existing.Store
+  pub at_whole : (i : ObjectId) (why : Hidden) → ReadsWhole objects i → IsFaultAt objects faulty i why → error_of why ≡ error.Find existing.Store
   at_whole i (hidden_by.Find e) reads f = ap (λ x. error_of (hidden_by.Find x)) (no_fault objects faulty i reads.commit e reads.stored f)
   at_whole i (hidden_by.ObjectDecode e) reads f =
       let n : None ≡ Some reads.commit = sym (ap (commit_of_object i) f.1 ∙ fault_unread (commit_items (kind_of i) f.0) e f.2) ∙ reads.stored in cc

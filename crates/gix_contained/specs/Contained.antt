@@ -2,6 +2,7 @@
 use Rattle.std.specs.Prelude.{◌≡◌, ◌≢◌, ◌⊎◌, ◌≤◌, List, [], ◌∷◌, ◌++◌, Some, None, Contains, IsSome}
 use Rattle.gix_hash.specs.declared.ObjectId.{ObjectId}
 use Rattle.gix_hash.specs.Reach.{Reaches}
+use Rattle.gix_object.specs.declared.find.existing_iter.Error.{Error as ExistingError}
 use Rattle.gix_object.specs.declared.find.existing_iter.Error.TheVariants as existing
 use Rattle.gix_object.specs.Object.{Objects}
 use Rattle.gix_commitgraph.specs.Rows.{GraphRow, row_of}
@@ -50,11 +51,14 @@ pub record IsContainedFault (objects : Objects) (faulty : ObjectId → Type 0) (
   pub reached : (history : Objects) → IsHistory objects rows history → Contains ids id ⊎ Reaches (parents_of history) tips id
   pub unrowed : (history : Objects) → IsHistory objects rows history → (row_of rows id ≡ None) ⊎ DropsBy (parents_of history) rows tips ids
 
+abbrev pub error_of_find : ExistingError → Error
+error_of_find existing.Memory = error.Memory
+error_of_find existing.Store = error.Find existing.Store
+error_of_find (existing.NotFound oid) = error.Find (existing.NotFound oid)
+error_of_find (existing.ObjectKind oid expected actual) = error.Find (existing.ObjectKind oid expected actual)
+
 abbrev pub error_of : Hidden → Error
-error_of (hidden_by.Find existing.Memory) = error.Memory
-error_of (hidden_by.Find existing.Store) = error.Find existing.Store
-error_of (hidden_by.Find (existing.NotFound oid)) = error.Find (existing.NotFound oid)
-error_of (hidden_by.Find (existing.ObjectKind oid expected actual)) = error.Find (existing.ObjectKind oid expected actual)
+error_of (hidden_by.Find e) = error_of_find e
 error_of (hidden_by.ObjectDecode e) = error.ObjectDecode e
 
 -- the error is that of a commit which has to be read and can't be

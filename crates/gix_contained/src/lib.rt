@@ -21,7 +21,7 @@ use search::{look_up_all, reached};
 use std::alloc::{AllocError, Global};
 use thiserror::Error;
 
-/// Why it isn't known which commits are contained.
+/// Why it isn't known what commits reach.
 #[derive(Clone, Copy, Debug, PartialEq, Eq, Error)]
 pub enum Error {
     /// A commit could not be looked up.
@@ -35,6 +35,19 @@ pub enum Error {
     Memory,
 }
 
+impl From<existing_iter::Error> for Error {
+    ghost use Rattle.gix_contained.specs.Contained.{error_of_find};
+
+    ghost from_gives = { λ e r. r ≡ error_of_find e };
+
+    fn from(e: existing_iter::Error) -> Error {
+        match e {
+            existing_iter::Error::Memory => Error::Memory,
+            e => Error::Find(e),
+        }
+    }
+}
+
 impl From<Hidden> for Error {
     ghost use Rattle.gix_contained.specs.Contained.{error_of};
 
@@ -42,8 +55,7 @@ impl From<Hidden> for Error {
 
     fn from(e: Hidden) -> Error {
         match e {
-            Hidden::Find(existing_iter::Error::Memory) => Error::Memory,
-            Hidden::Find(e) => Error::Find(e),
+            Hidden::Find(e) => Error::from(e),
             Hidden::ObjectDecode(e) => Error::ObjectDecode(e),
         }
     }

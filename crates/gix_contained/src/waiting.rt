@@ -9,8 +9,9 @@ ghost use Rattle.gix_contained.specs.Inside.Search.{GivesParents, Knows};
 use gix_hash::ObjectId;
 use gix_object::find::Find;
 use gix_paint::Hidden;
-use gix_paint::source::{Named, Stored, parents, read_stored};
+use gix_paint::source::{Named, parents};
 use gix_revwalk::ParentIds;
+use gix_revwalk::read::Header;
 use gix_revwalk::row::Near;
 use gix_revwalk::source::Source;
 
@@ -60,10 +61,10 @@ pub(super) fn look_up<F: Find>(
             },
         ));
     }
-    let Stored { parent_ids, time } = read_stored(source, &id)?;
+    let Header { parent_ids, time } = source.header(&id)?;
     let key = Key {
         generation: INFINITE,
-        time,
+        time: time?,
     };
     Ok((
         key,

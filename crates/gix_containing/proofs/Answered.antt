@@ -11,8 +11,8 @@ use Rattle.gix_object.specs.Object.{Objects}
 use Rattle.gix_commitgraph.specs.Rows.{GraphRow}
 use Rattle.gix_containing.specs.Containing.{AreContaining, empty, contains, passed, FindsContaining, FailsBy}
 use Rattle.gix_containing.specs.Inside.Steps.{MarksOnly, TellsReach}
-use Rattle.gix_merge_base.specs.declared.Error.{Error}
-use Rattle.gix_merge_base.specs.declared.Error.TheVariants as error
+use Rattle.gix_contained.specs.declared.Error.{Error}
+use Rattle.gix_contained.specs.declared.Error.TheVariants as error
 use Rattle.gix_merge_base.specs.Bases.{IsFaultOf}
 use Rattle.gix_revwalk.specs.Commits.{parents_of}
 use Rattle.gix_revwalk.proofs.NewIds.{among-filter}

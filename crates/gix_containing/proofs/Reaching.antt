@@ -8,18 +8,14 @@ use Rattle.gix_hash.proofs.Ids.Membership.{Contains-here, Contains-there}
 use Rattle.gix_hash.proofs.Lists.{only_member}
 use Rattle.gix_object.specs.Object.{Objects}
 use Rattle.gix_commitgraph.specs.Rows.{GraphRow}
-use Rattle.gix_contained.specs.declared.Error.{Error as ContainedError}
-use Rattle.gix_contained.specs.declared.Error.TheVariants as contained_error
+use Rattle.gix_contained.specs.declared.Error.{Error}
+use Rattle.gix_contained.specs.declared.Error.TheVariants as error
 use Rattle.gix_contained.specs.Contained.{AreContained, empty, reached, passed, Selects as SelectsContained, FailsBy as ContainedFails}
 use Rattle.gix_containing.specs.Containing.{FailsBy}
 use Rattle.gix_containing.specs.Inside.Steps.{Children, children_in, AreChildren, GathersChildren, MarksOnly, TellsReach}
-use Rattle.gix_merge_base.specs.declared.Error.{Error}
-use Rattle.gix_merge_base.specs.declared.Error.TheVariants as error
-use Rattle.gix_merge_base.specs.Errors.{error_of_contained}
 use Rattle.gix_merge_base.specs.Inside.Steps.{StartsFrom}
 use Rattle.gix_merge_base.proofs.BestOfFirst.{itself, onward}
 use Rattle.gix_merge_base.proofs.Starting.{have, read_whole}
-use Rattle.gix_merge_base.proofs.Whole.{by_contained}
 use Rattle.gix_paint.proofs.Invariant.{own_history}
 use Rattle.gix_revwalk.specs.declared.Info.{Info}
 use Rattle.gix_revwalk.specs.Asking.{AnswersBy}
@@ -54,13 +50,13 @@ pub tells_reach : (objects : Objects) (rows : List GraphRow) (tips : List Object
 tells_reach objects rows tips target met any selects is = λ agreeing.
     subst (λ b. (b ≡ true) ↔ Reaches (parents_of objects) tips target) (sym is) (target_met (parents_of objects) tips target met (selects.exact objects (own_history objects rows agreeing)))
 
-pub reaching_fails : {T : Type 0} (objects : Objects) (faulty : ObjectId → Type 0) (rows : List GraphRow) (tips : List ObjectId) (target : ObjectId) (result : Result T Error) (e : Error) (f : ContainedError) → result ≡ Err e → e ≡ error_of_contained f
-    → (f ≢ contained_error.Memory → ContainedFails objects faulty rows tips (target ∷ []) f) → IfErr result (λ e. e ≢ error.Memory → FailsBy objects faulty rows target tips e)
+pub reaching_fails : {T : Type 0} (objects : Objects) (faulty : ObjectId → Type 0) (rows : List GraphRow) (tips : List ObjectId) (target : ObjectId) (result : Result T Error) (e f : Error) → result ≡ Err e → e ≡ f
+    → (f ≢ error.Memory → ContainedFails objects faulty rows tips (target ∷ []) f) → IfErr result (λ e. e ≢ error.Memory → FailsBy objects faulty rows target tips e)
 reaching_fails {T} objects faulty rows tips target result e f same is h = subst (λ (r : Result T Error). IfErr r (λ e. e ≢ error.Memory → FailsBy objects faulty rows target tips e)) (sym same) (λ ne agreeing.
-    let r : ContainedFails objects faulty rows tips (target ∷ []) f = h (λ m. ne (is ∙ ap error_of_contained m)) in
+    let r : ContainedFails objects faulty rows tips (target ∷ []) f = h (λ m. ne (is ∙ m)) in
     record {
       why = r.0;
-      is = is ∙ ap error_of_contained r.2 ∙ by_contained r.0;
+      is = is ∙ r.2;
       id = r.1.id;
       fault = r.1.fault;
       reached = ⊎_elim (λ m. start (subst (Contains (target ∷ tips)) (only_member target r.1.id m) (Contains-here target tips)))

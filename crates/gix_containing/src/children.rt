@@ -4,12 +4,13 @@ ghost use Rattle.std.specs.FinSet as set;
 ghost use Rattle.std.specs.Iterator.{IsFinite};
 ghost use Rattle.gix_hash.specs.Reach.{Reaches, Tells};
 ghost use Rattle.gix_containing.specs.Inside.Steps.{GathersChildren, AddsChild, AddsTo, MarksNew, children_in};
-ghost use Rattle.gix_merge_base.specs.declared.Error.TheVariants as error;
+ghost use Rattle.gix_contained.specs.declared.Error.TheVariants as error;
 ghost use Rattle.gix_merge_base.specs.Inside.Steps.{GatherFails};
 
+use gix_contained::Error;
 use gix_hash::hashtable::{IdMap, IdSet};
 use gix_hash::{Keys, ObjectId};
-use gix_merge_base::Error;
+use gix_merge_base::error_of_walk;
 use gix_revwalk::Info;
 use std::alloc::{AllocError, Global};
 
@@ -27,7 +28,10 @@ where
 {
     let mut children = Children::new(alloc, keys);
     for answer in walk {
-        let info = answer?;
+        let info = match answer {
+            Ok(info) => info,
+            Err(e) => return Err(error_of_walk(e)),
+        };
         add_to_each(alloc, info.id, info.parent_ids.as_slice(), &mut children)?;
     }
     Ok(children)

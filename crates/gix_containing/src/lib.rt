@@ -5,7 +5,7 @@ ghost use Rattle.std.specs.Prelude.{◌≡◌, ◌≢◌, ◌∷◌, [], filter,
 ghost use Rattle.std.specs.FinSet as set;
 ghost use Rattle.gix_containing.specs.Containing.{FindsContaining, FailsBy};
 ghost use Rattle.gix_containing.specs.Inside.Steps.{TellsReach, MarksOnly, SelectsTips};
-ghost use Rattle.gix_merge_base.specs.declared.Error.TheVariants as error;
+ghost use Rattle.gix_contained.specs.declared.Error.TheVariants as error;
 ghost use Rattle.gix_revwalk.specs.Agreeing.{rows_in};
 
 mod children;
@@ -13,10 +13,10 @@ pub mod laws;
 
 use children::{children_of, descendants};
 use gix_commitgraph::Graph;
+pub use gix_contained::Error;
 use gix_contained::contained;
 use gix_hash::ObjectId;
 use gix_hash::hashtable::IdSet;
-pub use gix_merge_base::Error;
 use gix_merge_base::walk_from;
 use gix_object::find::Find;
 use std::alloc::{AllocError, Global};

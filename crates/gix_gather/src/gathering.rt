@@ -14,9 +14,10 @@ use gix_hash::{Keys, ObjectId};
 use gix_names::is_named;
 use gix_object::Kind;
 use gix_object::commit::{CommitRefIter, Token};
+use gix_object::memory::MemoryStore;
 use gix_object::tree::TreeRefIter;
 use gix_odb::Odb;
-use gix_records::{LentStore, NamedObjects};
+use gix_records::NamedObjects;
 use std::alloc::{AllocError, Global};
 use std::fs::Files;
 use std::marker::Model;
@@ -278,9 +279,9 @@ impl Gathering {
         self.len() == 0
     }
 
-    /// The store of the objects that have been read. It borrows them, and copies none until one is looked up.
-    pub fn store(&self) -> LentStore<'_>
-        ensures exact { result ≡ self.now }
+    /// The store of the objects that have been read.
+    pub fn store(&self) -> &MemoryStore<'static>
+        ensures exact { result.now ≡ self.now }
         ensures named { AreNamed self.now }
     {
         self.objects.store()

@@ -54,6 +54,7 @@ impl Model for IdSet {
 
 impl IdSet {
     /// The empty set with these keys. It takes no memory until an id is put in.
+    #[tactic(auto, using(crate::proofs::Ids::Sets::none))]
     pub fn new(alloc: Global, keys: Keys) -> IdSet
         ensures { result ≡ set.empty }
     {
@@ -68,6 +69,7 @@ impl IdSet {
     }
 
     /// Whether the set has the id.
+    #[tactic(auto, using(crate::proofs::Ids::Sets::has))]
     pub fn contains(&self, id: &ObjectId) -> bool
         ensures { result ≡ set.contains self.now id.now }
     {
@@ -79,6 +81,7 @@ impl IdSet {
     /// # Errors
     ///
     /// `AllocError` when out of memory. The set is as it was, without the id.
+    #[tactic(auto, using(crate::proofs::Ids::Sets::has, crate::proofs::Ids::Sets::inserted))]
     pub fn insert(&mut self, id: ObjectId) -> Result<bool, AllocError>
         ensures added { IfOk result (λ added. added ≡ not (set.contains self.old id)) }
         ensures ok { OnOk result (self.new ≡ set.insert self.old id) }
@@ -89,6 +92,7 @@ impl IdSet {
     }
 
     /// Takes an id out, and says whether it was in the set. For an empty set the id isn't hashed.
+    #[tactic(auto, using(crate::proofs::Ids::Sets::removals))]
     #[inline(always)]
     pub fn remove(&mut self, id: &ObjectId) -> bool
         ensures removed { result ≡ set.contains self.old id.now }
@@ -98,6 +102,7 @@ impl IdSet {
     }
 
     /// How many ids the set has.
+    #[tactic(auto, using(crate::proofs::Ids::Sets::counted))]
     pub fn len(&self) -> usize
         ensures { result ≡ set.len self.now }
     {
@@ -112,6 +117,7 @@ impl IdSet {
     }
 
     /// Takes every id out.
+    #[tactic(auto, using(crate::proofs::Ids::Sets::none))]
     pub fn clear(&mut self)
         ensures { self.new ≡ set.empty }
     {
@@ -169,6 +175,7 @@ impl<T> IdMap<T> {
     }
 
     /// The value of an id, and None where it has none. For an empty map the id isn't hashed.
+    #[tactic(auto, using(crate::proofs::Ids::Tables::nothing_in_none))]
     #[inline(always)]
     pub fn get(&self, id: &ObjectId) -> Option<&T>
         ensures { option_copied result ≡ map.get self.now id.now }
@@ -180,6 +187,7 @@ impl<T> IdMap<T> {
     }
 
     /// A call of its own, so that the test for none is inlined.
+    #[tactic(auto, using(crate::proofs::Ids::Tables::in_short, crate::proofs::Ids::Tables::in_long))]
     fn look_up(&self, id: &ObjectId) -> Option<&T>
         ensures { option_copied result ≡ map.get self.now id.now }
     {
@@ -194,6 +202,7 @@ impl<T> IdMap<T> {
     /// # Errors
     ///
     /// `AllocError` when out of memory. The map is as it was, the id has no value, and the value that was handed in is dropped.
+    #[tactic(auto, using(crate::proofs::Ids::Tables::in_short, crate::proofs::Ids::Tables::in_long))]
     pub fn insert(&mut self, id: ObjectId, value: T) -> Result<Option<T>, AllocError>
     where
         T: Drop,
@@ -222,6 +231,7 @@ impl<T> IdMap<T> {
 
     /// Changes the value of an id that has one, and returns what the change returns. Where the id has no value, the answer is None and the map
     /// stays. The id is looked up once, and no memory is taken.
+    #[tactic(auto, using(crate::proofs::Ids::Tables::in_short, crate::proofs::Ids::Tables::in_long))]
     #[inline(always)]
     pub fn change<R, C: FnOnce(&mut T) -> R>(&mut self, id: &ObjectId, change: C) -> Option<R>
     where
@@ -237,6 +247,7 @@ impl<T> IdMap<T> {
     }
 
     /// Takes the value of an id out and returns it. None where the id has none.
+    #[tactic(auto, using(crate::proofs::Ids::Tables::in_short, crate::proofs::Ids::Tables::in_long))]
     pub fn remove(&mut self, id: &ObjectId) -> Option<T>
         ensures value { result ≡ map.get self.old id.now }
         ensures map { self.new ≡ map.remove self.old id.now }
@@ -266,6 +277,7 @@ impl<T> IdMap<T> {
     }
 
     /// How many ids have a value.
+    #[tactic(auto, using(crate::proofs::Ids::Tables::counted_both))]
     pub fn len(&self) -> usize
         ensures { result ≡ map.len self.now }
     {

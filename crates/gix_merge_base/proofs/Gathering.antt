@@ -1,5 +1,5 @@
 -- What is gathered along a walk.
-use Rattle.std.proofs.Common.{◌≡◌, ◌≢◌, IfErr, List, [], ◌∷◌, ◌++◌, map, Option, Some, None, Result, Ok, Err, refl, sym, ap, subst, ◌∙◌, append_assoc, append-nil}
+use Rattle.std.proofs.Common.{◌≡◌, List, [], ◌∷◌, ◌++◌, map, Option, Some, None, Result, Ok, Err, refl, sym, ap, subst, ◌∙◌, append_assoc, append-nil}
 use Rattle.std.specs.FinSet as set
 use Rattle.std.specs.Iterator.{Yields, YieldsThen, Drains}
 use Rattle.std.proofs.lemmas.List.{map-append}
@@ -7,8 +7,7 @@ use Rattle.std.proofs.lemmas.Grind.{flat_map-append}
 use Rattle.gix_hash.specs.declared.ObjectId.{ObjectId}
 use Rattle.gix_hash.specs.Id.{id_cmp}
 use Rattle.gix_simple.specs.declared.Error.{Error as WalkError}
-use Rattle.gix_merge_base.specs.declared.Error.{Error}
-use Rattle.gix_merge_base.specs.declared.Error.TheVariants as error
+use Rattle.gix_contained.specs.declared.Error.{Error}
 use Rattle.gix_merge_base.specs.Errors.{error_of_walk}
 use Rattle.gix_revwalk.specs.Infos.{given}
 use Rattle.gix_merge_base.specs.Inside.Steps.{Collects, named_by, GatherFails}
@@ -50,8 +49,6 @@ module _ {W E : Type 0} (Steps : W → Option (Result Info E) → W → Type 0) 
   drawn_all walk at new infos h step = (new, (at, h, step))
 
 -- a walk gave commits, and then a fault
-pub gather_failed : {W T : Type 0} (Steps : W → Option (Result Info WalkError) → W → Type 0) (walk at new : W) (infos : List Info) (answer : Result Info WalkError) (f : WalkError) (result : Result T Error) (e : Error)
-    → result ≡ Err e → e ≡ error_of_walk f → Yields Steps walk (given infos) at → Steps at (Some answer) new → answer ≡ Err f → IfErr result (λ e. e ≢ error.Memory → GatherFails Steps walk e)
-gather_failed {W} {T} Steps walk at new infos answer f result e same is h step was =
-    subst (λ (r : Result T Error). IfErr r (λ e. e ≢ error.Memory → GatherFails Steps walk e)) (sym same)
-    (λ ne. record { infos = infos; fault = f; last = new; drawn = drawn_fault Steps walk at new infos answer f h step was; is = is })
+pub gather_failed : {W : Type 0} (Steps : W → Option (Result Info WalkError) → W → Type 0) (walk at new : W) (infos : List Info) (answer : Result Info WalkError) (f : WalkError) (e : Error)
+    → e ≡ error_of_walk f → Yields Steps walk (given infos) at → Steps at (Some answer) new → answer ≡ Err f → GatherFails Steps walk e
+gather_failed Steps walk at new infos answer f e is h step was = record { infos = infos; fault = f; last = new; drawn = drawn_fault Steps walk at new infos answer f h step was; is = is }

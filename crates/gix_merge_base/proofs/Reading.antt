@@ -14,9 +14,9 @@ use Rattle.gix_paint.specs.Reading.{by_row, by_store, drops, ReadsParents}
 use Rattle.gix_paint.specs.declared.Hidden.TheVariants as hidden_by
 use Rattle.gix_object.specs.declared.find.existing_iter.Error.TheVariants as existing
 use Rattle.gix_paint.proofs.Invariant.{reads_parents}
-use Rattle.gix_merge_base.specs.declared.Error.{Error}
-use Rattle.gix_merge_base.specs.declared.Error.TheVariants as error
-use Rattle.gix_merge_base.specs.Errors.{error_of}
+use Rattle.gix_contained.specs.declared.Error.{Error}
+use Rattle.gix_contained.specs.declared.Error.TheVariants as error
+use Rattle.gix_contained.specs.Contained.{error_of}
 use Rattle.gix_merge_base.specs.Inside.Steps.{ReadFailsAmong, ReadsOthers, OthersOf, others_among}
 use Rattle.gix_revwalk.specs.Agreeing.{IsAgreeing}
 use Rattle.gix_revwalk.specs.Commits.{parents_of}

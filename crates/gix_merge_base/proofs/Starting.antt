@@ -20,8 +20,8 @@ use Rattle.gix_simple.specs.Walk.{SimpleWalk, IsMade, Next}
 use Rattle.gix_simple.proofs.Difference.{faultless_difference, drawn_whole}
 use Rattle.gix_simple.proofs.MadeOfTips.{is_new_walk}
 use Rattle.gix_simple.proofs.ReachDecided.{reach_test}
-use Rattle.gix_merge_base.specs.declared.Error.{Error}
-use Rattle.gix_merge_base.specs.declared.Error.TheVariants as error
+use Rattle.gix_contained.specs.declared.Error.{Error}
+use Rattle.gix_contained.specs.declared.Error.TheVariants as error
 use Rattle.gix_merge_base.specs.Bases.{FailsBy}
 use Rattle.gix_merge_base.specs.Errors.{error_of_walk}
 use Rattle.gix_revwalk.specs.Infos.{given, given_ids}

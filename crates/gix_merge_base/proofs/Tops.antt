@@ -1,28 +1,21 @@
 -- Where no two common ancestors reach each other, each is reached by a best one; and what follows of a fault where all reads whole.
-use Rattle.std.proofs.Common.{◌≡◌, ◌⊎◌, ◌↔◌, List, [], ◌∷◌, Bool, true, false, Some, None, Contains, refl, sym, ap, subst, inl, inr, ⊎_elim, ◌∙◌}
+use Rattle.std.proofs.Common.{◌≡◌, ◌⊎◌, ◌↔◌, List, [], ◌∷◌, Bool, true, false, Contains, refl, sym, subst, inl, inr, ⊎_elim, ◌∙◌}
 use Rattle.std.proofs.lemmas.Bool.{false≢true}
 use Rattle.gix_hash.specs.declared.ObjectId.{ObjectId}
-use Rattle.gix_hash.specs.Id.{kind_of}
 use Rattle.gix_hash.specs.Reach.{Reaches, Tells}
 use Rattle.gix_hash.proofs.Ids.Membership.{Contains-cons_cases, no_member}
 use Rattle.gix_object.specs.declared.find.existing_iter.Error.TheVariants as existing
-use Rattle.gix_object.specs.CommitItems.{commit_items}
 use Rattle.gix_object.specs.Object.{Objects}
 use Rattle.gix_commitgraph.specs.Rows.{GraphRow}
-use Rattle.gix_paint.specs.declared.Hidden.{Hidden}
-use Rattle.gix_paint.specs.declared.Hidden.TheVariants as hidden_by
-use Rattle.gix_paint.specs.Painting.{IsFaultAt}
 use Rattle.gix_simple.proofs.ReachDecided.{reach_test}
-use Rattle.gix_merge_base.specs.declared.Error.{Error}
-use Rattle.gix_merge_base.specs.declared.Error.TheVariants as error
+use Rattle.gix_contained.specs.declared.Error.{Error}
+use Rattle.gix_contained.specs.declared.Error.TheVariants as error
+use Rattle.gix_contained.proofs.Faultless.{at_whole}
 use Rattle.gix_merge_base.specs.Bases.{IsCommon, IsBest, AreBases, FailsBy, IsFaultOf}
-use Rattle.gix_merge_base.specs.Errors.{error_of}
 use Rattle.gix_merge_base.specs.Laws.{IsAcyclicAmong}
 use Rattle.gix_merge_base.proofs.BestOfFirst.{itself, onward}
 use Rattle.gix_revwalk.specs.Agreeing.{IsAgreeing}
-use Rattle.gix_revwalk.specs.Commits.{ReadsWhole, commit_of_object, parents_of}
-use Rattle.gix_revwalk.proofs.Committer.{fault_unread}
-use Rattle.gix_revwalk.proofs.ReadsWhole.{no_fault}
+use Rattle.gix_revwalk.specs.Commits.{ReadsWhole, parents_of}
 use Rattle.gix_revwalk.proofs.SomeOrder.{known_ids, known, reached_list}
 
 module _ (objects : Objects) (one : ObjectId) (others : List ObjectId) where
@@ -104,12 +97,7 @@ module _ (objects : Objects) (one : ObjectId) (others : List ObjectId) where
 
 module _ (objects : Objects) (faulty : ObjectId → Type 0) where
   -- at a commit that reads whole only the store fails
-  at_whole : (i : ObjectId) (why : Hidden) → ReadsWhole objects i → IsFaultAt objects faulty i why → error_of why ≡ error.Find existing.Store
-  at_whole i (hidden_by.Find e) reads f = ap (λ x. error_of (hidden_by.Find x)) (no_fault objects faulty i reads.commit e reads.stored f)
-  at_whole i (hidden_by.ObjectDecode e) reads f =
-      let n : None ≡ Some reads.commit = sym (ap (commit_of_object i) f.1 ∙ fault_unread (commit_items (kind_of i) f.0) e f.2) ∙ reads.stored in cc
-
   pub store_alone : (rows : List GraphRow) (one : ObjectId) (others : List ObjectId) (e : Error) → IsAgreeing objects rows
       → ((i : ObjectId) → Reaches (parents_of objects) (one ∷ others) i → ReadsWhole objects i) → FailsBy objects faulty rows one others e
       → e ≡ error.Find existing.Store
-  store_alone rows one others e agreeing whole fails = let f : IsFaultOf objects faulty one others e = fails agreeing in f.is ∙ at_whole f.id f.why (whole f.id f.reached) f.fault
+  store_alone rows one others e agreeing whole fails = let f : IsFaultOf objects faulty one others e = fails agreeing in f.is ∙ at_whole objects faulty f.id f.why (whole f.id f.reached) f.fault

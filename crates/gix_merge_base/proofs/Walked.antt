@@ -29,7 +29,8 @@ use Rattle.gix_simple.specs.Walk.{Concludes, given, broken, Takes, by_row, by_st
 use Rattle.gix_simple.proofs.Moves.{Asking, rests, asks, asking}
 use Rattle.gix_simple.proofs.Difference.{whole_from}
 use Rattle.gix_simple.proofs.Treated.{best_moved}
-use Rattle.gix_merge_base.specs.Errors.{error_of, error_of_walk}
+use Rattle.gix_contained.specs.Contained.{error_of}
+use Rattle.gix_merge_base.specs.Errors.{error_of_walk}
 use Rattle.gix_revwalk.specs.Infos.{given as all_given}
 use Rattle.gix_revwalk.specs.declared.Info.{Info}
 use Rattle.gix_revwalk.specs.declared.Parents.TheVariants as mode

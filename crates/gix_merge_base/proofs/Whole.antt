@@ -1,24 +1,18 @@
 -- The whole call: first common ancestors, what other parents of them reach, and what is left.
-use Rattle.std.proofs.Common.{◌≡◌, ◌≢◌, List, ◌∷◌, Result, Err, IfErr, Contains, IsPermutation, refl, sym, ap, subst, ⊎_elim, ◌∙◌}
+use Rattle.std.proofs.Common.{◌≡◌, ◌≢◌, List, ◌∷◌, Result, Err, IfErr, Contains, IsPermutation, sym, subst, ⊎_elim, ◌∙◌}
 use Rattle.std.specs.FinSet as set
 use Rattle.std.specs.List.Sorted.{IsSorted}
 use Rattle.gix_hash.specs.declared.ObjectId.{ObjectId}
 use Rattle.gix_hash.specs.Id.{id_cmp}
 use Rattle.gix_hash.specs.Reach.{Reaches, step}
 use Rattle.gix_hash.proofs.Ids.Membership.{Contains-there}
-use Rattle.gix_object.specs.declared.find.existing_iter.Error.TheVariants as existing
 use Rattle.gix_object.specs.Object.{Objects}
 use Rattle.gix_commitgraph.specs.Rows.{GraphRow}
-use Rattle.gix_contained.specs.declared.Error.{Error as ContainedError}
-use Rattle.gix_contained.specs.declared.Error.TheVariants as contained_error
-use Rattle.gix_contained.specs.Contained.{AreContained, Selects, error_of as contained_error_of, FailsBy as ContainedFails}
-use Rattle.gix_paint.specs.declared.Hidden.{Hidden}
-use Rattle.gix_paint.specs.declared.Hidden.TheVariants as hidden_by
+use Rattle.gix_contained.specs.declared.Error.{Error}
+use Rattle.gix_contained.specs.declared.Error.TheVariants as error
+use Rattle.gix_contained.specs.Contained.{AreContained, Selects, FailsBy as ContainedFails}
 use Rattle.gix_paint.proofs.Invariant.{own_history}
-use Rattle.gix_merge_base.specs.declared.Error.{Error}
-use Rattle.gix_merge_base.specs.declared.Error.TheVariants as error
 use Rattle.gix_merge_base.specs.Bases.{FindsBases, FailsBy}
-use Rattle.gix_merge_base.specs.Errors.{error_of, error_of_contained}
 use Rattle.gix_merge_base.specs.Inside.Steps.{MeetsFirst, ReadsOthers, ReadFailsAmong, Collects, others_among}
 use Rattle.gix_merge_base.proofs.BestOfFirst.{bases_left}
 use Rattle.gix_merge_base.proofs.Members.{of_some, others_within}
@@ -26,14 +20,6 @@ use Rattle.gix_revwalk.specs.Agreeing.{IsAgreeing}
 use Rattle.gix_revwalk.specs.Commits.{parents_of}
 use Rattle.gix_revwalk.specs.Ids.{new_ids}
 use Rattle.gix_revwalk.proofs.Reached.{reach_more, reaches_from}
-
--- the error of a fault is the same by both ways
-pub by_contained : (why : Hidden) → error_of_contained (contained_error_of why) ≡ error_of why
-by_contained (hidden_by.Find existing.Memory) = refl
-by_contained (hidden_by.Find existing.Store) = refl
-by_contained (hidden_by.Find (existing.NotFound oid)) = refl
-by_contained (hidden_by.Find (existing.ObjectKind oid expected actual)) = refl
-by_contained (hidden_by.ObjectDecode e) = refl
 
 module _ (objects : Objects) (faulty : ObjectId → Type 0) (rows : List GraphRow) (one : ObjectId) (others common parents : List ObjectId) (met : MeetsFirst objects rows one others common) where
   -- what is left are the bases
@@ -71,12 +57,12 @@ module _ (objects : Objects) (faulty : ObjectId → Type 0) (rows : List GraphRo
         record { why = r.2; is = is ∙ r.4; id = r.0; fault = r.3; reached = common_below agreeing r.0 r.1 })
 
     -- what they reach couldn't be read
-    pub fails_reaching : (f : ContainedError) → e ≡ error_of_contained f → ReadsOthers objects rows common parents → (f ≢ contained_error.Memory → ContainedFails objects faulty rows parents common f) → FailsSo
+    pub fails_reaching : (f : Error) → e ≡ f → ReadsOthers objects rows common parents → (f ≢ error.Memory → ContainedFails objects faulty rows parents common f) → FailsSo
     fails_reaching f is reads h = so (λ ne agreeing.
-        let r : ContainedFails objects faulty rows parents common f = h (λ m. ne (is ∙ ap error_of_contained m)) in
+        let r : ContainedFails objects faulty rows parents common f = h (λ m. ne (is ∙ m)) in
         record {
           why = r.0;
-          is = is ∙ ap error_of_contained r.2 ∙ by_contained r.0;
+          is = is ∙ r.2;
           id = r.1.id;
           fault = r.1.fault;
           reached = ⊎_elim (common_below agreeing r.1.id) (reaches_from (parents_of objects) parents (one ∷ others) (parents_below agreeing reads) r.1.id) (r.1.reached objects (own_history objects rows agreeing));

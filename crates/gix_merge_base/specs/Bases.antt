@@ -8,8 +8,8 @@ use Rattle.gix_object.specs.Object.{Objects}
 use Rattle.gix_commitgraph.specs.Rows.{GraphRow}
 use Rattle.gix_paint.specs.declared.Hidden.{Hidden}
 use Rattle.gix_paint.specs.Painting.{IsFaultAt}
-use Rattle.gix_merge_base.specs.declared.Error.{Error}
-use Rattle.gix_merge_base.specs.Errors.{error_of}
+use Rattle.gix_contained.specs.declared.Error.{Error}
+use Rattle.gix_contained.specs.Contained.{error_of}
 use Rattle.gix_revwalk.specs.Agreeing.{IsAgreeing}
 use Rattle.gix_revwalk.specs.Commits.{ReadsWhole, parents_of}
 

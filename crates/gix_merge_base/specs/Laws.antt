@@ -6,8 +6,8 @@ use Rattle.gix_object.specs.declared.find.existing_iter.Error.TheVariants as exi
 use Rattle.gix_object.specs.Object.{Objects}
 use Rattle.gix_commitgraph.specs.Rows.{GraphRow}
 use Rattle.gix_paint.specs.Painting.{IsHistory}
-use Rattle.gix_merge_base.specs.declared.Error.{Error}
-use Rattle.gix_merge_base.specs.declared.Error.TheVariants as error
+use Rattle.gix_contained.specs.declared.Error.{Error}
+use Rattle.gix_contained.specs.declared.Error.TheVariants as error
 use Rattle.gix_merge_base.specs.Bases.{IsCommon, AreBases, FindsBases, FailsBy}
 use Rattle.gix_revwalk.specs.Agreeing.{IsAgreeing}
 use Rattle.gix_revwalk.specs.Commits.{ReadsWhole, parents_of}

@@ -7,8 +7,9 @@ ghost use Rattle.std.specs.Iterator.{IsFinite};
 ghost use Rattle.std.specs.FinSet as set;
 ghost use Rattle.std.specs.List.Sorted.{IsSorted};
 ghost use Rattle.gix_hash.specs.Id.{id_cmp};
-ghost use Rattle.gix_merge_base.specs.declared.Error.TheVariants as error;
+ghost use Rattle.gix_contained.specs.declared.Error.TheVariants as error;
 ghost use Rattle.gix_merge_base.specs.Bases.{FindsBases, FailsBy};
+ghost use Rattle.gix_merge_base.specs.Errors.{error_of_walk};
 ghost use Rattle.gix_revwalk.specs.Asking.{accepts_all};
 ghost use Rattle.gix_merge_base.specs.Inside.Steps.{StartsFrom, Gathers, GatherFails, MeetsFirst, OthersOf, ReadsOthers, ReadFailsAmong, Collects};
 ghost use Rattle.gix_revwalk.specs.Agreeing.{rows_in};
@@ -17,96 +18,27 @@ ghost use Rattle.gix_revwalk.specs.Ids.{new_ids};
 pub mod laws;
 
 use gix_commitgraph::Graph;
+pub use gix_contained::Error;
 use gix_contained::contained;
 use gix_hash::hashtable::IdSet;
 use gix_hash::{Keys, ObjectId};
-use gix_object::decode;
-use gix_object::find::{Find, existing_iter};
-use gix_paint::Hidden;
+use gix_object::find::Find;
 use gix_paint::source::{Named, parents};
 use gix_revwalk::row::{NOWHERE, copy_of};
 use gix_revwalk::source::Source;
 use gix_revwalk::{Info, Unfiltered};
 use gix_simple::Simple;
 use std::alloc::{AllocError, Global};
-use thiserror::Error;
 
-/// Why it isn't known which common ancestors are the best.
-#[derive(Clone, Copy, Debug, PartialEq, Eq, Error)]
-pub enum Error {
-    /// A commit could not be looked up.
-    #[error(transparent)]
-    Find(existing_iter::Error),
-    /// A commit's bytes are broken before its committer ends.
-    #[error(transparent)]
-    ObjectDecode(decode::Error),
-    /// Out of memory.
-    #[error("out of memory")]
-    Memory,
-}
-
-impl From<existing_iter::Error> for Error {
-    ghost use Rattle.gix_merge_base.specs.Errors.{error_of_find};
-
-    ghost from_gives = { λ e r. r ≡ error_of_find e };
-
-    fn from(e: existing_iter::Error) -> Error {
-        match e {
-            existing_iter::Error::Memory => Error::Memory,
-            e => Error::Find(e),
-        }
-    }
-}
-
-impl From<Hidden> for Error {
-    ghost use Rattle.gix_merge_base.specs.Errors.{error_of};
-
-    ghost from_gives = { λ e r. r ≡ error_of e };
-
-    fn from(e: Hidden) -> Error {
-        match e {
-            Hidden::Find(e) => Error::from(e),
-            Hidden::ObjectDecode(e) => Error::ObjectDecode(e),
-        }
-    }
-}
-
-impl From<gix_simple::Error> for Error {
-    ghost use Rattle.gix_merge_base.specs.Errors.{error_of_walk};
-
-    ghost from_gives = { λ e r. r ≡ error_of_walk e };
-
-    fn from(e: gix_simple::Error) -> Error {
-        match e {
-            gix_simple::Error::Find(e) => Error::from(e),
-            gix_simple::Error::ObjectDecode(e) => Error::ObjectDecode(e),
-            gix_simple::Error::HiddenGraph(e) => Error::from(e),
-            gix_simple::Error::Memory => Error::Memory,
-        }
-    }
-}
-
-impl From<gix_contained::Error> for Error {
-    ghost use Rattle.gix_merge_base.specs.Errors.{error_of_contained};
-
-    ghost from_gives = { λ e r. r ≡ error_of_contained e };
-
-    fn from(e: gix_contained::Error) -> Error {
-        match e {
-            gix_contained::Error::Find(e) => Error::from(e),
-            gix_contained::Error::ObjectDecode(e) => Error::ObjectDecode(e),
-            gix_contained::Error::Memory => Error::Memory,
-        }
-    }
-}
-
-impl From<AllocError> for Error {
-    ghost use Rattle.gix_merge_base.specs.declared.Error.TheVariants as error;
-
-    ghost from_gives = { λ _ r. r ≡ error.Memory };
-
-    fn from(_e: AllocError) -> Error {
-        Error::Memory
+/// The error of a call that draws a walk, by that of the walk.
+pub fn error_of_walk(e: gix_simple::Error) -> Error
+    ensures { result ≡ error_of_walk e }
+{
+    match e {
+        gix_simple::Error::Find(e) => Error::from(e),
+        gix_simple::Error::ObjectDecode(e) => Error::ObjectDecode(e),
+        gix_simple::Error::HiddenGraph(e) => Error::from(e),
+        gix_simple::Error::Memory => Error::Memory,
     }
 }
 
@@ -196,8 +128,10 @@ pub fn walk_from<'a, F: Find>(
     let tips = Vec::from_slice(alloc, others)?;
     let hidden = Vec::from_slice(alloc, &[one])?;
     let made = Simple::new(alloc, tips, objects)?;
-    let walk = made.hide(hidden)?;
-    Ok(walk.commit_graph(rows))
+    match made.hide(hidden) {
+        Ok(walk) => Ok(walk.commit_graph(rows)),
+        Err(e) => Err(error_of_walk(e)),
+    }
 }
 
 /// What a walk gave and named.
@@ -221,7 +155,10 @@ where
     let mut only = IdSet::new(alloc, keys);
     let mut named = Vec::from_slice(alloc, tips)?;
     for answer in walk {
-        let info = answer?;
+        let info = match answer {
+            Ok(info) => info,
+            Err(e) => return Err(error_of_walk(e)),
+        };
         only.insert(info.id)?;
         named.extend_from_slice(info.parent_ids.as_slice())?;
     }

@@ -1,5 +1,5 @@
 -- What a store in memory holds after the bytes of an object were put behind the bytes in its buffer.
-use Rattle.std.proofs.Common.{IfSome, option_map, is_lt, ◌≡◌, ℕ, ◌+◌, ◌-◌, ◌≤◌, Bool, true, false, cond, ◌&&◌, T, List, [], ◌∷◌, ◌++◌, map, length, take, drop, Option, Some, None, refl, sym, ap, ap₂, subst, ◌∙◌, arith, length-append}
+use Rattle.std.proofs.Common.{IfSome, option_map, is_some, is_lt, ◌≡◌, ℕ, ◌+◌, ◌-◌, ◌≤◌, Bool, true, false, cond, ◌&&◌, T, List, [], ◌∷◌, ◌++◌, map, length, take, drop, Option, Some, None, refl, sym, ap, ap₂, subst, ◌∙◌, arith, length-append}
 use Rattle.std.proofs.Common.{length-drop, take_all}
 use Rattle.std.specs.Ordering.{eq_by_cmp}
 use Rattle.std.specs.FinMap as map
@@ -46,6 +46,14 @@ module _ (buffer : List ℕ) (places : FinMap id_cmp Stored) where
 
   pub len_stored : map.len (objects_at buffer places) ≡ map.len places
   len_stored = map.len-entries (objects_at buffer places) ∙ ap length (map.entries-from_sorted id_cmp _ sorted) ∙ length-map _ _ ∙ sym (map.len-entries places)
+
+pub mapped : {A B : Type 0} (f : A → B) (o : Option A) → is_some o ≡ is_some (option_map f o)
+mapped f None = refl
+mapped f (Some x) = refl
+
+-- an id has an object exactly where it has a place
+pub has_place : (buffer : List ℕ) (places : FinMap id_cmp Stored) (i : ObjectId) → is_some (map.get places i) ≡ is_some (map.get (objects_at buffer places) i)
+has_place buffer places i = mapped (object_at buffer) (map.get places i) ∙ sym (ap is_some (get_stored buffer places i))
 
 -- an object is put in at a place of the buffer
 pub object_put : (buffer : List ℕ) (places : FinMap id_cmp Stored) (i : ObjectId) (s : Stored) → objects_at buffer (map.insert places i s) ≡ map.insert (objects_at buffer places) i (object_at buffer s)

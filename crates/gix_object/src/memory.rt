@@ -1,6 +1,8 @@
 //! A store that is held in memory.
-ghost use Rattle.std.specs.Prelude.{◌≡◌, ◌↔◌, IsTrue, length, OnOk, OnErr};
+ghost use Rattle.std.specs.Prelude.{◌≡◌, ◌↔◌, ◌++◌, IsTrue, length, is_some, IfOk, OnOk, OnErr};
+ghost use Rattle.std.specs.Cow.{cow_slice_items};
 ghost use Rattle.std.specs.FinMap as map;
+ghost use Rattle.gix_hash.specs.Id.{is_among};
 ghost use Rattle.gix_object.specs.MemoryStore.{objects_at, AreWithin};
 
 use crate::Kind;
@@ -8,6 +10,7 @@ use crate::find::{Error, Find};
 use gix_hash::hashtable::IdMap;
 use gix_hash::{Keys, ObjectId};
 use std::alloc::{AllocError, Global};
+use std::borrow::CowSlice;
 use std::marker::Model;
 
 /// An object whose bytes are in a buffer, from `start` up to `end`.
@@ -21,12 +24,38 @@ pub struct Stored {
     pub end: usize,
 }
 
-/// Objects held in memory, with the bytes of all in one buffer. Each look-up succeeds unless memory runs out.
+/// Puts bytes behind those of a buffer. A borrowed one is copied first, and stays borrowed where there is no memory.
+fn extend(
+    alloc: Global,
+    buffer: &mut CowSlice<'_, u8, Global>,
+    more: &[u8],
+) -> Result<(), AllocError>
+    ensures ok { OnOk result (cow_slice_items buffer.new ≡ cow_slice_items buffer.old ++ more.now) }
+    ensures err { OnErr result (cow_slice_items buffer.new ≡ cow_slice_items buffer.old) }
+{
+    match buffer {
+        CowSlice::Owned(bytes) => bytes.extend_from_slice(more),
+        CowSlice::Borrowed(lent) => {
+            let mut bytes = Vec::new(alloc);
+            bytes.extend_from_slice(lent)?;
+            bytes.extend_from_slice(more)?;
+            *buffer = CowSlice::Owned(bytes);
+            Ok(())
+        }
+    }
+}
+
+/// Objects held in memory, with the bytes of all in one buffer, which the store owns or borrows. No object is copied until one is looked
+/// up. Each look-up succeeds unless memory runs out.
 ///
 /// A store with one commit:
 ///
 /// ```rust
-/// pub fn store_of_one(alloc: Global, keys: Keys, id: ObjectId) -> Result<MemoryStore, AllocError> {
+/// pub fn store_of_one(
+///     alloc: Global,
+///     keys: Keys,
+///     id: ObjectId,
+/// ) -> Result<MemoryStore<'static>, AllocError> {
 ///     let mut store = MemoryStore::new(alloc, keys);
 ///     let commit = b"tree 4b825dc642cb6eb9a060e54bf8d69288fbee4904
 /// author A <a@b> 100 +0000
@@ -39,13 +68,15 @@ pub struct Stored {
 /// }
 /// ```
 #[derive(Drop)]
-pub struct MemoryStore {
+pub struct MemoryStore<'a> {
     objects: IdMap<Stored>,
-    bytes: Vec<u8>,
+    bytes: CowSlice<'a, u8, Global>,
+    alloc: Global,
 }
 
-impl Model for MemoryStore {
+impl<'a> Model for MemoryStore<'a> {
     ghost use Rattle.std.specs.Prelude.{length};
+    ghost use Rattle.std.specs.Cow.{cow_slice_items};
     ghost use Rattle.std.specs.FinMap as map;
     ghost use Rattle.gix_hash.specs.Id.{id_cmp, id_code};
     ghost use Rattle.gix_object.specs.Object.{Objects, object_code};
@@ -55,32 +86,41 @@ impl Model for MemoryStore {
 
     ghost coded = { map.code id_code object_code };
 
-    ghost view = { λ s. objects_at s.bytes.items s.objects };
+    ghost view = { λ s. objects_at (cow_slice_items s.bytes) s.objects };
 
-    ghost invariant = { λ s. AreWithin s.objects (length s.bytes.items) };
+    ghost invariant = { λ s. AreWithin s.objects (length (cow_slice_items s.bytes)) };
 }
 
-impl MemoryStore {
+impl<'a> MemoryStore<'a> {
     /// A store without objects, whose table of ids has these keys. It takes no memory until one is put in.
-    pub fn new(alloc: Global, keys: Keys) -> MemoryStore
+    pub fn new(alloc: Global, keys: Keys) -> MemoryStore<'a>
         ensures { result ≡ map.empty }
     {
         MemoryStore {
             objects: IdMap::new(alloc, keys),
-            bytes: Vec::new(alloc),
+            bytes: CowSlice::Owned(Vec::new(alloc)),
+            alloc,
         }
     }
 
     /// A store of the objects that are at these places of a buffer. Each place must be within the buffer. No byte is copied.
-    pub fn over(bytes: Vec<u8>, objects: IdMap<Stored>) -> MemoryStore
-        requires { AreWithin objects (length bytes.items) }
-        ensures { result ≡ objects_at bytes.items objects }
+    pub fn over(
+        alloc: Global,
+        bytes: CowSlice<'a, u8, Global>,
+        objects: IdMap<Stored>,
+    ) -> MemoryStore<'a>
+        requires { AreWithin objects (length (cow_slice_items bytes)) }
+        ensures { result ≡ objects_at (cow_slice_items bytes.entry) objects }
     {
-        MemoryStore { objects, bytes }
+        MemoryStore {
+            objects,
+            bytes,
+            alloc,
+        }
     }
 
     /// Keeps a copy of an object, in place of what the id had. The bytes of an object that is replaced keep their room until
-    /// the store is dropped.
+    /// the store is dropped. A borrowed buffer is copied first.
     ///
     /// # Errors
     /// `AllocError` when out of memory. The store has the objects that it had.
@@ -89,20 +129,37 @@ impl MemoryStore {
         ensures err { OnErr result (self.new ≡ self.old) }
     {
         let start = self.bytes.len();
-        self.bytes.extend_from_slice(bytes)?;
+        extend(self.alloc, &mut self.bytes, bytes)?;
         let end = self.bytes.len();
         self.objects.insert(id, Stored { kind, start, end })?;
         Ok(())
     }
 
-    /// How many objects are kept.
+    /// Whether there is an object of this id.
+    pub fn contains(&self, id: &ObjectId) -> bool
+        ensures { result ≡ is_some (map.get self.now id.now) }
+    {
+        self.objects.get(id).is_some()
+    }
+
+    /// The ids of the objects, each once, in no order that means anything.
+    ///
+    /// # Errors
+    /// `AllocError` when out of memory.
+    pub fn ids(&self, alloc: Global) -> Result<Vec<ObjectId>, AllocError>
+        ensures { IfOk result (λ ids. (i : ObjectId) → is_among i ids.items ≡ is_some (map.get self.now i)) }
+    {
+        self.objects.ids(alloc)
+    }
+
+    /// How many objects there are.
     pub fn len(&self) -> usize
         ensures { result ≡ map.len self.now }
     {
         self.objects.len()
     }
 
-    /// Whether no object is kept.
+    /// Whether there is no object.
     pub fn is_empty(&self) -> bool
         ensures { IsTrue result ↔ (map.len self.now ≡ 0) }
     {
@@ -110,17 +167,19 @@ impl MemoryStore {
     }
 }
 
-impl Find for MemoryStore {
+impl Find for MemoryStore<'_> {
     ghost objects = { λ s. s };
 
     ghost faulty = { λ _ _. ⊥ };
 
+    #[inline(always)]
     fn find_into(&self, id: &ObjectId, buf: &mut Vec<u8>) -> Result<Option<Kind>, Error> {
         let Some(stored) = self.objects.get(id) else {
             return Ok(None);
         };
+        let bytes = self.bytes.as_slice();
         buf.clear();
-        match buf.extend_from_slice(&self.bytes[stored.start..stored.end]) {
+        match buf.extend_from_slice(&bytes[stored.start..stored.end]) {
             Ok(()) => Ok(Some(stored.kind)),
             Err(_) => Err(Error::Memory),
         }

@@ -11,7 +11,7 @@ use gix_commitgraph::Graph;
 use gix_graph_pages::{Layout, Pages, is_above};
 use gix_hash::ObjectId;
 use gix_merge_base::merge_bases;
-use gix_records::LentStore;
+use gix_object::memory::MemoryStore;
 use gix_revwalk::{Info, Parents};
 use gix_simple::Sorting;
 use gix_words::{Command, Fault, Merges, Order, Shown, read_command};
@@ -121,7 +121,7 @@ fn begins_above<F: Drop>(
     list: (Order, Shown),
     tips: &[ObjectId],
     hidden: &[ObjectId],
-    store: &LentStore<'_>,
+    store: &MemoryStore<'_>,
 ) -> Result<bool, Fault>
     requires { AreLayouts line.now.pages.now line.now.layouts.now }
     ensures { IfOk result (λ is. IsTrue is → BeginsBy (IsAbove line.now.pages.now line.now.graph.now line.now.least)
@@ -153,7 +153,7 @@ fn are_above<F: Drop>(
     line: &Line<'_, F>,
     tips: &[ObjectId],
     hidden: &[ObjectId],
-    store: &LentStore<'_>,
+    store: &MemoryStore<'_>,
 ) -> Result<bool, Fault>
     requires { AreLayouts line.now.pages.now line.now.layouts.now }
     ensures { IfOk result (λ is. IsTrue is → DrawsAbove (IsAbove line.now.pages.now line.now.graph.now line.now.least)
@@ -177,7 +177,7 @@ fn are_bases_above<F: Drop>(
     line: &Line<'_, F>,
     one: ObjectId,
     others: &[ObjectId],
-    store: &LentStore<'_>,
+    store: &MemoryStore<'_>,
 ) -> Result<bool, Fault>
     requires { AreLayouts line.now.pages.now line.now.layouts.now }
     ensures { IfOk result (λ is. IsTrue is → AreBasesAbove (IsAbove line.now.pages.now line.now.graph.now line.now.least)
@@ -193,7 +193,7 @@ pub(crate) fn is_decided<F: Drop>(
     alloc: Global,
     line: &Line<'_, F>,
     words: &[String],
-    store: &LentStore<'_>,
+    store: &MemoryStore<'_>,
 ) -> Result<bool, Fault>
     requires { AreLayouts line.now.pages.now line.now.layouts.now }
     ensures { IfOk result (λ is. IsTrue is → DecidesWords (IsAbove line.now.pages.now line.now.graph.now line.now.least)

@@ -44,7 +44,7 @@ pub fn run_paged<F: Drop>(
         graph,
         least,
     };
-    if is_decided(alloc, &line, words, &objects.store())? {
+    if is_decided(alloc, &line, words, objects.store())? {
         Ok(Some(lines))
     } else {
         Ok(None)

@@ -1,15 +1,10 @@
 -- How a search reads a commit: by its row, or whole from the store.
-use Rattle.std.proofs.Common.{◌≡◌, ℕ, ℤ, List, Bool, Some, None, Result, Ok, Err, refl, sym, ap, inl, inr, ◌∙◌}
+use Rattle.std.proofs.Common.{◌≡◌, List, Bool, Some, None, Ok, sym, ap, inl, inr, ◌∙◌}
 use Rattle.gix_paint.proofs.Common.{ObjectId, kind_of, Objects, GraphRow, commit_of_object, HasTime, Reads, ReadsParents, by_row, by_store, drops, IsPassed}
-use Rattle.gix_object.specs.declared.decode.Error.{Error as DecodeError}
-use Rattle.gix_object.specs.CommitItems.{commit_items}
-use Rattle.gix_object.specs.CommitRefIter.{first_committer}
 use Rattle.gix_object.specs.CommitText.{read_commit, seconds_of}
 use Rattle.gix_revwalk.specs.declared.Parents.TheVariants as mode
-use Rattle.gix_revwalk.specs.declared.read.Header.{Header}
 use Rattle.gix_revwalk.specs.declared.row.RowRead.{RowRead}
-use Rattle.gix_revwalk.specs.Either.{seconds_told}
-use Rattle.gix_revwalk.specs.Reading.{ReadsHeader, ReadsParentIds, ReadsRow, is_read, absent, corrupt, dropped}
+use Rattle.gix_revwalk.specs.Reading.{ReadsParentIds, ReadsRow, is_read, absent, corrupt, dropped}
 use Rattle.gix_revwalk.proofs.CommitterTime.{committer_read}
 use Rattle.gix_revwalk.proofs.ReadsWhole.{scan_is}
 
@@ -19,15 +14,6 @@ front_read objects i ids h =
     let tip : HasTime objects i (seconds_of h.committer.0) = committer_read objects i h.bytes h.stored h.committer.0 h.committer.1 in
     let read : read_commit (kind_of i) h.bytes ≡ Some tip.commit = sym (ap (commit_of_object i) h.stored) ∙ tip.stored in
     (tip.commit, tip.stored, h.parents ∙ ap (λ p. p.0) (scan_is (kind_of i) h.bytes tip.commit read mode.All))
-
-committer_told : (r : Result (List ℕ) DecodeError) (time : ℤ) → Ok time ≡ seconds_told r → (signature : List ℕ) × (r ≡ Ok signature)
-committer_told (Ok signature) time h = (signature, refl)
-committer_told (Err e) time h = cc
-
-pub header_read : (objects : Objects) (i : ObjectId) (header : Header) → ReadsHeader objects i header → (time : ℤ) → header.time ≡ Ok time → Reads objects i header.parent_ids.items
-header_read objects i header h time is =
-    front_read objects i header.parent_ids.items
-    (record { bytes = h.bytes; stored = h.stored; parents = h.parents; committer = committer_told (first_committer (commit_items (kind_of i) h.bytes)) time (sym is ∙ h.time); fault = tt })
 
 module _ (objects : Objects) {rows : List GraphRow} {i : ObjectId} where
   -- the parents of a row that was read

@@ -1,5 +1,5 @@
 -- Generations fall from a commit to its parents.
-use Rattle.std.proofs.Common.{◌≡◌, ◌⊎◌, ◌<◌, ◌≤◌, ℕ, List, [], ◌∷◌, Contains, subst, inl, inr, ⊎_elim, arith}
+use Rattle.std.proofs.Common.{◌≡◌, ◌⊎◌, ◌<◌, ◌≤◌, ℕ, List, [], ◌∷◌, Contains, subst, inl, inr, arith}
 use Rattle.gix_paint.proofs.Common.{ObjectId, Reaches, start, step}
 use Rattle.gix_hash.proofs.Lists.{only_member}
 

@@ -7,7 +7,7 @@ use crate::Hidden;
 use gix_hash::ObjectId;
 use gix_object::find::Find;
 use gix_revwalk::ParentIds;
-use gix_revwalk::read::{Header, find_parents};
+use gix_revwalk::read::find_parents;
 use gix_revwalk::row::Near;
 use gix_revwalk::source::Source;
 
@@ -18,33 +18,6 @@ pub struct Named {
     pub parent_ids: ParentIds,
     /// Where to look first for their rows.
     pub near: Near,
-}
-
-/// What the store says of a commit.
-#[derive(Drop)]
-pub struct Stored {
-    /// The ids of the parents, in their order.
-    pub parent_ids: ParentIds,
-    /// The committer's seconds since 1970-01-01 00:00 UTC.
-    pub time: i64,
-}
-
-/// What the store says of a commit.
-///
-/// # Errors
-///
-/// `Find` where the store can't give the commit, and when out of memory. `ObjectDecode` where its bytes are broken before its committer
-/// ends.
-pub fn read_stored<F: Find>(source: &mut Source<&F>, id: &ObjectId) -> Result<Stored, Hidden>
-    ensures objects { source.new.objects ≡ source.old.objects }
-    ensures graph { source.new.graph ≡ source.old.graph }
-    ensures in_use { source.new.in_use ≡ source.old.in_use }
-    ensures read { IfOk result (λ stored. Reads (F.objects source.old.objects.now) id.now stored.parent_ids.items) }
-    ensures fault { IfErr result (FailsAt (F.objects source.old.objects.now) (F.faulty source.old.objects.now) id.now) }
-{
-    let Header { parent_ids, time } = source.header(id)?;
-    let time = time?;
-    Ok(Stored { parent_ids, time })
 }
 
 /// The parents that the store says, of a commit whose committer is read too.
@@ -64,7 +37,8 @@ fn stored_parents<F: Find>(source: &mut Source<&F>, id: &ObjectId) -> Result<Par
 ///
 /// # Errors
 ///
-/// As [`read_stored`].
+/// `Find` where the store can't give the commit, and when out of memory. `ObjectDecode` where its bytes are broken before its committer
+/// ends.
 #[inline(always)]
 pub fn parents<F: Find>(source: &mut Source<&F>, id: &ObjectId, near: u32) -> Result<Named, Hidden>
     ensures objects { source.new.objects ≡ source.old.objects }

@@ -6,8 +6,8 @@ use gix_gather::commits;
 use gix_graph_store::WithRows;
 use gix_hash::{Keys, ObjectId};
 use gix_merge_base::merge_bases;
+use gix_object::memory::MemoryStore;
 use gix_odb::Odb;
-use gix_records::LentStore;
 use std::alloc::Global;
 use std::fs::Files;
 use std::os::unix::fs::FileExt;
@@ -22,7 +22,7 @@ impl Chosen {
     pub fn exclude_common(
         &mut self,
         alloc: Global,
-        store: &LentStore<'_>,
+        store: &MemoryStore<'_>,
         graph: Option<&Graph>,
     ) -> Result<(), Fault> {
         for number in 0..self.pairs.len() {
@@ -55,7 +55,7 @@ impl Chosen {
         }
         let ids = self.all(alloc)?;
         let objects = commits(alloc, keys, odb, ids.as_slice(), None)?;
-        self.exclude_common(alloc, &objects.store(), None)
+        self.exclude_common(alloc, objects.store(), None)
     }
 }
 
@@ -63,7 +63,7 @@ impl Chosen {
 fn common(
     alloc: Global,
     pair: Pair,
-    store: &LentStore<'_>,
+    store: &MemoryStore<'_>,
     graph: Option<&Graph>,
 ) -> Result<Vec<ObjectId>, Fault> {
     let objects = WithRows::new(store, graph);

@@ -12,5 +12,3 @@ pub mod ReadingFacts
 pub mod Naming
 -- Named records whose ids a named store has.
 mod WithinNamed
--- Objects at places of bytes.
-mod PlaceFacts

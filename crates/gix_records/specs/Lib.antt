@@ -12,6 +12,4 @@ pub mod Reading
 pub mod NamedRecords
 -- Named records whose ids a named store has.
 pub mod NamedPart
--- Places of objects that a store has itself or borrows.
-pub mod Places
 pub mod Examples

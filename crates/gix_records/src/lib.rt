@@ -16,7 +16,6 @@ ghost use Rattle.gix_records.specs.Records.{Record, AreRecords, IsRecordFault, s
 mod front;
 mod input;
 pub mod laws;
-mod lent;
 mod named;
 mod objects;
 
@@ -25,10 +24,10 @@ use gix_hash::hashtable::IdMap;
 use gix_hash::{Keys, ObjectId};
 use gix_object::memory::{MemoryStore, Stored};
 pub use input::read_to_end;
-pub use lent::LentStore;
 pub use named::{check_names, named_records_in};
 pub use objects::NamedObjects;
 use std::alloc::{AllocError, Global};
+use std::borrow::CowSlice;
 use std::io::Read;
 use thiserror::Error;
 
@@ -85,7 +84,11 @@ impl From<AllocError> for Error {
 ///     let newest = Sorting::ByCommitTime(CommitTimeOrder::NewestFirst);
 ///     let walk = Simple::new(alloc, tips, store)?.sorting(newest)?;
 /// ```
-pub fn read<R: Read>(alloc: Global, keys: Keys, reader: &mut R) -> Result<MemoryStore, Error>
+pub fn read<R: Read>(
+    alloc: Global,
+    keys: Keys,
+    reader: &mut R,
+) -> Result<MemoryStore<'static>, Error>
     ensures read { IfOk result (λ store. IsReadFrom (R.remaining reader.old) store) }
     ensures fault { IfErr result (λ e. IsReadFault (R.remaining reader.old) e) }
     // Input that is records is read, unless the reader fails or memory runs out.
@@ -101,7 +104,7 @@ pub fn read<R: Read>(alloc: Global, keys: Keys, reader: &mut R) -> Result<Memory
 ///
 /// # Errors
 /// `Record` with the number of the first that isn't one, `Memory`. The bytes are dropped.
-pub fn records_of(alloc: Global, keys: Keys, input: Vec<u8>) -> Result<MemoryStore, Error>
+pub fn records_of(alloc: Global, keys: Keys, input: Vec<u8>) -> Result<MemoryStore<'static>, Error>
     ensures read { IfOk result (λ store. (records : List Record) × AreRecords records input.items × (store ≡ stored records)) }
     ensures fault { IfErr result (λ e. IsRecordFault input.items e) }
     // Input that is records is read, unless memory runs out.
@@ -109,7 +112,7 @@ pub fn records_of(alloc: Global, keys: Keys, input: Vec<u8>) -> Result<MemorySto
         → MatchResult result (λ store. store ≡ stored records) (λ e. e ≡ Error.Memory) }
 {
     let objects = places_of(alloc, keys, input.as_slice())?;
-    Ok(MemoryStore::over(input, objects))
+    Ok(MemoryStore::over(alloc, CowSlice::Owned(input), objects))
 }
 
 /// The objects of the records that the bytes are, in a store that borrows the bytes and copies none. Of two records of one id the later
@@ -117,7 +120,7 @@ pub fn records_of(alloc: Global, keys: Keys, input: Vec<u8>) -> Result<MemorySto
 ///
 /// # Errors
 /// `Record` with the number of the first that isn't one, `Memory`.
-pub fn records_in(alloc: Global, keys: Keys, bytes: &[u8]) -> Result<LentStore<'_>, Error>
+pub fn records_in(alloc: Global, keys: Keys, bytes: &[u8]) -> Result<MemoryStore<'_>, Error>
     ensures read { IfOk result (λ store. (records : List Record) × AreRecords records bytes.now × (store ≡ stored records)) }
     ensures fault { IfErr result (λ e. IsRecordFault bytes.now e) }
     // Bytes that are records are read, unless memory runs out.
@@ -125,7 +128,7 @@ pub fn records_in(alloc: Global, keys: Keys, bytes: &[u8]) -> Result<LentStore<'
         → MatchResult result (λ store. store ≡ stored records) (λ e. e ≡ Error.Memory) }
 {
     let objects = places_of(alloc, keys, bytes)?;
-    Ok(LentStore::over(bytes, objects))
+    Ok(MemoryStore::over(alloc, CowSlice::Borrowed(bytes), objects))
 }
 
 /// How many bytes the record of a short commit has. It serves to guess how many records there are.

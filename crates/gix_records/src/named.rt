@@ -4,9 +4,10 @@ ghost use Rattle.gix_records.specs.Records.{Record, AreRecords, IsRecordFault, s
 ghost use Rattle.gix_records.specs.NamedRecords.{IsNamedRecord, AreNamed, BeginsNamed, IsNameFault};
 
 use crate::front::record_at;
-use crate::{Error, LentStore, records_in};
+use crate::{Error, records_in};
 use gix_hash::Keys;
 use gix_names::is_named;
+use gix_object::memory::MemoryStore;
 use std::alloc::Global;
 
 /// The objects of the records that the bytes are, as [`records_in`] gives them, where each record's id is the one that its object has: the
@@ -16,7 +17,7 @@ use std::alloc::Global;
 /// # Errors
 /// `Record` with the number of the first that isn't one, and `Name` with the number and the id of the first whose id is another than its
 /// object has, where all are records. `Memory`.
-pub fn named_records_in(alloc: Global, keys: Keys, bytes: &[u8]) -> Result<LentStore<'_>, Error>
+pub fn named_records_in(alloc: Global, keys: Keys, bytes: &[u8]) -> Result<MemoryStore<'_>, Error>
     ensures read { IfOk result (λ store. (records : List Record) × AreRecords records bytes.now × All IsNamedRecord records
         × (store ≡ stored records)) }
     ensures named { IfOk result (λ store. AreNamed store) }

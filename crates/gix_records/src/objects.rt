@@ -1,14 +1,12 @@
 //! Objects that were compared with their ids.
-ghost use Rattle.std.specs.Prelude.{◌≡◌, ◌↔◌, IsTrue, length, is_some, OnOk, OnErr, IfSome};
+ghost use Rattle.std.specs.Prelude.{◌≡◌, ◌↔◌, IsTrue, is_some, OnOk, OnErr};
 ghost use Rattle.std.specs.FinMap as map;
 ghost use Rattle.gix_names.specs.Named.{IsNamed};
 ghost use Rattle.gix_records.specs.NamedRecords.{AreNamed};
 
-use crate::LentStore;
-use gix_hash::hashtable::IdMap;
 use gix_hash::{Keys, ObjectId};
 use gix_object::Kind;
-use gix_object::memory::Stored;
+use gix_object::memory::MemoryStore;
 use std::alloc::{AllocError, Global};
 use std::marker::Model;
 
@@ -16,25 +14,22 @@ use std::marker::Model;
 /// by SHA-256 for ids of 32. No object is put in under another id, so no reader of the store has to compare it again.
 #[derive(Drop)]
 pub struct NamedObjects {
-    places: IdMap<Stored>,
-    bytes: Vec<u8>,
+    store: MemoryStore<'static>,
 }
 
 impl Model for NamedObjects {
-    ghost use Rattle.std.specs.Prelude.{length};
     ghost use Rattle.std.specs.FinMap as map;
     ghost use Rattle.gix_hash.specs.Id.{id_code};
     ghost use Rattle.gix_object.specs.Object.{Objects, object_code};
-    ghost use Rattle.gix_object.specs.MemoryStore.{objects_at, AreWithin};
     ghost use Rattle.gix_records.specs.NamedRecords.{AreNamed};
 
     ghost Value = { Objects };
 
     ghost coded = { map.code id_code object_code };
 
-    ghost view = { λ s. objects_at s.bytes.items s.places };
+    ghost view = { λ s. s.store };
 
-    ghost invariant = { λ s. AreWithin s.places (length s.bytes.items) × AreNamed (objects_at s.bytes.items s.places) };
+    ghost invariant = { λ s. AreNamed s.store };
 }
 
 impl NamedObjects {
@@ -44,8 +39,7 @@ impl NamedObjects {
         ensures named { AreNamed result }
     {
         NamedObjects {
-            places: IdMap::new(alloc, keys),
-            bytes: Vec::new(alloc),
+            store: MemoryStore::new(alloc, keys),
         }
     }
 
@@ -60,39 +54,35 @@ impl NamedObjects {
         ensures err { OnErr result (self.new ≡ self.old) }
         ensures named { AreNamed self.new }
     {
-        let start = self.bytes.len();
-        self.bytes.extend_from_slice(bytes)?;
-        let end = self.bytes.len();
-        self.places.insert(id, Stored { kind, start, end })?;
-        Ok(())
+        self.store.insert(id, kind, bytes)
     }
 
     /// Whether there is an object of this id.
     pub fn contains(&self, id: &ObjectId) -> bool
         ensures { result ≡ is_some (map.get self.now id.now) }
     {
-        self.places.get(id).is_some()
+        self.store.contains(id)
     }
 
     /// How many objects there are.
     pub fn len(&self) -> usize
         ensures { result ≡ map.len self.now }
     {
-        self.places.len()
+        self.store.len()
     }
 
     /// Whether there is no object.
     pub fn is_empty(&self) -> bool
         ensures { IsTrue result ↔ (map.len self.now ≡ 0) }
     {
-        self.len() == 0
+        self.store.is_empty()
     }
 
-    /// The store of these objects. It borrows them, and copies none until one is looked up.
-    pub fn store(&self) -> LentStore<'_>
-        ensures exact { result ≡ self.now }
+    /// The store of these objects.
+    pub fn store(&self) -> &MemoryStore<'static>
+        ensures exact { result.now ≡ self.now }
         ensures named { AreNamed self.now }
     {
-        LentStore::lent(self.bytes.as_slice(), &self.places)
+        &self.store
     }
 }

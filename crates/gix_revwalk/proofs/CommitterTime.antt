@@ -9,6 +9,8 @@ use Rattle.gix_object.specs.CommitItems.{AtTree, AtParents, AtCommitter, Front, 
 use Rattle.gix_object.specs.declared.commit.CommitRefIter.{CommitRefIter}
 use Rattle.gix_object.specs.declared.commit.Signature.{Signature}
 use Rattle.gix_object.specs.Find.{FindsCommit}
+use Rattle.gix_revwalk.specs.Either.{seconds_told}
+use Rattle.gix_revwalk.specs.Reading.{ReadsSeconds}
 use Rattle.gix_revwalk.proofs.Committer.{fault_unread}
 use Rattle.gix_revwalk.proofs.ReadsWhole.{IsParentsFront, ended, faulty, parent, author, parents_front}
 
@@ -71,5 +73,14 @@ module _ (objects : Objects) (bad : ObjectId → Type 0) (i : ObjectId) (items :
   pub found_read : (signature : Signature) → read ≡ Ok signature → (time : ℤ) → time ≡ seconds_of signature.bytes.now → HasTime objects i time
   found_read signature e time t = subst (HasTime objects i) (sym t) (committer_read objects i found.0 found.1 signature.bytes.now (ap first_committer (sym found.2) ∙ sym shown ∙ ap signature_shown e))
 
-  pub found_unread : (fault : DecodeError) → read ≡ Err fault → time_of objects i ≡ pos 0
-  found_unread fault e = committer_unread objects i found.0 found.1 fault (ap first_committer (sym found.2) ∙ sym shown ∙ ap signature_shown e)
+abbrev pub SaysTime : Objects → ObjectId → Result ℤ DecodeError → Type 0
+SaysTime objects i (Ok time) = HasTime objects i time
+SaysTime objects i (Err fault) = time_of objects i ≡ pos 0
+
+-- what a time that was read says
+pub says_time : (objects : Objects) (i : ObjectId) (time : Result ℤ DecodeError) → ReadsSeconds objects i time → SaysTime objects i time
+says_time objects i time h = subst (SaysTime objects i) (sym h.told) (go (first_committer (commit_items (kind_of i) h.bytes)) refl)
+  where
+    go : (r : Result (List ℕ) DecodeError) → first_committer (commit_items (kind_of i) h.bytes) ≡ r → SaysTime objects i (seconds_told r)
+    go (Ok signature) e = committer_read objects i h.bytes h.stored signature e
+    go (Err fault) e = committer_unread objects i h.bytes h.stored fault e

@@ -1,5 +1,5 @@
 -- How walks read a commit: by its row as long as rows are in use, or else from the store.
-use Rattle.std.specs.Prelude.{◌≡◌, ℕ, List, [], if◌then◌else◌, Bool, true, false, Option, Some, None, Result, Ok, Err, IfOk, IfErr}
+use Rattle.std.specs.Prelude.{◌≡◌, ℕ, ℤ, List, [], if◌then◌else◌, Bool, true, false, Option, Some, None, Result, Ok, Err, IfOk, IfErr}
 use Rattle.std.specs.FinMap as map_of
 use Rattle.gix_hash.specs.declared.ObjectId.{ObjectId}
 use Rattle.gix_object.specs.declared.Kind.TheVariants as object
@@ -62,3 +62,9 @@ pub record ReadsHeader (objects : Objects) (i : ObjectId) (header : Header) : Ty
   pub stored : map_of.get objects i ≡ Some (record { kind = object.Commit; bytes = bytes })
   pub parents : header.parent_ids.items ≡ (scanned mode.All (commit_items (kind_of i) bytes)).0
   pub time : header.time ≡ seconds_told (first_committer (commit_items (kind_of i) bytes))
+
+-- a time is that of the commit that is stored at an id
+pub record ReadsSeconds (objects : Objects) (i : ObjectId) (time : Result ℤ DecodeError) : Type 0 where
+  pub bytes : List ℕ
+  pub stored : map_of.get objects i ≡ Some (record { kind = object.Commit; bytes = bytes })
+  pub told : time ≡ seconds_told (first_committer (commit_items (kind_of i) bytes))

@@ -1,5 +1,5 @@
 //! What a commit's bytes say of its parents and its committer.
-ghost use Rattle.std.specs.Prelude.{◌≡◌, ◌≢◌, ◌≤◌, IfOk, IfErr, IsOk, length};
+ghost use Rattle.std.specs.Prelude.{◌≡◌, ◌≢◌, ◌≤◌, [], None, Err, IfOk, IfErr, IfSome, IsOk, length};
 ghost use Rattle.std.specs.Result.{result_map_both};
 ghost use Rattle.gix_object.specs.CommitRefIter.{commit_items_left, first_committer, signature_shown};
 ghost use Rattle.gix_object.specs.declared.Kind.TheVariants as object;
@@ -26,6 +26,36 @@ pub struct Scanned {
     pub fault: Option<decode::Error>,
 }
 
+/// Adds the parents that a commit's items name: all of them, or the first alone. The answer is the fault that ended the reading, where no
+/// item after the parents comes before it. The items behind those that were read are left.
+#[inline(always)]
+fn read_parents(
+    parents: Parents,
+    items: &mut CommitRefIter<'_>,
+    parent_ids: &mut ParentIds,
+) -> Result<Option<decode::Error>, AllocError>
+    requires empty { parent_ids.old.items ≡ [] }
+    requires room { 1 ≤ parent_ids.old.capacity }
+    ensures ok { IfOk result (λ fault. (parent_ids.new.items, fault) ≡ scanned parents (commit_items_left items.old)) }
+    ensures fault { IfOk result (λ fault. IfSome fault (λ e. first_committer (commit_items_left items.old) ≡ Err e)) }
+    ensures left { IfOk result (λ fault. fault ≡ None
+        → first_committer (commit_items_left items.new) ≡ first_committer (commit_items_left items.old)) }
+    ensures succeeds { length (scanned parents (commit_items_left items.old)).0 ≤ 1 → IsOk result }
+{
+    loop {
+        match items.next_parent() {
+            Ok(Some(id)) => {
+                parent_ids.push(id)?;
+                if let Parents::First = parents {
+                    return Ok(None);
+                }
+            }
+            Ok(None) => return Ok(None),
+            Err(fault) => return Ok(Some(fault)),
+        }
+    }
+}
+
 /// Reads the parents that a commit's items name: all of them, or the first alone. Lists of at most one parent take no memory.
 ///
 /// # Errors
@@ -41,27 +71,8 @@ pub fn scan(
     ensures succeeds { length (scanned parents (commit_items_left items.entry)).0 ≤ 1 → IsOk result }
 {
     let mut parent_ids = ParentIds::new(alloc);
-    loop {
-        match items.next_parent() {
-            Ok(Some(id)) => {
-                parent_ids.push(id)?;
-                if let Parents::First = parents {
-                    return Ok(Scanned {
-                        parent_ids,
-                        fault: None,
-                    });
-                }
-            }
-            Ok(None) => return Ok(Scanned {
-                parent_ids,
-                fault: None,
-            }),
-            Err(fault) => {
-                let fault = Some(fault);
-                return Ok(Scanned { parent_ids, fault });
-            }
-        }
-    }
+    let fault = read_parents(parents, &mut items, &mut parent_ids)?;
+    Ok(Scanned { parent_ids, fault })
 }
 
 /// All parents that a commit's items name, up to the first item after them, and the committer's time.
@@ -90,25 +101,15 @@ fn read_front<'a>(alloc: Global, mut items: CommitRefIter<'a>) -> Result<Front<'
     ensures succeeds { length (scanned mode.All (commit_items_left items.entry)).0 ≤ 1 → IsOk result }
 {
     let mut parent_ids = ParentIds::new(alloc);
-    loop {
-        match items.next_parent() {
-            Ok(Some(id)) => parent_ids.push(id)?,
-            Ok(None) => {
-                let committer = items.committer();
-                return Ok(Front {
-                    parent_ids,
-                    committer,
-                });
-            }
-            Err(fault) => {
-                let committer = Err(fault);
-                return Ok(Front {
-                    parent_ids,
-                    committer,
-                });
-            }
-        }
-    }
+    let fault = read_parents(Parents::All, &mut items, &mut parent_ids)?;
+    let committer = match fault {
+        None => items.committer(),
+        Some(fault) => Err(fault),
+    };
+    Ok(Front {
+        parent_ids,
+        committer,
+    })
 }
 
 /// Looks a commit up, and reads its front, which `text` then holds.
@@ -132,7 +133,9 @@ where
 }
 
 /// The seconds of a committer.
-fn seconds_of(committer: Result<Signature<'_>, decode::Error>) -> Result<i64, decode::Error>
+pub(crate) fn seconds_of(
+    committer: Result<Signature<'_>, decode::Error>,
+) -> Result<i64, decode::Error>
     ensures { result ≡ seconds_told (signature_shown committer.entry) }
 {
     match committer {

@@ -7,13 +7,15 @@ ghost use Rattle.gix_object.specs.declared.Kind.TheVariants as object;
 ghost use Rattle.gix_object.specs.declared.find.existing_iter.Error.TheVariants as existing;
 ghost use Rattle.gix_object.specs.Find.{IsExistingFault};
 ghost use Rattle.gix_revwalk.specs.Agreeing.{rows_in, rows_of};
-ghost use Rattle.gix_revwalk.specs.Reading.{ReadsHeader, ReadsRow, rows_used};
+ghost use Rattle.gix_revwalk.specs.Reading.{ReadsHeader, ReadsRow, ReadsSeconds, rows_used};
 
-use crate::read::{Header, find_header};
+use crate::read::{Header, find_header, seconds_of};
 use crate::row::{RowRead, find_row, read_row};
 use gix_commitgraph::{Commit, Graph};
 use gix_hash::ObjectId;
+use gix_object::commit::CommitRefIter;
 use gix_object::find::{Find, existing_iter};
+use gix_object::{Kind, decode};
 use std::alloc::{AllocError, Global};
 
 /// A store, and the rows of a commit-graph, which are read in place of its commits until one proves corrupt.
@@ -102,5 +104,27 @@ impl<F: Find> Source<F> {
             → IsExistingFault (F.objects self.old.objects) (F.faulty self.old.objects) id.now object.Commit why) }
     {
         find_header(self.alloc, &self.objects, id, &mut self.text)
+    }
+
+    /// The committer's time of a commit, from the store. Else the first fault, where it comes before a committer, and `Missing` where the
+    /// text ends before both.
+    ///
+    /// # Errors
+    ///
+    /// As [`find_header`].
+    #[inline(always)]
+    pub fn time(
+        &mut self,
+        id: &ObjectId,
+    ) -> Result<Result<i64, decode::Error>, existing_iter::Error>
+        ensures same { self.new ≡ record self.old { text = self.new.text } }
+        ensures reads { IfOk result (ReadsSeconds (F.objects self.old.objects) id.now) }
+        ensures fault { IfErr result (λ why. why ≢ existing.Memory
+            → IsExistingFault (F.objects self.old.objects) (F.faulty self.old.objects) id.now object.Commit why) }
+    {
+        self.objects
+            .find_kind_into(id, Kind::Commit, &mut self.text)?;
+        let items = CommitRefIter::from_bytes(&self.text, id.kind());
+        Ok(seconds_of(items.committer()))
     }
 }

@@ -162,22 +162,14 @@ impl<F: Find + Drop, P: Predicate + Drop> Simple<F, P> {
         ensures err { IfErr result (λ why. why ≡ stop.Store → F.faulty self.old.store id.now) }
         ensures kept { self.new ≡ self.old }
     {
-        let items = match self
-            .source
-            .objects
-            .find_commit_iter(id, &mut self.source.text)
-        {
-            Ok(items) => items,
+        let time = match self.source.time(id) {
+            Ok(time) => time,
             Err(existing_iter::Error::NotFound { .. }) => return Ok(0),
             Err(existing_iter::Error::ObjectKind { .. }) => return Ok(0),
             Err(existing_iter::Error::Store) => return Err(Stop::Store),
             Err(existing_iter::Error::Memory) => return Err(Stop::Memory),
         };
-        let signature = match items.committer() {
-            Ok(signature) => signature,
-            Err(_) => return Ok(0),
-        };
-        Ok(signature.seconds())
+        Ok(time.unwrap_or(0))
     }
 
     fn row_time(&self, id: &ObjectId, near: u32) -> i64

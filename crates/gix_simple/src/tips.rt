@@ -51,10 +51,6 @@ impl<F: Find + Drop, P: Predicate + Drop> Simple<F, P> {
         ensures err { IfErr result (IsTipFault (F.objects self.old.store) (F.faulty self.old.store) id.now) }
         ensures kept { self.new ≡ self.old }
     {
-        let items = self
-            .source
-            .objects
-            .find_commit_iter(id, &mut self.source.text)?;
-        Ok(items.committer()?.seconds())
+        Ok(self.source.time(id)??)
     }
 }

@@ -630,7 +630,7 @@ impl Asking<'_> {
         let name = self.question.name;
         if name != Name::Ahead {
             let store = part.gathering.store();
-            self.chosen.exclude_common(alloc, &store, graph)?;
+            self.chosen.exclude_common(alloc, store, graph)?;
         }
         if name == Name::Resolve {
             return Ok(self.write_ids(output)?);

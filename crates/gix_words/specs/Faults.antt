@@ -1,12 +1,10 @@
 -- Which fault of a run a fault of its input or of a walk is.
-use Rattle.gix_contained.specs.declared.Error.{Error as ContainedError}
-use Rattle.gix_contained.specs.declared.Error.TheVariants as contained_error
+use Rattle.gix_contained.specs.declared.Error.{Error as SearchError}
+use Rattle.gix_contained.specs.declared.Error.TheVariants as search_error
 use Rattle.gix_graph_check.specs.declared.Disagreement.{Disagreement}
 use Rattle.gix_graph_check.specs.declared.Disagreement.TheVariants as disagreement
 use Rattle.gix_records.specs.declared.Error.{Error as RecordsError}
 use Rattle.gix_records.specs.declared.Error.TheVariants as records
-use Rattle.gix_merge_base.specs.declared.Error.{Error as BasesError}
-use Rattle.gix_merge_base.specs.declared.Error.TheVariants as bases_error
 use Rattle.gix_object.specs.declared.find.existing_iter.Error.{Error as ExistingError}
 use Rattle.gix_object.specs.declared.find.existing_iter.Error.TheVariants as existing
 use Rattle.gix_simple.specs.declared.Error.{Error}
@@ -52,15 +50,10 @@ fault_of_topo_walk (topo_error.ObjectDecode e) = fault.Broken
 fault_of_topo_walk (topo_error.Find e) = fault_of_find e
 fault_of_topo_walk topo_error.Memory = fault.Memory
 
-abbrev pub fault_of_contained : ContainedError → Fault
-fault_of_contained (contained_error.Find e) = fault_of_find e
-fault_of_contained (contained_error.ObjectDecode e) = fault.Broken
-fault_of_contained contained_error.Memory = fault.Memory
-
-abbrev pub fault_of_bases : BasesError → Fault
-fault_of_bases (bases_error.Find e) = fault_of_find e
-fault_of_bases (bases_error.ObjectDecode e) = fault.Broken
-fault_of_bases bases_error.Memory = fault.Memory
+abbrev pub fault_of_search : SearchError → Fault
+fault_of_search (search_error.Find e) = fault_of_find e
+fault_of_search (search_error.ObjectDecode e) = fault.Broken
+fault_of_search search_error.Memory = fault.Memory
 
 abbrev pub fault_of_tree_walk : TreeError → Fault
 fault_of_tree_walk (tree_error.Find e) = fault_of_find e

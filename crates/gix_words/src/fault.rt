@@ -151,29 +151,15 @@ impl From<gix_topo::Error> for Fault {
 }
 
 impl From<gix_contained::Error> for Fault {
-    ghost use Rattle.gix_words.specs.Faults.{fault_of_contained};
+    ghost use Rattle.gix_words.specs.Faults.{fault_of_search};
 
-    ghost from_gives = { λ e r. r ≡ fault_of_contained e };
+    ghost from_gives = { λ e r. r ≡ fault_of_search e };
 
     fn from(error: gix_contained::Error) -> Fault {
         match error {
             gix_contained::Error::Find(fault) => Fault::from(fault),
             gix_contained::Error::ObjectDecode(_) => Fault::Broken,
             gix_contained::Error::Memory => Fault::Memory,
-        }
-    }
-}
-
-impl From<gix_merge_base::Error> for Fault {
-    ghost use Rattle.gix_words.specs.Faults.{fault_of_bases};
-
-    ghost from_gives = { λ e r. r ≡ fault_of_bases e };
-
-    fn from(error: gix_merge_base::Error) -> Fault {
-        match error {
-            gix_merge_base::Error::Find(fault) => Fault::from(fault),
-            gix_merge_base::Error::ObjectDecode(_) => Fault::Broken,
-            gix_merge_base::Error::Memory => Fault::Memory,
         }
     }
 }

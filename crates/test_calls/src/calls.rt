@@ -261,7 +261,7 @@ fn insert_queue(alloc: Global, told: &mut String) -> Result<(), Stop> {
 }
 
 /// The first byte of what is stored for an id.
-fn stored(alloc: Global, store: &MemoryStore, n: u8) -> Result<Option<u8>, Stop> {
+fn stored(alloc: Global, store: &MemoryStore<'_>, n: u8) -> Result<Option<u8>, Stop> {
     let mut buf = Vec::new(alloc);
     match store.find_into(&id(n), &mut buf) {
         Ok(Some(_)) => Ok(buf.first().copied()),
@@ -272,7 +272,7 @@ fn stored(alloc: Global, store: &MemoryStore, n: u8) -> Result<Option<u8>, Stop>
 }
 
 /// Whether a store holds the objects below this one, each with its own digit.
-fn stores_below(alloc: Global, store: &MemoryStore, n: u8) -> Result<bool, Stop> {
+fn stores_below(alloc: Global, store: &MemoryStore<'_>, n: u8) -> Result<bool, Stop> {
     for below in 1..9u8 {
         let want = if below < n { Some(below) } else { None };
         if stored(alloc, store, below)? != want {

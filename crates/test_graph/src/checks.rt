@@ -110,7 +110,7 @@ fn heads_are_in_rising_order(rt: HostRuntime) -> Result<(), Fail> {
 /// A stored commit: the byte of its id, the byte of its tree's, its committer's seconds, and the bytes of its parents.
 type Stored<'a> = (u8, u8, i64, &'a [u8]);
 
-fn store_of(alloc: Global, commits: &[Stored]) -> Result<MemoryStore, Fail> {
+fn store_of(alloc: Global, commits: &[Stored]) -> Result<MemoryStore<'static>, Fail> {
     let mut store = MemoryStore::new(alloc, Keys::KNOWN);
     for (byte, tree, time, parents) in commits {
         let mut text = format!(in alloc; "tree {}\n", id(*tree))?;

@@ -84,7 +84,7 @@ fn text(alloc: Global, n: u32) -> Result<String, AllocError> {
 }
 
 /// The commits of the rows.
-fn store(alloc: Global) -> Result<MemoryStore, AllocError> {
+fn store(alloc: Global) -> Result<MemoryStore<'static>, AllocError> {
     let mut store = MemoryStore::new(alloc, Keys::KNOWN);
     for n in 0..MANY {
         let text = text(alloc, n)?;

@@ -21,9 +21,10 @@ use gix_hash::{Keys, Kind, ObjectId};
 use gix_object::Kind as ObjectKind;
 use gix_object::commit::{CommitRefIter, Token};
 use gix_object::find::Find;
+use gix_object::memory::MemoryStore;
 use gix_object::tree::TreeRefIter;
 use gix_odb::Odb;
-use gix_records::{LentStore, NamedObjects};
+use gix_records::NamedObjects;
 use std::fmt::Display;
 use std::io::{BufWriter, Read, Write};
 use std::process::ExitCode;
@@ -155,7 +156,7 @@ fn write_records(
         }
     };
     let mut out = Vec::new(rt.alloc());
-    let count = write_reached(rt, &objects.store(), ids, true, &mut out)?;
+    let count = write_reached(rt, objects.store(), ids, true, &mut out)?;
     if count != objects.len() {
         failed(rt, &"more objects than are reached");
         return None;
@@ -191,7 +192,7 @@ fn write_some(
         };
         let waits = tips.last().is_some_and(|id| gathering.waits(id));
         write!(out, "{} {is_all} {waits}\n", gathering.len()).ok()?;
-        if write_reached(rt, &gathering.store(), tips, false, &mut out)? != gathering.len() {
+        if write_reached(rt, gathering.store(), tips, false, &mut out)? != gathering.len() {
             failed(rt, &"more objects than are reached");
             return None;
         }
@@ -202,7 +203,7 @@ fn write_some(
 /// Adds to `out` the records of the objects that are reached in a store, or their ids, and returns how many they are.
 fn write_reached(
     rt: &HostRuntime,
-    store: &LentStore<'_>,
+    store: &MemoryStore<'_>,
     ids: &[ObjectId],
     is_whole: bool,
     out: &mut Vec<u8>,

@@ -10,13 +10,13 @@ use std::cell::Cell;
 /// A store that counts its look-ups, also those of what it hasn't: one count for each digit that ids are made of. It never fails.
 #[derive(Drop)]
 pub struct Counted<'a> {
-    store: &'a MemoryStore,
+    store: &'a MemoryStore<'a>,
     counts: Cell<[u8; 16]>,
 }
 
 impl<'a> Counted<'a> {
     /// What this store has. Nothing was looked up yet.
-    pub fn new(store: &'a MemoryStore) -> Counted<'a> {
+    pub fn new(store: &'a MemoryStore<'a>) -> Counted<'a> {
         Counted {
             store,
             counts: Cell::new([0; 16]),

@@ -77,7 +77,7 @@ pub fn ids(alloc: Global, digits: &[u8]) -> Result<Vec<ObjectId>, AllocError> {
 /// Stores commit n of this time with these parents.
 pub fn insert_at(
     alloc: Global,
-    store: &mut MemoryStore,
+    store: &mut MemoryStore<'_>,
     n: u8,
     time: i64,
     parents: &[u8],
@@ -89,7 +89,7 @@ pub fn insert_at(
 /// Stores commit n, whose text ends behind its author line.
 pub fn insert_without_committer(
     alloc: Global,
-    store: &mut MemoryStore,
+    store: &mut MemoryStore<'_>,
     n: u8,
 ) -> Result<(), AllocError> {
     let text = format!(in alloc; "tree {TREE}\nauthor A <a@b> {n} +0000\n")?;
@@ -99,7 +99,7 @@ pub fn insert_without_committer(
 /// Stores commit n, whose first parent is 6, and whose second parent is named by a digit less.
 pub fn insert_with_broken_parent(
     alloc: Global,
-    store: &mut MemoryStore,
+    store: &mut MemoryStore<'_>,
     n: u8,
 ) -> Result<(), AllocError> {
     let six = format!(in alloc; "{}", id(6))?;
@@ -152,7 +152,7 @@ pub const PLAIN: History<'static> = History {
 };
 
 impl Odd {
-    fn insert(self, alloc: Global, store: &mut MemoryStore) -> Result<(), AllocError> {
+    fn insert(self, alloc: Global, store: &mut MemoryStore<'_>) -> Result<(), AllocError> {
         match self {
             Odd::None => Ok(()),
             Odd::WithoutCommitter => insert_without_committer(alloc, store, 9),
@@ -169,13 +169,13 @@ impl Odd {
 
 impl History<'_> {
     /// A store of all this.
-    pub fn store(&self, alloc: Global) -> Result<MemoryStore, AllocError> {
+    pub fn store(&self, alloc: Global) -> Result<MemoryStore<'static>, AllocError> {
         let mut store = MemoryStore::new(alloc, Keys::KNOWN);
         self.insert(alloc, &mut store)?;
         Ok(store)
     }
 
-    fn insert(&self, alloc: Global, store: &mut MemoryStore) -> Result<(), AllocError> {
+    fn insert(&self, alloc: Global, store: &mut MemoryStore<'_>) -> Result<(), AllocError> {
         for (n, parents) in self.commits {
             let time = i64::from(*n).wrapping_mul(self.scale);
             insert_at(alloc, store, *n, time, parents)?;
@@ -192,7 +192,7 @@ impl History<'_> {
 
 /// A store, and the id at which it fails, if at any.
 #[derive(Clone, Copy)]
-pub struct Failing<'a>(pub &'a MemoryStore, pub Option<ObjectId>);
+pub struct Failing<'a>(pub &'a MemoryStore<'a>, pub Option<ObjectId>);
 
 impl Find for Failing<'_> {
     ghost use Rattle.std.specs.Prelude.{◌≡◌, Some};
@@ -330,7 +330,7 @@ pub const ROOM: usize = 1024;
 /// Stores the commit of a 32-byte id.
 pub fn insert_long(
     alloc: Global,
-    store: &mut MemoryStore,
+    store: &mut MemoryStore<'_>,
     n: u8,
     parents: &[u8],
 ) -> Result<(), AllocError> {

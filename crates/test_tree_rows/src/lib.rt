@@ -45,7 +45,7 @@ pub fn tree_bytes(alloc: Global, entries: &[(&str, u8)]) -> Result<Vec<u8>, Allo
 }
 
 /// A store of these trees.
-pub fn store(alloc: Global, trees: &[Tree<'_>]) -> Result<MemoryStore, AllocError> {
+pub fn store(alloc: Global, trees: &[Tree<'_>]) -> Result<MemoryStore<'static>, AllocError> {
     let mut store = MemoryStore::new(alloc, Keys::KNOWN);
     for (digit, entries) in trees {
         let bytes = tree_bytes(alloc, entries)?;
@@ -273,7 +273,7 @@ fn tell<F: Find + Drop>(
 }
 
 impl Table<'_> {
-    fn store(&self, alloc: Global) -> Result<MemoryStore, AllocError> {
+    fn store(&self, alloc: Global) -> Result<MemoryStore<'static>, AllocError> {
         let mut store = store(alloc, self.trees)?;
         for (digit, entries) in self.trees {
             if *digit == 10 {

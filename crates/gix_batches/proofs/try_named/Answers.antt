@@ -30,9 +30,9 @@ returns-clause-whole c =
     let words = map string_bytes c.args.words.now in
     let o = c.args.objects.now in
     let l = c.in_ok-listing.listing in
-    let given : IsOf o (page_objects o) = (are_named o c.store-lent.ensures.named, refl) in
+    let given : IsOf o (page_objects o) = (are_named o c.store.ensures.named, refl) in
     let spelled = named_spelled (page_objects o) given.0 in
-    let ok = subst (λ (x : Objects). IfOk c.batch_of.result (λ batch. FillsBy (readable (reads_all_lines (Commits l.order (all_lines_to l.limit) l.tips.items l.hidden.items)) (with_rows [] x)) l.limit l.tips.items l.hidden.items c.args.skip c.args.commits.now c.batch_of.new.commits c.args.parents.now c.batch_of.new.parents batch l.order)) c.store-lent.ensures.exact c.batch_of.ensures.ok in
+    let ok = subst (λ (x : Objects). IfOk c.batch_of.result (λ batch. FillsBy (readable (reads_all_lines (Commits l.order (all_lines_to l.limit) l.tips.items l.hidden.items)) (with_rows [] x)) l.limit l.tips.items l.hidden.items c.args.skip c.args.commits.now c.batch_of.new.commits c.args.parents.now c.batch_of.new.parents batch l.order)) c.store.ensures.exact c.batch_of.ensures.ok in
     filled_promised words o (IsOf o) given spelled (FailsOver words o) l.limit l.tips.items l.hidden.items l.order c.in_ok-listing.ensures.ok
     (served_over words o (IsOf o) given spelled l.order l.limit l.tips.items l.hidden.items c.in_ok-listing.ensures.ok) c.args.skip c.args.commits.now c.batch_of.new.commits c.args.parents.now c.batch_of.new.parents c.batch_of.result ok
 
@@ -41,9 +41,9 @@ returns-clause-ending c =
     let words = map string_bytes c.args.words.now in
     let o = c.args.objects.now in
     let l = c.in_ok-listing.listing in
-    let given : IsOf o (page_objects o) = (are_named o c.store-lent.ensures.named, refl) in
+    let given : IsOf o (page_objects o) = (are_named o c.store.ensures.named, refl) in
     let spelled = named_spelled (page_objects o) given.0 in
-    let ok = subst (λ (x : Objects). IfOk c.batch_of.result (λ batch. FillsBy (readable (reads_all_lines (Commits l.order (all_lines_to l.limit) l.tips.items l.hidden.items)) (with_rows [] x)) l.limit l.tips.items l.hidden.items c.args.skip c.args.commits.now c.batch_of.new.commits c.args.parents.now c.batch_of.new.parents batch l.order)) c.store-lent.ensures.exact c.batch_of.ensures.ok in
+    let ok = subst (λ (x : Objects). IfOk c.batch_of.result (λ batch. FillsBy (readable (reads_all_lines (Commits l.order (all_lines_to l.limit) l.tips.items l.hidden.items)) (with_rows [] x)) l.limit l.tips.items l.hidden.items c.args.skip c.args.commits.now c.batch_of.new.commits c.args.parents.now c.batch_of.new.parents batch l.order)) c.store.ensures.exact c.batch_of.ensures.ok in
     filled_fails words o (IsOf o) given spelled (FailsOver words o) l.limit l.tips.items l.hidden.items l.order c.in_ok-listing.ensures.ok
     (served_over words o (IsOf o) given spelled l.order l.limit l.tips.items l.hidden.items c.in_ok-listing.ensures.ok) c.args.skip c.args.commits.now c.batch_of.new.commits c.args.parents.now c.batch_of.new.parents c.batch_of.result ok
 
@@ -52,8 +52,8 @@ returns-clause-fails c =
     let words = map string_bytes c.args.words.now in
     let o = c.args.objects.now in
     let l = c.in_ok-listing.listing in
-    let given : IsOf o (page_objects o) = (are_named o c.store-lent.ensures.named, refl) in
+    let given : IsOf o (page_objects o) = (are_named o c.store.ensures.named, refl) in
     let spelled = named_spelled (page_objects o) given.0 in
-    let err = subst (λ (x : Objects). IfErr c.batch_of.result (λ e. Serves (HasObject x []) (readable (reads_all_lines (Commits l.order (all_lines_to l.limit) l.tips.items l.hidden.items)) (with_rows [] x)) [] (Some []) (Commits l.order (all_lines_to l.limit) l.tips.items l.hidden.items) (Err e) (Some []))) c.store-lent.ensures.exact c.batch_of.ensures.err in
+    let err = subst (λ (x : Objects). IfErr c.batch_of.result (λ e. Serves (HasObject x []) (readable (reads_all_lines (Commits l.order (all_lines_to l.limit) l.tips.items l.hidden.items)) (with_rows [] x)) [] (Some []) (Commits l.order (all_lines_to l.limit) l.tips.items l.hidden.items) (Err e) (Some []))) c.store.ensures.exact c.batch_of.ensures.err in
     unstarted_fails words o (IsOf o) given spelled (FailsOver words o) l.limit l.tips.items l.hidden.items l.order c.in_ok-listing.ensures.ok
     (served_over words o (IsOf o) given spelled l.order l.limit l.tips.items l.hidden.items c.in_ok-listing.ensures.ok) c.batch_of.result err c.batch_of.ensures.unwritten

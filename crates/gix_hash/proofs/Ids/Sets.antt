@@ -1,5 +1,6 @@
 -- What the map of the values of ids says of the set of the ids that have one.
 use Rattle.std.proofs.Common.{◌≡◌, ◌+◌, Bool, true, false, cond, not, ◌&&◌, ◌||◌, List, [], ◌∷◌, length, T, Some, None, is_some, Option, is_eq, is_lt, Ordering, Less, Equal, Greater, refl, sym, ap, ◌∙◌, arith}
+use Rattle.std.proofs.lemmas.Bool.{and_right}
 use Rattle.std.specs.List.{list_any}
 use Rattle.std.specs.FinSet as set
 use Rattle.std.specs.FinMap as map
@@ -18,29 +19,25 @@ none_or : {X : Type 0} (b : Bool) (o : Option X) → is_some (cond b None o) ≡
 none_or true o = refl
 none_or false o = refl
 
-pub has : {X : Type 0} (m : map.FinMap id_cmp X) (i : ObjectId) → is_some (map.get m i) ≡ set.contains (ids_with_value m) i
-has m i = map.contains_key-keys m i ∙ sym (set.contains-from_list id_total (map.keys m) i)
+pub has : {X : Type 0} (m : map.FinMap id_cmp X) (i : ObjectId) → set.contains (ids_with_value m) i ≡ is_some (map.get m i)
+has m i = set.contains-from_list id_total (map.keys m) i ∙ sym (map.contains_key-keys m i)
 
 pub none : ids_with_value (map.empty {X = Unit {0}} {R = id_cmp}) ≡ set.empty
-none = set.same_set id_total id_apart _ _ (λ i. sym (has map.empty i) ∙ ap is_some (map.get-empty id_cmp i) ∙ sym (set.contains-empty id_cmp i))
+none = set.same_set id_total id_apart _ _ (λ i. has map.empty i ∙ ap is_some (map.get-empty id_cmp i) ∙ sym (set.contains-empty id_cmp i))
 
 pub inserted : {X : Type 0} (m : map.FinMap id_cmp X) (i : ObjectId) (v : X) → ids_with_value (map.insert m i v) ≡ set.insert (ids_with_value m) i
-inserted m i v = set.same_set id_total id_apart _ _ (λ q.
-    sym (has (map.insert m i v) q) ∙ ap is_some (map.get-insert id_total m i v q) ∙ some_or (is_same q i) v (map.get m q)
-    ∙ ap (λ b. is_same q i || b) (has m q) ∙ sym (set.contains-insert id_total (ids_with_value m) i q))
+inserted m i v = set.same_set id_total id_apart _ _ (λ q. simp (has, map.get-insert id_total m i v q, set.contains-insert id_total) (some_or (is_same q i) v (map.get m q)))
 
 pub removed : {X : Type 0} (m : map.FinMap id_cmp X) (i : ObjectId) → ids_with_value (map.remove m i) ≡ set.remove (ids_with_value m) i
-removed m i = set.same_set id_total id_apart _ _ (λ q.
-    sym (has (map.remove m i) q) ∙ ap is_some (map.get-remove id_total m i q) ∙ none_or (is_same q i) (map.get m q)
-    ∙ ap (λ b. not (is_same q i) && b) (has m q) ∙ sym (set.contains-remove id_total (ids_with_value m) i q))
+removed m i = set.same_set id_total id_apart _ _ (λ q. simp (has, map.get-remove id_total m i q, set.contains-remove id_total) (none_or (is_same q i) (map.get m q)))
 
-pub none_removed : (i : ObjectId) → set.empty {R = id_cmp} ≡ set.remove set.empty i
-none_removed i = set.same_set id_total id_apart _ _ (λ q. set.contains-empty id_cmp q
-    ∙ none_and (not (is_same q i)) ∙ ap (λ b. not (is_same q i) && b) (sym (set.contains-empty id_cmp q)) ∙ sym (set.contains-remove id_total set.empty i q))
-  where
-    none_and : (b : Bool) → false ≡ (b && false)
-    none_and true = refl
-    none_and false = refl
+pub none_in : (s : set.FinSet id_cmp) (i : ObjectId) → set.len s ≡ 0 → set.contains s i ≡ false
+none_in s i is_none = ap (λ t. set.contains t i) (set.empty_of_len s is_none) ∙ set.contains-empty id_cmp i
+
+pub none_removed : (s : set.FinSet id_cmp) (i : ObjectId) → set.len s ≡ 0 → set.remove s i ≡ s
+none_removed s i is_none = set.same_set id_total id_apart _ _ (λ q. set.contains-remove id_total s i q ∙ and_right (not (is_same q i)) _ (none_in s q is_none) ∙ sym (none_in s q is_none))
+
+pub ruleset removals = (has, removed, none_in, none_removed)
 
 -- a map's ids rise, so none of them is counted twice
 first : (a b : Bool) → T (a && b) → T a

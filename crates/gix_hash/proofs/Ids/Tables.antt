@@ -1,5 +1,5 @@
 -- What a table of the ids of one length says of the map of all ids, and what a change of the table makes of the map.
-use Rattle.std.proofs.Common.{ℕ, nat_eq, ◌≡◌, ◌+◌, Bool, true, false, cond, ◌||◌, List, [], ◌∷◌, ◌++◌, map as mapped, length, Option, Some, None, is_some, Result, Ok, Err, OnErr, refl, sym, ap, ◌∙◌, arith}
+use Rattle.std.proofs.Common.{ℕ, nat_eq, ◌≡◌, ◌+◌, Bool, true, false, cond, ◌||◌, List, [], ◌∷◌, ◌++◌, map as mapped, length, Option, Some, None, is_some, refl, sym, ap, ◌∙◌, arith}
 use Rattle.std.proofs.lemmas.List.{append-nil}
 use Rattle.std.specs.List.{AllByRecursion, IsDistinct}
 use Rattle.std.specs.FinMap as map
@@ -11,11 +11,6 @@ use Rattle.gix_hash.specs.declared.ObjectId.TheVariants as id
 use Rattle.gix_hash.specs.Id.{id_cmp, is_same, is_among}
 use Rattle.gix_hash.specs.Tables.{short_id, long_id, with_all, map_of}
 use Rattle.gix_hash.proofs.Ids.Membership.{id_total, id_apart, same_back}
-
--- what is so is so where a call failed
-pub on_err : {A E P : Type 0} (r : Result A E) → P → OnErr r P
-on_err (Ok x) p = tt
-on_err (Err e) p = p
 
 -- what `==` of bytes computes
 abbrev tied : {N : ℕ} → Bytes N → Bytes N → Bool
@@ -75,28 +70,28 @@ module _ {X : Type 0} where
   no_short : (long : List (Bytes 32 × X)) (k : Bytes 20) → map.get (with_all long_id long (map.empty {R = id_cmp})) (short_id k) ≡ None
   no_short long k = passed long_id (short_id k) (λ l. refl) long map.empty ∙ map.get-empty id_cmp (short_id k)
 
-  in_short : (long : List (Bytes 32 × X)) (short : List (Bytes 20 × X)) (k : Bytes 20) → map.get (map_of short long) (short_id k) ≡ lookup (tied k) short
-  in_short long short k = reached short_id same_short k short _ (no_short long k)
+  pub in_short : (long : List (Bytes 32 × X)) (short : List (Bytes 20 × X)) (b : List ℕ) → map.get (map_of short long) (id.Sha1 b) ≡ lookup (tied (record { 0 = b })) short
+  in_short long short b = reached short_id same_short (record { 0 = b }) short _ (no_short long (record { 0 = b }))
 
-  in_long : (short : List (Bytes 20 × X)) (long : List (Bytes 32 × X)) (k : Bytes 32) → map.get (map_of short long) (long_id k) ≡ lookup (tied k) long
-  in_long short long k = passed short_id (long_id k) (λ s. refl) short _ ∙ reached long_id same_long k long map.empty (map.get-empty id_cmp (long_id k))
+  pub in_long : (short : List (Bytes 20 × X)) (long : List (Bytes 32 × X)) (b : List ℕ) → map.get (map_of short long) (id.Sha256 b) ≡ lookup (tied (record { 0 = b })) long
+  in_long short long b = passed short_id (id.Sha256 b) (λ s. refl) short _ ∙ reached long_id same_long (record { 0 = b }) long map.empty (map.get-empty id_cmp (id.Sha256 b))
 
   pub the_short : (long : List (Bytes 32 × X)) → Half X short_id (λ short. map_of short long)
   the_short long = record {
     same = same_short;
-    inside = in_short long;
+    inside = λ es k. in_short long es k.0;
     each = λ P here there. elim [
       | id.Sha1 b ↦ here (record { 0 = b })
-      | id.Sha256 b ↦ there (id.Sha256 b) (λ k. refl) (λ es fs. in_long es long (record { 0 = b }) ∙ sym (in_long fs long (record { 0 = b })))
+      | id.Sha256 b ↦ there (id.Sha256 b) (λ k. refl) (λ es fs. in_long es long b ∙ sym (in_long fs long b))
     ];
   }
 
   pub the_long : (short : List (Bytes 20 × X)) → Half X long_id (λ long. map_of short long)
   the_long short = record {
     same = same_long;
-    inside = in_long short;
+    inside = λ es k. in_long short es k.0;
     each = λ P here there. elim [
-      | id.Sha1 b ↦ there (id.Sha1 b) (λ k. refl) (λ es fs. in_short es short (record { 0 = b }) ∙ sym (in_short fs short (record { 0 = b })))
+      | id.Sha1 b ↦ there (id.Sha1 b) (λ k. refl) (λ es fs. in_short es short b ∙ sym (in_short fs short b))
       | id.Sha256 b ↦ here (record { 0 = b })
     ];
   }
@@ -107,11 +102,8 @@ module _ {X : Type 0} where
       counted short_id same_short short _ s (no_short long)
       ∙ ap (λ n. length short + n) (counted long_id same_long long map.empty l (λ k. map.get-empty id_cmp (long_id k)) ∙ ap (λ n. length long + n) (map.len-empty id_cmp X) ∙ omega arith)
 
--- what the map has at an id is what the id's table has, and so with changes: `m` is the map, and `i` is the id of the key
+-- what a change of a table makes of the map: `m` is the map, and `i` is the id of the key
 module _ {N : ℕ} {X : Type 0} {id_of : Bytes N → ObjectId} {whole : List (Bytes N × X) → map.FinMap id_cmp X} (h : Half X id_of whole) (m : map.FinMap id_cmp X) where
-  pub holds : (es : List (Bytes N × X)) (k : Bytes N) (i : ObjectId) → whole es ≡ m → i ≡ id_of k → lookup (tied k) es ≡ map.get m i
-  holds es k i is_whole is = sym (h.inside es k) ∙ ap (λ n. map.get n (id_of k)) is_whole ∙ ap (map.get m) (sym is)
-
   changed : (old new : List (Bytes N × X)) (k : Bytes N) (w : Option X) → ((q : Bytes N) → lookup (tied q) new ≡ cond (tied k q) w (lookup (tied q) old))
       → (q : ObjectId) → map.get (whole new) q ≡ cond (is_same q (id_of k)) w (map.get (whole old) q)
   changed old new k w updates = h.each _
@@ -136,3 +128,6 @@ module _ {X : Type 0} where
   listed_both short long i =
       listed short_id i short (mapped long_id (keys_of long)) (with_all long_id long map.empty)
       (ap (is_among i) (sym (append-nil (mapped long_id (keys_of long)))) ∙ listed long_id i long [] map.empty (ap is_some (sym (map.get-empty id_cmp i))))
+
+  pub nothing_in_none : (m : map.FinMap id_cmp X) (i : ObjectId) → map.len m ≡ 0 → None ≡ map.get m i
+  nothing_in_none m i no_value = sym (ap (λ n. map.get n i) (map.empty_of_len m no_value) ∙ map.get-empty id_cmp i)

@@ -12,9 +12,10 @@ use Rattle.gix_paint.specs.declared.Hidden.{Hidden}
 use Rattle.gix_paint.specs.Painting.{IsFaultAt}
 use Rattle.gix_simple.specs.declared.Error.{Error as WalkError}
 use Rattle.gix_simple.specs.Walk.{SimpleWalk, IsMade}
-use Rattle.gix_merge_base.specs.declared.Error.{Error}
+use Rattle.gix_contained.specs.declared.Error.{Error}
 use Rattle.gix_merge_base.specs.Bases.{IsCommon}
-use Rattle.gix_merge_base.specs.Errors.{error_of, error_of_walk}
+use Rattle.gix_contained.specs.Contained.{error_of}
+use Rattle.gix_merge_base.specs.Errors.{error_of_walk}
 use Rattle.gix_revwalk.specs.declared.Info.{Info}
 use Rattle.gix_revwalk.specs.Infos.{given}
 use Rattle.gix_revwalk.specs.Agreeing.{IsAgreeing}

@@ -47,9 +47,7 @@ pub mod queue {
 }
 
 pub mod records {
-    pub use gix_parts::records::{
-        Error, LentStore, READS, read, read_to_end, records_in, records_of,
-    };
+    pub use gix_parts::records::{Error, READS, read, read_to_end, records_in, records_of};
 }
 
 pub mod laws_of_parts {

@@ -67,7 +67,7 @@ fn a_recorder_used_again(rt: HostRuntime) -> Result<(), Fail> {
 }
 
 /// The sample, and the tree of a 32-byte id that holds a file `x`, cut to this many bytes.
-fn both_kinds(alloc: Global, len: usize) -> Result<MemoryStore, AllocError> {
+fn both_kinds(alloc: Global, len: usize) -> Result<MemoryStore<'static>, AllocError> {
     let mut store = store(alloc, &SAMPLE)?;
     let mut bytes = Vec::new(alloc);
     bytes.extend_from_slice(b"100644 x\0")?;
@@ -117,7 +117,7 @@ fn a_long_id_cut(rt: HostRuntime) -> Result<(), Fail> {
 }
 
 /// A tree that has the tree `d` of the sample so many times, under names of so many bytes.
-fn large(alloc: Global, times: usize, len: usize) -> Result<MemoryStore, AllocError> {
+fn large(alloc: Global, times: usize, len: usize) -> Result<MemoryStore<'static>, AllocError> {
     let mut store = store(alloc, &SAMPLE)?;
     let mut bytes = Vec::new(alloc);
     for _ in 0..times {

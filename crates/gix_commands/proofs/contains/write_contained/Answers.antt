@@ -1,6 +1,6 @@
 use Rattle.std.proofs.Common.{flat_map, refl, ap, ◌∙◌, [], ◌∷◌}
-use Rattle.gix_commands.proofs.Common.{err_from_is_err_and, line_of, fault_of_contained, not_selected, selected}
-use Rattle.gix_contained.specs.declared.Error.TheVariants as contained_error
+use Rattle.gix_commands.proofs.Common.{err_from_is_err_and, line_of, fault_of_search, not_selected, selected}
+use Rattle.gix_contained.specs.declared.Error.TheVariants as search_error
 use Rattle.gix_contained.specs.Contained.{FailsBy, Selects}
 use Rattle.gix_commands.proofs.ServedCalls.{call_failed, call_written, nothing_written}
 use Rattle.gix_commands.proofs.contains.write_contained.Goals as goal
@@ -8,7 +8,7 @@ use Rattle.gix_commands.proofs.contains.write_contained.Goals as goal
 pub returns-in_err-those : goal.returns-in_err-those
 returns-in_err-those g c =
     let p = err_from_is_err_and c.from_residual.result c.from_residual.ensures.1 in
-    call_failed _ _ _ _ _ c.args.ids.items _ c.over-objects.ensures _ c.as_slice.ensures.value (λ all rows ids why. FailsBy all (λ i. ⊥) rows (c.args.tip ∷ []) ids why) fault_of_contained contained_error.Memory refl
+    call_failed _ _ _ _ _ c.args.ids.items _ c.over-objects.ensures _ c.as_slice.ensures.value (λ all rows ids why. FailsBy all (λ i. ⊥) rows (c.args.tip ∷ []) ids why) fault_of_search search_error.Memory refl
     (λ why f. not_selected why f) _ c.in_err-those.field-0.0 _ p.1 p.2 c.in_err-those.ensures.err
 
 pub returns-in_err-lines : goal.returns-in_err-lines

@@ -1,5 +1,4 @@
 use Rattle.std.proofs.Common.{sym, [], ◌++◌, ◌∷◌}
-use Rattle.std.proofs.lemmas.Result.{err_from_is_err_and}
 use Rattle.gix_merge_base.proofs.Gathering.{drawn_one, drawn_all, gather_failed}
 use Rattle.gix_containing.proofs.Gathered.{no_children, children_more}
 use Rattle.gix_containing.proofs.children.children_of.Goals as goal
@@ -13,22 +12,20 @@ loop-answer-init g c = record {
 
 pub loop-answer-preserved : goal.loop-answer-preserved
 loop-answer-preserved g c = record {
-  infos = c.loop-answer.invariant.infos ++ c.in_ok-info.info ∷ [];
-  drawn = drawn_one g.I.Iterator.next_gives _ _ _ _ _ _ c.loop-answer.invariant.drawn c.in-Some.ensures.steps c.in_ok-info.was;
-  are_children = children_more _ c.in_ok-info.info _ _ _ c.as_slice.ensures c.loop-answer.invariant.are_children c.in_ok-add_to_each.ensures;
+  infos = c.loop-answer.invariant.infos ++ c.in-Ok.info ∷ [];
+  drawn = drawn_one g.I.Iterator.next_gives _ _ _ _ _ _ c.loop-answer.invariant.drawn c.in-Some.ensures.steps c.in-Ok.is;
+  are_children = children_more _ c.in-Ok.info _ _ _ c.as_slice.ensures c.loop-answer.invariant.are_children c.in_ok-add_to_each.ensures;
 }
 
 pub loop-answer-preserved-in_ok-add_to_each : goal.loop-answer-preserved-in_ok-add_to_each
 loop-answer-preserved-in_ok-add_to_each g c = record {
-  infos = c.loop-answer.invariant.infos ++ c.in_ok-info.info ∷ [];
-  drawn = drawn_one g.I.Iterator.next_gives _ _ _ _ _ _ c.loop-answer.invariant.drawn c.in-Some.ensures.steps c.in_ok-info.was;
-  are_children = children_more _ c.in_ok-info.info _ _ _ c.as_slice.ensures c.loop-answer.invariant.are_children c.in_ok-add_to_each.ensures;
+  infos = c.loop-answer.invariant.infos ++ c.in-Ok.info ∷ [];
+  drawn = drawn_one g.I.Iterator.next_gives _ _ _ _ _ _ c.loop-answer.invariant.drawn c.in-Some.ensures.steps c.in-Ok.is;
+  are_children = children_more _ c.in-Ok.info _ _ _ c.as_slice.ensures c.loop-answer.invariant.are_children c.in_ok-add_to_each.ensures;
 }
 
-pub returns-in_err-info-clause-err : goal.returns-in_err-info-clause-err
-returns-in_err-info-clause-err g c =
-    let p = err_from_is_err_and c.from_residual.result c.from_residual.ensures.1 in
-    gather_failed g.I.Iterator.next_gives _ _ _ _ _ _ _ _ p.1 p.2 c.loop-answer.invariant.drawn c.in-Some.ensures.steps c.in_err-info.was
+pub returns-in-Err-clause-err : goal.returns-in-Err-clause-err
+returns-in-Err-clause-err g c = λ ne. gather_failed g.I.Iterator.next_gives _ _ _ _ _ _ _ c.error_of_walk.ensures c.loop-answer.invariant.drawn c.in-Some.ensures.steps c.in-Err.is
 
 pub returns-clause-ok : goal.returns-clause-ok
 returns-clause-ok g c = record {

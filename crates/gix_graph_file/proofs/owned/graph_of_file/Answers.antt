@@ -1,5 +1,6 @@
-use Rattle.std.proofs.Common.{◌≡◌, true, false, eqb, length}
-use Rattle.gix_graph_file.proofs.Common.{err_from_is_err_and, base_of, seen}
+use Rattle.std.proofs.Common.{◌≡◌, true, false, eqb, length, arith}
+use Rattle.std.proofs.lemmas.Grind.{common_steps}
+use Rattle.gix_graph_file.proofs.Common.{err_from_is_err_and, AreBytes, base_of, seen}
 use Rattle.gix_graph_file.proofs.ChainOfOne.{one-says, one-refuses, one-fault, one-based}
 use Rattle.gix_graph_file.proofs.HalfRows.{halves-file}
 use Rattle.gix_graph_file.proofs.SameFile.{packed-says, packed-refuses}
@@ -15,20 +16,16 @@ returns-then-not-is_empty-clause-fault c =
     let some : eqb (length (base_of c.args.file.items)) 0 ≡ false = rw (← c.as_slice-2.ensures.value, ← c.base_of.ensures) (cc) in
     λ _. one-based c.args.file.items (seen c.in_ok-layout.layout) (rw c.as_slice.ensures.value at c.in_ok-layout.ensures.parts) some
 
-pub returns-clause-rows : goal.returns-clause-rows
-returns-clause-rows c =
+pub returns : goal.returns
+returns c =
+    let bytes : AreBytes c.args.file.items = grind (arith, common_steps) in
     let layout = c.in_ok-layout.layout in
     let ensured = c.in_ok-layout.ensures in
+    let parts = rw c.as_slice.ensures.value at ensured.parts in
     let none : eqb (length (base_of c.args.file.items)) 0 ≡ true = rw (← c.as_slice-2.ensures.value, ← c.base_of.ensures) (cc) in
     let packed_is = halves-file layout _ _ _ _ _ ensured.whole ensured.places c.as_slice.ensures.value c.lower_of-lower.ensures c.in_ok-upper.ensures c.in_ok-packed.ensures in
-    one-says c.args.file.items (seen layout) c.graph_of_packed.result (rw c.as_slice.ensures.value at ensured.parts) none
-    (packed-says c.in_ok-packed.packed.items (seen layout) c.graph_of_packed.result ensured.whole packed_is c.graph_of_packed.ensures.rows)
-
-pub returns-clause-fault : goal.returns-clause-fault
-returns-clause-fault c =
-    let layout = c.in_ok-layout.layout in
-    let ensured = c.in_ok-layout.ensures in
-    let none : eqb (length (base_of c.args.file.items)) 0 ≡ true = rw (← c.as_slice-2.ensures.value, ← c.base_of.ensures) (cc) in
-    let packed_is = halves-file layout _ _ _ _ _ ensured.whole ensured.places c.as_slice.ensures.value c.lower_of-lower.ensures c.in_ok-upper.ensures c.in_ok-packed.ensures in
-    one-refuses c.args.file.items (seen layout) c.graph_of_packed.result (rw c.as_slice.ensures.value at ensured.parts) none
-    (packed-refuses c.in_ok-packed.packed.items (seen layout) c.graph_of_packed.result ensured.whole packed_is c.graph_of_packed.ensures.fault)
+    record {
+      rows = one-says _ _ _ parts none (packed-says _ _ c.graph_of_packed.result ensured.whole packed_is c.graph_of_packed.ensures.rows);
+      fault = one-refuses _ _ _ parts none (packed-refuses _ _ c.graph_of_packed.result ensured.whole packed_is c.graph_of_packed.ensures.fault);
+      bytes = bytes;
+    }

@@ -23,7 +23,7 @@ const FROM_2: Wish<'static> = Wish {
 };
 
 /// Stores commit 2, whose text ends after `length` bytes.
-fn insert_cut(alloc: Global, store: &mut MemoryStore, length: usize) -> Result<(), Fail> {
+fn insert_cut(alloc: Global, store: &mut MemoryStore<'_>, length: usize) -> Result<(), Fail> {
     let whole = text(alloc, TREE, 2, &[id(1)])?;
     let front = whole.as_str().as_bytes().get(..length).ok_or("too long")?;
     Ok(store.insert(id(2), Kind::Commit, front)?)
