@@ -1,5 +1,5 @@
 //! Sets and maps of ids. No other module knows which container holds them.
-ghost use Rattle.std.specs.Prelude.{◌≡◌, ◌↔◌, IsTrue, false, not, None, is_some, IfOk, OnOk, OnErr, OnSome, IfSome, IfNone};
+ghost use Rattle.std.specs.Prelude.{◌≡◌, ◌↔◌, IsTrue, length, false, not, None, is_some, IfOk, OnOk, OnErr, OnSome, IfSome, IfNone};
 ghost use Rattle.std.specs.Option.{option_copied};
 ghost use Rattle.std.specs.FinSet as set;
 ghost use Rattle.std.specs.FinMap as map;
@@ -264,7 +264,9 @@ impl<T> IdMap<T> {
     ///
     /// `AllocError` when out of memory.
     pub fn ids(&self, alloc: Global) -> Result<Vec<ObjectId>, AllocError>
-        ensures { IfOk result (λ ids. (i : ObjectId) → is_among i ids.items ≡ is_some (map.get self.now i)) }
+        ensures all { IfOk result (λ ids. (i : ObjectId) → is_among i ids.items ≡ is_some (map.get self.now i)) }
+        // As many as there are, so each comes once.
+        ensures once { IfOk result (λ ids. length ids.items ≡ map.len self.now) }
     {
         let mut ids = Vec::with_capacity(alloc, self.len())?;
         for bytes in self.short.keys() {

@@ -147,7 +147,9 @@ impl<'a> MemoryStore<'a> {
     /// # Errors
     /// `AllocError` when out of memory.
     pub fn ids(&self, alloc: Global) -> Result<Vec<ObjectId>, AllocError>
-        ensures { IfOk result (λ ids. (i : ObjectId) → is_among i ids.items ≡ is_some (map.get self.now i)) }
+        ensures all { IfOk result (λ ids. (i : ObjectId) → is_among i ids.items ≡ is_some (map.get self.now i)) }
+        // As many as there are, so each comes once.
+        ensures once { IfOk result (λ ids. length ids.items ≡ map.len self.now) }
     {
         self.objects.ids(alloc)
     }

@@ -1,5 +1,5 @@
 -- The hex digits of ids.
-use Rattle.std.proofs.Common.{ℕ, ◌≡◌, ◌≢◌, ◌+◌, ◌*◌, ◌==◌, ◌%◌, List, [], ◌∷◌, Bool, true, false, length, None, Result, Ok, Err, cond, refl, subst}
+use Rattle.std.proofs.Common.{ℕ, ◌≡◌, ◌≢◌, ◌+◌, ◌*◌, ◌==◌, ◌%◌, List, [], ◌∷◌, Bool, true, false, length, Some, None, Result, Ok, Err, cond, refl, ap, subst}
 use Rattle.std.specs.List.{AllByRecursion}
 use Rattle.hex.specs.Hex.{decode_pairs, decode_of, pair_value, value_at, ◌>>=◌}
 use Rattle.hex.specs.declared.error.FromHexError.{FromHexError}
@@ -60,3 +60,11 @@ id_spaceless digits i e = short (length digits == 40) e
     short : (t : Bool) → cond t (or_digit (id_of_hex kind.Sha1 digits)) (cond (length digits == 64) (or_digit (id_of_hex kind.Sha256 digits)) (Err hex_error.Length)) ≡ Ok i → AllByRecursion (λ b. b ≢ 32) digits
     short true e = digits_spaceless kind.Sha1 digits i e
     short false e = long (length digits == 64) e
+
+-- 40 digits of an id of SHA-1 are those of an id
+pub short_id_from_hex : (digits : List ℕ) (i : ObjectId) → id_of_hex kind.Sha1 digits ≡ Some i → id_from_hex digits ≡ Ok i
+short_id_from_hex digits i e = short (length digits == 40) e
+  where
+    short : (t : Bool) → cond t (id_of_decoded kind.Sha1 (decode_of digits)) None ≡ Some i → cond t (or_digit (id_of_hex kind.Sha1 digits)) (cond (length digits == 64) (or_digit (id_of_hex kind.Sha256 digits)) (Err hex_error.Length)) ≡ Ok i
+    short true h = ap or_digit e
+    short false h = cc

@@ -19,7 +19,7 @@ use Rattle.gix_object.proofs.MemoryStore.{object_put}
 use Rattle.gix_records.specs.declared.Error.TheVariants as error
 use Rattle.gix_records.specs.Decimal.{decimal}
 use Rattle.gix_records.specs.Records.{Record, kind_word, IsRecord, BeginsWith, AreRecords, IsBadRecord, IsRecordFault, no_memory, put_in, stored}
-use Rattle.gix_records.specs.RecordFront.{split_at_byte, kind_named, behind_newline, body_at, record_at, ◌>>=◌}
+use Rattle.gix_records.specs.RecordFront.{split_at_byte, kind_named, kind_at, id_at, behind, ended_at, record_at, ◌>>=◌}
 use Rattle.gix_records.proofs.SplitFacts.{split_found, split-append}
 use Rattle.gix_records.proofs.DecimalFacts.{decimal_lineless}
 use Rattle.gix_records.proofs.HexFacts.{id_spaceless}
@@ -51,46 +51,59 @@ id_was_read : (r : Result ObjectId HexError) (i : ObjectId) → result_ok r ≡ 
 id_was_read (Ok j) i e = ap (λ x. Ok x) (same_Some j i e)
 id_was_read (Err d) i e = cc
 
-body_found : (n : ℕ) (text : List ℕ) (body : List ℕ × List ℕ) → body_at n text ≡ Some body → (text ≡ body.0 ++ 10 ∷ body.1) × (length body.0 ≡ n)
-body_found n text body e = go (drop n text) refl e
+pub ended_found : (byte n : ℕ) (text : List ℕ) (parts : List ℕ × List ℕ) → ended_at byte n text ≡ Some parts → (text ≡ parts.0 ++ byte ∷ parts.1) × (length parts.0 ≡ n)
+ended_found byte n text parts e = go (drop n text) refl e
   where
-    go : (rest : List ℕ) → drop n text ≡ rest → behind_newline (take n text) rest ≡ Some body → (text ≡ body.0 ++ 10 ∷ body.1) × (length body.0 ≡ n)
+    go : (rest : List ℕ) → drop n text ≡ rest → behind byte (take n text) rest ≡ Some parts → (text ≡ parts.0 ++ byte ∷ parts.1) × (length parts.0 ≡ n)
     go [] l e = cc
-    go (b ∷ rest) l e = ends (b == 10) refl e
+    go (b ∷ rest) l e = ends (b == byte) refl e
       where
-        ends : (t : Bool) → (b == 10) ≡ t → cond t (Some (take n text, rest)) None ≡ Some body → (text ≡ body.0 ++ 10 ∷ body.1) × (length body.0 ≡ n)
+        ends : (t : Bool) → (b == byte) ≡ t → cond t (Some (take n text, rest)) None ≡ Some parts → (text ≡ parts.0 ++ byte ∷ parts.1) × (length parts.0 ≡ n)
         ends true at e =
-            let same : (take n text ≡ body.0) × (rest ≡ body.1) = some_pair_parts (take n text) body.0 rest body.1 e in
-            let newline : b ≡ 10 = eqb-true b 10 at in
+            let same : (take n text ≡ parts.0) × (rest ≡ parts.1) = some_pair_parts (take n text) parts.0 rest parts.1 e in
             let fits : n ≤ length text = omega (arith, length-drop n text, ap length l) in (
-              sym (take-append-drop n text) ∙ ap (λ x. take n text ++ x) (l ∙ ap (λ x. x ∷ rest) newline ∙ ap (λ x. 10 ∷ x) same.1) ∙ ap (λ x. x ++ 10 ∷ body.1) same.0,
+              sym (take-append-drop n text) ∙ ap (λ x. take n text ++ x) (l ∙ ap (λ x. x ∷ rest) (eqb-true b byte at) ∙ ap (λ x. byte ∷ x) same.1) ∙ ap (λ x. x ++ byte ∷ parts.1) same.0,
               ap length (sym same.0) ∙ length-take-le n text fits,
             )
         ends false at e = cc
+
+kind_found : (text : List ℕ) (r : Kind × List ℕ) → kind_at text ≡ Some r → text ≡ kind_word r.0 ++ 32 ∷ r.1
+unfolding kind_at
+kind_found text r e =
+    bind_some (split_at_byte 32 text) _ r e (λ word at_word e1.
+    bind_some (kind_named word.0) _ r e1 (λ k at_kind e2.
+    let same : (k ≡ r.0) × (word.1 ≡ r.1) = some_pair_parts k r.0 word.1 r.1 e2 in
+    (split_found 32 text word at_word).1 ∙ ap (λ x. x ++ 32 ∷ word.1) (kind_of_word word.0 k at_kind) ∙ ap (λ x. kind_word x ++ 32 ∷ word.1) same.0 ∙ ap (λ x. kind_word r.0 ++ 32 ∷ x) same.1))
+
+id_found : (text : List ℕ) (r : ObjectId × List ℕ) → id_at text ≡ Some r → (digits : List ℕ) × (id_from_hex digits ≡ Ok r.0) × (text ≡ digits ++ 32 ∷ r.1)
+unfolding id_at
+id_found text r e =
+    bind_some (split_at_byte 32 text) _ r e (λ digits at_digits e1.
+    bind_some (result_ok (id_from_hex digits.0)) _ r e1 (λ i at_id e2.
+    let same : (i ≡ r.0) × (digits.1 ≡ r.1) = some_pair_parts i r.0 digits.1 r.1 e2 in
+    (digits.0, id_was_read (id_from_hex digits.0) i at_id ∙ ap (λ x. Ok x) same.0, (split_found 32 text digits at_digits).1 ∙ ap (λ x. digits.0 ++ 32 ∷ x) same.1)))
 
 -- what is found at the front is so spelled
 pub record_found : (text : List ℕ) (r : Record × List ℕ) → record_at text ≡ Some r → IsRecord r.0 text r.1
 unfolding record_at
 record_found text r e =
-    bind_some (split_at_byte 32 text) _ r e (λ word at_word e1.
-    bind_some (kind_named word.0) _ r e1 (λ k at_kind e2.
-    bind_some (split_at_byte 32 word.1) _ r e2 (λ digits at_digits e3.
-    bind_some (result_ok (id_from_hex digits.0)) _ r e3 (λ i at_id e4.
-    bind_some (split_at_byte 10 digits.1) _ r e4 (λ count at_count e5.
-    bind_some (decimal count.0) _ r e5 (λ n at_number e6.
-    bind_some (body_at n count.1) _ r e6 (λ body at_body e7.
-    let spelled : IsRecord (record { kind = k; id = i; bytes = body.0 }) text body.1 = record {
-      id_digits = digits.0;
+    bind_some (kind_at text) _ r e (λ k at_kind e1.
+    bind_some (id_at k.1) _ r e1 (λ i at_id e2.
+    bind_some (split_at_byte 10 i.1) _ r e2 (λ count at_count e3.
+    bind_some (decimal count.0) _ r e3 (λ n at_number e4.
+    bind_some (ended_at 10 n count.1) _ r e4 (λ body at_body e5.
+    let id = id_found k.1 i at_id in
+    let spelled : IsRecord (record { kind = k.0; id = i.0; bytes = body.0 }) text body.1 = record {
+      id_digits = id.0;
       length_digits = count.0;
-      is_id = id_was_read (id_from_hex digits.0) i at_id;
-      is_length = at_number ∙ ap (λ m. Some m) (sym (body_found n count.1 body at_body).1);
-      whole = (split_found 32 text word at_word).1
-          ∙ ap (λ x. x ++ 32 ∷ word.1) (kind_of_word word.0 k at_kind)
-          ∙ ap (λ x. kind_word k ++ 32 ∷ x) ((split_found 32 word.1 digits at_digits).1
-          ∙ ap (λ x. digits.0 ++ 32 ∷ x) ((split_found 10 digits.1 count at_count).1
-          ∙ ap (λ x. count.0 ++ 10 ∷ x) (body_found n count.1 body at_body).0));
+      is_id = id.1;
+      is_length = at_number ∙ ap (λ m. Some m) (sym (ended_found 10 n count.1 body at_body).1);
+      whole = kind_found text k at_kind
+          ∙ ap (λ x. kind_word k.0 ++ 32 ∷ x) (id.2
+          ∙ ap (λ x. id.0 ++ 32 ∷ x) ((split_found 10 i.1 count at_count).1
+          ∙ ap (λ x. count.0 ++ 10 ∷ x) (ended_found 10 n count.1 body at_body).0));
     } in
-    subst (λ (y : Record × List ℕ). IsRecord y.0 text y.1) (same_Some (record { kind = k; id = i; bytes = body.0 }, body.1) r e7) spelled)))))))
+    subst (λ (y : Record × List ℕ). IsRecord y.0 text y.1) (same_Some (record { kind = k.0; id = i.0; bytes = body.0 }, body.1) r e5) spelled)))))
 
 word_spaceless : (k : Kind) → AllByRecursion (λ b. b ≢ 32) (kind_word k)
 word_spaceless kind.Tree = (omega arith, (omega arith, (omega arith, (omega arith, tt))))
@@ -104,19 +117,28 @@ word_kind kind.Blob = refl
 word_kind kind.Commit = refl
 word_kind kind.Tag = refl
 
-body-append : (bytes rest : List ℕ) → body_at (length bytes) (bytes ++ 10 ∷ rest) ≡ Some (bytes, rest)
+body-append : (bytes rest : List ℕ) → ended_at 10 (length bytes) (bytes ++ 10 ∷ rest) ≡ Some (bytes, rest)
 body-append bytes rest =
-    ap (λ x. behind_newline x (drop (length bytes) (bytes ++ 10 ∷ rest))) (take_at bytes (10 ∷ rest) (length bytes) refl)
-    ∙ ap (behind_newline bytes) (drop_at bytes (10 ∷ rest) (length bytes) refl)
+    ap (λ x. behind 10 x (drop (length bytes) (bytes ++ 10 ∷ rest))) (take_at bytes (10 ∷ rest) (length bytes) refl)
+    ∙ ap (behind 10 bytes) (drop_at bytes (10 ∷ rest) (length bytes) refl)
+
+pub kind_read : (k : Kind) (rest : List ℕ) → kind_at (kind_word k ++ 32 ∷ rest) ≡ Some (k, rest)
+unfolding kind_at
+kind_read k rest = rw (split-append 32 (kind_word k) rest (word_spaceless k)) (rw (word_kind k) refl)
+
+pub id_read : (digits : List ℕ) (i : ObjectId) (rest : List ℕ) → id_from_hex digits ≡ Ok i → id_at (digits ++ 32 ∷ rest) ≡ Some (i, rest)
+unfolding id_at
+id_read digits i rest e = rw (split-append 32 digits rest (id_spaceless digits i e)) (rw e refl)
 
 -- what is so spelled is found at the front
 pub record_read : (r : Record) (text behind : List ℕ) → IsRecord r text behind → record_at text ≡ Some (r, behind)
 unfolding record_at
 record_read r text behind h =
-    let word : split_at_byte 32 (kind_word r.kind ++ 32 ∷ (h.id_digits ++ 32 ∷ (h.length_digits ++ 10 ∷ (r.bytes ++ 10 ∷ behind)))) ≡ Some (kind_word r.kind, h.id_digits ++ 32 ∷ (h.length_digits ++ 10 ∷ (r.bytes ++ 10 ∷ behind))) = split-append 32 (kind_word r.kind) (h.id_digits ++ 32 ∷ (h.length_digits ++ 10 ∷ (r.bytes ++ 10 ∷ behind))) (word_spaceless r.kind) in
-    let digits : split_at_byte 32 (h.id_digits ++ 32 ∷ (h.length_digits ++ 10 ∷ (r.bytes ++ 10 ∷ behind))) ≡ Some (h.id_digits, h.length_digits ++ 10 ∷ (r.bytes ++ 10 ∷ behind)) = split-append 32 h.id_digits (h.length_digits ++ 10 ∷ (r.bytes ++ 10 ∷ behind)) (id_spaceless h.id_digits r.id h.is_id) in
-    let count : split_at_byte 10 (h.length_digits ++ 10 ∷ (r.bytes ++ 10 ∷ behind)) ≡ Some (h.length_digits, r.bytes ++ 10 ∷ behind) = split-append 10 h.length_digits (r.bytes ++ 10 ∷ behind) (decimal_lineless h.length_digits (length r.bytes) h.is_length) in
-    ap record_at h.whole ∙ rw word (rw (word_kind r.kind) (rw digits (rw h.is_id (rw count (rw h.is_length (rw (body-append r.bytes behind) refl))))))
+    let body : List ℕ = r.bytes ++ 10 ∷ behind in
+    ap record_at h.whole
+    ∙ rw (kind_read r.kind (h.id_digits ++ 32 ∷ (h.length_digits ++ 10 ∷ body)))
+      (rw (id_read h.id_digits r.id (h.length_digits ++ 10 ∷ body) h.is_id)
+      (rw (split-append 10 h.length_digits body (decimal_lineless h.length_digits (length r.bytes) h.is_length)) (rw h.is_length (rw (body-append r.bytes behind) refl))))
 
 -- how far the records at the front of a text were stored
 pub record HasStored (text rest : List ℕ) (number : ℕ) (objects : Objects) : Type 0 where

@@ -5,6 +5,7 @@ use Rattle.std.specs.Str.{bytes_eq}
 use Rattle.gix_object.specs.CommitItems.{with_byte}
 use Rattle.gix_object.specs.declared.Kind.{Kind}
 use Rattle.gix_object.specs.declared.Kind.TheVariants as kind
+use Rattle.gix_hash.specs.declared.ObjectId.{ObjectId}
 use Rattle.gix_hash.specs.Id.{id_from_hex}
 use Rattle.gix_records.specs.Decimal.{decimal}
 use Rattle.gix_records.specs.Records.{Record}
@@ -23,30 +24,42 @@ kind_named word =
     else if bytes_eq word (codes "tag") then Some kind.Tag
     else None
 
-abbrev pub behind_newline : List ℕ → List ℕ → Option (List ℕ × List ℕ)
-behind_newline bytes [] = None
-behind_newline bytes (b ∷ rest) = if b == 10 then Some (bytes, rest) else None
-
--- n bytes, if a newline ends them, and the text after it
-abbrev pub body_at : ℕ → List ℕ → Option (List ℕ × List ℕ)
-body_at n text = behind_newline (take n text) (drop n text)
-
 infixl 10 ◌>>=◌
 abbrev pub ◌>>=◌ : {A B : Type 0} → Option A → (A → Option B) → Option B
 None >>= f = None
 (Some x) >>= f = f x
 
+-- the kind before the first space, and the text after the space
+unfoldable pub kind_at : List ℕ → Option (Kind × List ℕ)
+kind_at text = do
+  word ← split_at_byte 32 text
+  kind ← kind_named word.0
+  Some (kind, word.1)
+
+-- the id before the first space, and the text after the space
+unfoldable pub id_at : List ℕ → Option (ObjectId × List ℕ)
+id_at text = do
+  digits ← split_at_byte 32 text
+  id ← result_ok (id_from_hex digits.0)
+  Some (id, digits.1)
+
+abbrev pub behind : ℕ → List ℕ → List ℕ → Option (List ℕ × List ℕ)
+behind byte bytes [] = None
+behind byte bytes (b ∷ rest) = if b == byte then Some (bytes, rest) else None
+
+-- n bytes, if this byte ends them, and the text after it
+abbrev pub ended_at : ℕ → ℕ → List ℕ → Option (List ℕ × List ℕ)
+ended_at byte n text = behind byte (take n text) (drop n text)
+
 -- the record, and the text after it
 unfoldable pub record_at : List ℕ → Option (Record × List ℕ)
 record_at text = do
-  word ← split_at_byte 32 text
-  kind ← kind_named word.0
-  id_digits ← split_at_byte 32 word.1
-  id ← result_ok (id_from_hex id_digits.0)
-  length_digits ← split_at_byte 10 id_digits.1
-  n ← decimal length_digits.0
-  body ← body_at n length_digits.1
-  Some (record { kind = kind; id = id; bytes = body.0 }, body.1)
+  kind ← kind_at text
+  id ← id_at kind.1
+  digits ← split_at_byte 10 id.1
+  n ← decimal digits.0
+  body ← ended_at 10 n digits.1
+  Some (record { kind = kind.0; id = id.0; bytes = body.0 }, body.1)
 
 -- a record that was found, and the text after it
 abbrev pub front_shown : Front → Record × List ℕ

@@ -4,7 +4,7 @@ ghost use Rattle.std.specs.Option.{option_map};
 ghost use Rattle.std.specs.Result.{result_ok};
 ghost use Rattle.gix_hash.specs.Id.{id_from_hex};
 ghost use Rattle.gix_records.specs.Decimal.{decimal};
-ghost use Rattle.gix_records.specs.RecordFront.{split_at_byte, kind_named, body_at, record_at, front_shown};
+ghost use Rattle.gix_records.specs.RecordFront.{split_at_byte, kind_named, kind_at, id_at, ended_at, record_at, front_shown};
 
 use gix_hash::ObjectId;
 use gix_object::Kind;
@@ -29,19 +29,43 @@ pub struct Front<'a> {
 pub fn record_at(text: &[u8]) -> Option<Front<'_>>
     ensures { option_map front_shown result ≡ record_at text.now }
 {
-    let (word, rest) = split_at_byte(text, b' ')?;
-    let kind = kind_named(word)?;
-    let (digits, rest) = split_at_byte(rest, b' ')?;
-    let id = id_spelled(digits)?;
+    let (kind, rest) = kind_at(text)?;
+    let (id, rest) = id_at(rest)?;
     let (digits, rest) = split_at_byte(rest, b'\n')?;
     let len = decimal(digits)?;
-    let (bytes, behind) = body_at(rest, len)?;
+    let (bytes, behind) = ended_at(rest, len, b'\n')?;
     Some(Front {
         kind,
         id,
         bytes,
         behind,
     })
+}
+
+/// The kind before the first space, and the text after the space. A commit, as most are, needs no search for it.
+#[tactic(auto, unfolding(crate::specs::RecordFront::kind_at))]
+fn kind_at(text: &[u8]) -> Option<(Kind, &[u8])>
+    ensures { option_map (λ r. (r.0, r.1.now)) result ≡ kind_at text.now }
+{
+    if let [b'c', b'o', b'm', b'm', b'i', b't', b' ', rest @ ..] = text {
+        return Some((Kind::Commit, rest));
+    }
+    let (word, rest) = split_at_byte(text, b' ')?;
+    Some((kind_named(word)?, rest))
+}
+
+/// The id before the first space, and the text after the space. An id of 40 digits, as most are, needs no search for it.
+#[tactic(auto, unfolding(crate::specs::RecordFront::id_at))]
+fn id_at(text: &[u8]) -> Option<(ObjectId, &[u8])>
+    ensures { option_map (λ r. (r.0, r.1.now)) result ≡ id_at text.now }
+{
+    if let Some((digits, rest)) = ended_at(text, 40, b' ') {
+        if let Some(id) = ObjectId::from_digits(digits, gix_hash::Kind::Sha1) {
+            return Some((id, rest));
+        }
+    }
+    let (digits, rest) = split_at_byte(text, b' ')?;
+    Some((id_spelled(digits)?, rest))
 }
 
 /// The text before the first such byte, and the text after it.
@@ -98,13 +122,14 @@ fn decimal(digits: &[u8]) -> Option<usize>
     Some(number)
 }
 
-/// So many bytes, if a newline ends them, and the text after it.
-fn body_at(text: &[u8], len: usize) -> Option<(&[u8], &[u8])>
-    ensures { option_map (λ r. (r.0.now, r.1.now)) result ≡ body_at len text.now }
+/// So many bytes, if this byte ends them, and the text after it.
+fn ended_at(text: &[u8], len: usize, end: u8) -> Option<(&[u8], &[u8])>
+    ensures { option_map (λ r. (r.0.now, r.1.now)) result ≡ ended_at end len text.now }
 {
     let (bytes, rest) = text.split_at_checked(len)?;
-    let [b'\n', behind @ ..] = rest else {
+    let (byte, behind) = rest.split_first()?;
+    if *byte != end {
         return None;
-    };
+    }
     Some((bytes, behind))
 }
