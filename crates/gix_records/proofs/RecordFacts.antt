@@ -19,7 +19,7 @@ use Rattle.gix_object.proofs.MemoryStore.{object_put}
 use Rattle.gix_records.specs.declared.Error.TheVariants as error
 use Rattle.gix_records.specs.Decimal.{decimal}
 use Rattle.gix_records.specs.Records.{Record, kind_word, IsRecord, BeginsWith, AreRecords, IsBadRecord, IsRecordFault, no_memory, put_in, stored}
-use Rattle.gix_records.specs.RecordFront.{split_at_byte, kind_named, kind_at, id_at, behind, ended_at, record_at, ◌>>=◌}
+use Rattle.gix_records.specs.RecordFront.{split_at_byte, kind_named, front_kind, front_id, split_behind, ended_at, record_at, ◌>>=◌}
 use Rattle.gix_records.proofs.SplitFacts.{split_found, split-append}
 use Rattle.gix_records.proofs.DecimalFacts.{decimal_lineless}
 use Rattle.gix_records.proofs.HexFacts.{id_spaceless}
@@ -54,7 +54,7 @@ id_was_read (Err d) i e = cc
 pub ended_found : (byte n : ℕ) (text : List ℕ) (parts : List ℕ × List ℕ) → ended_at byte n text ≡ Some parts → (text ≡ parts.0 ++ byte ∷ parts.1) × (length parts.0 ≡ n)
 ended_found byte n text parts e = go (drop n text) refl e
   where
-    go : (rest : List ℕ) → drop n text ≡ rest → behind byte (take n text) rest ≡ Some parts → (text ≡ parts.0 ++ byte ∷ parts.1) × (length parts.0 ≡ n)
+    go : (rest : List ℕ) → drop n text ≡ rest → split_behind byte (take n text) rest ≡ Some parts → (text ≡ parts.0 ++ byte ∷ parts.1) × (length parts.0 ≡ n)
     go [] l e = cc
     go (b ∷ rest) l e = ends (b == byte) refl e
       where
@@ -67,16 +67,16 @@ ended_found byte n text parts e = go (drop n text) refl e
             )
         ends false at e = cc
 
-kind_found : (text : List ℕ) (r : Kind × List ℕ) → kind_at text ≡ Some r → text ≡ kind_word r.0 ++ 32 ∷ r.1
-unfolding kind_at
+kind_found : (text : List ℕ) (r : Kind × List ℕ) → front_kind text ≡ Some r → text ≡ kind_word r.0 ++ 32 ∷ r.1
+unfolding front_kind
 kind_found text r e =
     bind_some (split_at_byte 32 text) _ r e (λ word at_word e1.
     bind_some (kind_named word.0) _ r e1 (λ k at_kind e2.
     let same : (k ≡ r.0) × (word.1 ≡ r.1) = some_pair_parts k r.0 word.1 r.1 e2 in
     (split_found 32 text word at_word).1 ∙ ap (λ x. x ++ 32 ∷ word.1) (kind_of_word word.0 k at_kind) ∙ ap (λ x. kind_word x ++ 32 ∷ word.1) same.0 ∙ ap (λ x. kind_word r.0 ++ 32 ∷ x) same.1))
 
-id_found : (text : List ℕ) (r : ObjectId × List ℕ) → id_at text ≡ Some r → (digits : List ℕ) × (id_from_hex digits ≡ Ok r.0) × (text ≡ digits ++ 32 ∷ r.1)
-unfolding id_at
+id_found : (text : List ℕ) (r : ObjectId × List ℕ) → front_id text ≡ Some r → (digits : List ℕ) × (id_from_hex digits ≡ Ok r.0) × (text ≡ digits ++ 32 ∷ r.1)
+unfolding front_id
 id_found text r e =
     bind_some (split_at_byte 32 text) _ r e (λ digits at_digits e1.
     bind_some (result_ok (id_from_hex digits.0)) _ r e1 (λ i at_id e2.
@@ -87,8 +87,8 @@ id_found text r e =
 pub record_found : (text : List ℕ) (r : Record × List ℕ) → record_at text ≡ Some r → IsRecord r.0 text r.1
 unfolding record_at
 record_found text r e =
-    bind_some (kind_at text) _ r e (λ k at_kind e1.
-    bind_some (id_at k.1) _ r e1 (λ i at_id e2.
+    bind_some (front_kind text) _ r e (λ k at_kind e1.
+    bind_some (front_id k.1) _ r e1 (λ i at_id e2.
     bind_some (split_at_byte 10 i.1) _ r e2 (λ count at_count e3.
     bind_some (decimal count.0) _ r e3 (λ n at_number e4.
     bind_some (ended_at 10 n count.1) _ r e4 (λ body at_body e5.
@@ -119,15 +119,15 @@ word_kind kind.Tag = refl
 
 body-append : (bytes rest : List ℕ) → ended_at 10 (length bytes) (bytes ++ 10 ∷ rest) ≡ Some (bytes, rest)
 body-append bytes rest =
-    ap (λ x. behind 10 x (drop (length bytes) (bytes ++ 10 ∷ rest))) (take_at bytes (10 ∷ rest) (length bytes) refl)
-    ∙ ap (behind 10 bytes) (drop_at bytes (10 ∷ rest) (length bytes) refl)
+    ap (λ x. split_behind 10 x (drop (length bytes) (bytes ++ 10 ∷ rest))) (take_at bytes (10 ∷ rest) (length bytes) refl)
+    ∙ ap (split_behind 10 bytes) (drop_at bytes (10 ∷ rest) (length bytes) refl)
 
-pub kind_read : (k : Kind) (rest : List ℕ) → kind_at (kind_word k ++ 32 ∷ rest) ≡ Some (k, rest)
-unfolding kind_at
+pub kind_read : (k : Kind) (rest : List ℕ) → front_kind (kind_word k ++ 32 ∷ rest) ≡ Some (k, rest)
+unfolding front_kind
 kind_read k rest = rw (split-append 32 (kind_word k) rest (word_spaceless k)) (rw (word_kind k) refl)
 
-pub id_read : (digits : List ℕ) (i : ObjectId) (rest : List ℕ) → id_from_hex digits ≡ Ok i → id_at (digits ++ 32 ∷ rest) ≡ Some (i, rest)
-unfolding id_at
+pub id_read : (digits : List ℕ) (i : ObjectId) (rest : List ℕ) → id_from_hex digits ≡ Ok i → front_id (digits ++ 32 ∷ rest) ≡ Some (i, rest)
+unfolding front_id
 id_read digits i rest e = rw (split-append 32 digits rest (id_spaceless digits i e)) (rw e refl)
 
 -- what is so spelled is found at the front
@@ -137,8 +137,8 @@ record_read r text behind h =
     let body : List ℕ = r.bytes ++ 10 ∷ behind in
     ap record_at h.whole
     ∙ rw (kind_read r.kind (h.id_digits ++ 32 ∷ (h.length_digits ++ 10 ∷ body)))
-      (rw (id_read h.id_digits r.id (h.length_digits ++ 10 ∷ body) h.is_id)
-      (rw (split-append 10 h.length_digits body (decimal_lineless h.length_digits (length r.bytes) h.is_length)) (rw h.is_length (rw (body-append r.bytes behind) refl))))
+    (rw (id_read h.id_digits r.id (h.length_digits ++ 10 ∷ body) h.is_id)
+    (rw (split-append 10 h.length_digits body (decimal_lineless h.length_digits (length r.bytes) h.is_length)) (rw h.is_length (rw (body-append r.bytes behind) refl))))
 
 -- how far the records at the front of a text were stored
 pub record HasStored (text rest : List ℕ) (number : ℕ) (objects : Objects) : Type 0 where

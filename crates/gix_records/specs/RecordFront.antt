@@ -30,32 +30,32 @@ None >>= f = None
 (Some x) >>= f = f x
 
 -- the kind before the first space, and the text after the space
-unfoldable pub kind_at : List ℕ → Option (Kind × List ℕ)
-kind_at text = do
+unfoldable pub front_kind : List ℕ → Option (Kind × List ℕ)
+front_kind text = do
   word ← split_at_byte 32 text
   kind ← kind_named word.0
   Some (kind, word.1)
 
 -- the id before the first space, and the text after the space
-unfoldable pub id_at : List ℕ → Option (ObjectId × List ℕ)
-id_at text = do
+unfoldable pub front_id : List ℕ → Option (ObjectId × List ℕ)
+front_id text = do
   digits ← split_at_byte 32 text
   id ← result_ok (id_from_hex digits.0)
   Some (id, digits.1)
 
-abbrev pub behind : ℕ → List ℕ → List ℕ → Option (List ℕ × List ℕ)
-behind byte bytes [] = None
-behind byte bytes (b ∷ rest) = if b == byte then Some (bytes, rest) else None
+abbrev pub split_behind : ℕ → List ℕ → List ℕ → Option (List ℕ × List ℕ)
+split_behind byte bytes [] = None
+split_behind byte bytes (b ∷ rest) = if b == byte then Some (bytes, rest) else None
 
 -- n bytes, if this byte ends them, and the text after it
 abbrev pub ended_at : ℕ → ℕ → List ℕ → Option (List ℕ × List ℕ)
-ended_at byte n text = behind byte (take n text) (drop n text)
+ended_at byte n text = split_behind byte (take n text) (drop n text)
 
 -- the record, and the text after it
 unfoldable pub record_at : List ℕ → Option (Record × List ℕ)
 record_at text = do
-  kind ← kind_at text
-  id ← id_at kind.1
+  kind ← front_kind text
+  id ← front_id kind.1
   digits ← split_at_byte 10 id.1
   n ← decimal digits.0
   body ← ended_at 10 n digits.1

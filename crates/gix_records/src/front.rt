@@ -4,7 +4,7 @@ ghost use Rattle.std.specs.Option.{option_map};
 ghost use Rattle.std.specs.Result.{result_ok};
 ghost use Rattle.gix_hash.specs.Id.{id_from_hex};
 ghost use Rattle.gix_records.specs.Decimal.{decimal};
-ghost use Rattle.gix_records.specs.RecordFront.{split_at_byte, kind_named, kind_at, id_at, ended_at, record_at, front_shown};
+ghost use Rattle.gix_records.specs.RecordFront.{split_at_byte, kind_named, front_kind, front_id, ended_at, record_at, front_shown};
 
 use gix_hash::ObjectId;
 use gix_object::Kind;
@@ -29,8 +29,8 @@ pub struct Front<'a> {
 pub fn record_at(text: &[u8]) -> Option<Front<'_>>
     ensures { option_map front_shown result ≡ record_at text.now }
 {
-    let (kind, rest) = kind_at(text)?;
-    let (id, rest) = id_at(rest)?;
+    let (kind, rest) = front_kind(text)?;
+    let (id, rest) = front_id(rest)?;
     let (digits, rest) = split_at_byte(rest, b'\n')?;
     let len = decimal(digits)?;
     let (bytes, behind) = ended_at(rest, len, b'\n')?;
@@ -43,9 +43,9 @@ pub fn record_at(text: &[u8]) -> Option<Front<'_>>
 }
 
 /// The kind before the first space, and the text after the space. A commit, as most are, needs no search for it.
-#[tactic(auto, unfolding(crate::specs::RecordFront::kind_at))]
-fn kind_at(text: &[u8]) -> Option<(Kind, &[u8])>
-    ensures { option_map (λ r. (r.0, r.1.now)) result ≡ kind_at text.now }
+#[tactic(auto, unfolding(crate::specs::RecordFront::front_kind))]
+fn front_kind(text: &[u8]) -> Option<(Kind, &[u8])>
+    ensures { option_map (λ r. (r.0, r.1.now)) result ≡ front_kind text.now }
 {
     if let [b'c', b'o', b'm', b'm', b'i', b't', b' ', rest @ ..] = text {
         return Some((Kind::Commit, rest));
@@ -55,9 +55,9 @@ fn kind_at(text: &[u8]) -> Option<(Kind, &[u8])>
 }
 
 /// The id before the first space, and the text after the space. An id of 40 digits, as most are, needs no search for it.
-#[tactic(auto, unfolding(crate::specs::RecordFront::id_at))]
-fn id_at(text: &[u8]) -> Option<(ObjectId, &[u8])>
-    ensures { option_map (λ r. (r.0, r.1.now)) result ≡ id_at text.now }
+#[tactic(auto, unfolding(crate::specs::RecordFront::front_id))]
+fn front_id(text: &[u8]) -> Option<(ObjectId, &[u8])>
+    ensures { option_map (λ r. (r.0, r.1.now)) result ≡ front_id text.now }
 {
     if let Some((digits, rest)) = ended_at(text, 40, b' ') {
         if let Some(id) = ObjectId::from_digits(digits, gix_hash::Kind::Sha1) {
