@@ -25,10 +25,14 @@ FindsInto there faulty (Ok (Some kind)) held = there ≡ Some (record { kind = k
 FindsInto there faulty (Err fault.Store) held = faulty
 FindsInto there faulty (Err fault.Memory) held = Unit {0}
 
+-- an object whose bytes are lent
+abbrev pub lent_object : Data → Object
+lent_object found = record { kind = found.kind; bytes = found.bytes.now }
+
 -- what a look-up lends
 abbrev pub FoundIs : Option Object → Type 0 → Result (Option Data) Error → Type 0
 FoundIs there faulty (Ok None) = there ≡ None
-FoundIs there faulty (Ok (Some found)) = there ≡ Some (record { kind = found.kind; bytes = found.bytes.now })
+FoundIs there faulty (Ok (Some found)) = there ≡ Some (lent_object found)
 FoundIs there faulty (Err fault.Store) = faulty
 FoundIs there faulty (Err fault.Memory) = Unit {0}
 

@@ -1,12 +1,14 @@
 //! A store that is held in memory.
 ghost use Rattle.std.specs.Prelude.{◌≡◌, ◌↔◌, ◌++◌, IsTrue, length, is_some, IfOk, OnOk, OnErr};
+ghost use Rattle.std.specs.Option.{option_map};
 ghost use Rattle.std.specs.Cow.{cow_slice_items};
 ghost use Rattle.std.specs.FinMap as map;
 ghost use Rattle.gix_hash.specs.Id.{is_among};
+ghost use Rattle.gix_object.specs.Find.{lent_object};
 ghost use Rattle.gix_object.specs.MemoryStore.{objects_at, AreWithin};
 
-use crate::Kind;
 use crate::find::{Error, Find};
+use crate::{Data, Kind};
 use gix_hash::hashtable::IdMap;
 use gix_hash::{Keys, ObjectId};
 use std::alloc::{AllocError, Global};
@@ -135,6 +137,21 @@ impl<'a> MemoryStore<'a> {
         Ok(())
     }
 
+    /// Looks an object up, and lends its bytes. Takes no memory.
+    #[inline(always)]
+    pub fn get(&self, id: &ObjectId) -> Option<Data<'_>>
+        ensures { option_map lent_object result ≡ map.get self.now id.now }
+    {
+        let Some(stored) = self.objects.get(id) else {
+            return None;
+        };
+        let bytes = &self.bytes.as_slice()[stored.start..stored.end];
+        Some(Data {
+            kind: stored.kind,
+            bytes,
+        })
+    }
+
     /// Whether there is an object of this id.
     pub fn contains(&self, id: &ObjectId) -> bool
         ensures { result ≡ is_some (map.get self.now id.now) }
@@ -176,13 +193,12 @@ impl Find for MemoryStore<'_> {
 
     #[inline(always)]
     fn find_into(&self, id: &ObjectId, buf: &mut Vec<u8>) -> Result<Option<Kind>, Error> {
-        let Some(stored) = self.objects.get(id) else {
+        let Some(found) = self.get(id) else {
             return Ok(None);
         };
-        let bytes = self.bytes.as_slice();
         buf.clear();
-        match buf.extend_from_slice(&bytes[stored.start..stored.end]) {
-            Ok(()) => Ok(Some(stored.kind)),
+        match buf.extend_from_slice(found.bytes) {
+            Ok(()) => Ok(Some(found.kind)),
             Err(_) => Err(Error::Memory),
         }
     }
