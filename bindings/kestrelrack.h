@@ -49,7 +49,8 @@ enum {
     KESTRELRACK_REPOSITORY = 18, /* the files are no known repository, or one that holds no objects is damaged */
     KESTRELRACK_REVISION = 19,  /* the revision number `place`, from 1 on, stands for nothing; at 0 the repository has no commit */
     KESTRELRACK_OBJECTS = 20,   /* a file of objects is damaged */
-    KESTRELRACK_HASH = 21       /* the object that is stored for this `id` is another's */
+    KESTRELRACK_HASH = 21,      /* the object that is stored for this `id` is another's */
+    KESTRELRACK_ENTRIES = 22    /* of `files` without `-n`: the tree has `place` entries in all, more than 268435456 */
 };
 
 struct kestrelrack_answer {
@@ -57,7 +58,8 @@ struct kestrelrack_answer {
     uint32_t id_length; /* how many bytes of `id` are an id: 20 (SHA-1), 32 (SHA-256), or 0 if the number names no object */
     size_t length;      /* in bytes: of the lines, at KESTRELRACK_WELL and KESTRELRACK_ROOM; otherwise 0. Of kestrelrack_commits: how many
                            commits it gave, at each number */
-    size_t place;       /* the number of the word or record that is named, or the room for parents that a commit needs; otherwise 0 */
+    size_t place;       /* the number of the word or record that is named, of entries that are too many, or the room for parents that a
+                           commit needs; otherwise 0 */
     uint8_t id[32];     /* the id that is named, as bytes and not as digits, and zeros behind it */
 };
 

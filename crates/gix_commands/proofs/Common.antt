@@ -61,9 +61,11 @@ pub use Rattle.gix_simple.proofs.Corollaries.{all_kept, begun_once, each_once}
 pub use Rattle.gix_simple.proofs.Difference.{begun_whole, drawn_whole, loosened, no_start, whole_from}
 pub use Rattle.gix_topo.proofs.Run.EachOnce.{named_all, reached_known}
 pub use Rattle.gix_tree.proofs.Theorems.Laws.{depth_is_in_order, depth_is_recorded, depth_ok, go_on, sound_depth_succeeds}
-pub use Rattle.gix_commands.specs.Files.{AreLinesOf, file_line, file_lines, IsTreeFault, RecordsTree, six_octal_digits}
+pub use Rattle.gix_lines.specs.Files.{file_line, six_octal_digits}
+pub use Rattle.gix_lines.specs.Output.{Grows}
+pub use Rattle.gix_commands.specs.Files.{file_lines, RecordsTree}
 pub use Rattle.gix_commands.specs.Histories.{AheadSucceeds, AreWhole, BasesSucceeds, ContainingSucceeds, ContainsSucceeds, EndsWell, IsOutside, SimpleSucceeds, TopoSucceeds}
-pub use Rattle.gix_commands.specs.Output.{Adds, Grows, WritesAll}
+pub use Rattle.gix_commands.specs.Output.{Adds, WritesAll}
 pub use Rattle.gix_commands.specs.Run.{bad_record, counted, disagrees, joined, no_command, not_ahead, not_behind, not_built, not_joined, not_listed, not_reaching, not_read, not_selected, not_walked, reaching, Runs, RunsOver, selected, served, unserved, walked, walked_down}
 pub use Rattle.gix_commands.specs.Run.{without_memory}
 pub use Rattle.gix_commands.specs.TopoWalked.{IsBuiltFrom, plan_from}

@@ -10,8 +10,6 @@ mod InternalFacts
 mod TreeFacts
 mod TopoInternalFacts
 mod FileFacts
-mod NotedNames
-mod ListerFacts
 pub mod LostParents
 mod RowedParents
 pub mod CheckedWalks

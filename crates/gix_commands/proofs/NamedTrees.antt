@@ -11,7 +11,7 @@ use Rattle.gix_tree.specs.Preorder as order
 use Rattle.gix_tree.specs.Preorder.{IsPreorder}
 use Rattle.gix_tree.proofs.All.{all_both, all_right}
 use Rattle.gix_tree.proofs.Outcomes.{says}
-use Rattle.gix_commands.specs.Files.{IsMisnamed}
+use Rattle.gix_tree_size.specs.Survey.{IsMisnamed}
 use Rattle.gix_commands.specs.Listings.{Unfolds, Misnames, AreNamed}
 
 -- no visit is of a name that is none where all are of names

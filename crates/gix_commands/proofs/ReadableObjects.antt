@@ -1,7 +1,7 @@
 -- What is read of objects, by what they are.
 use Rattle.std.proofs.Common.{is_lt, ◌≡◌, ℕ, Bool, true, false, cond, ◌&&◌, T, List, [], ◌∷◌, map, Option, Some, None, Ok, Contains, option_map, IsSome, refl, sym, ap, ap₂, subst, ◌∙◌}
 use Rattle.gix_commands.proofs.Common.{get, ObjectId, id_cmp, is_same, kind_of, same_is, Object, Objects, GraphRow, IsAgreeing, RowAgrees, commit_at, commit_of_kind, commit_of_object, parents_in, read_commit, Commit, scan_is, AreWhole}
-use Rattle.gix_commands.proofs.Common.{entries_at, items_of_kind, items_of_object, LookUpFails, trees_of, never_faulty, Items}
+use Rattle.gix_commands.proofs.Common.{entries_at, items_of_kind, items_of_object, LookUpFails, trees_of, never_faulty, Items, Visit}
 use Rattle.std.specs.FinMap as map_of
 use Rattle.std.specs.List.{AllByRecursion}
 use Rattle.std.specs.FinMap.Entries.{below_all}
@@ -17,7 +17,7 @@ use Rattle.gix_revwalk.specs.declared.Parents.TheVariants as mode
 use Rattle.gix_tree.specs.Laws.{AreSound, subtrees_of}
 use Rattle.gix_tree.specs.Paths.{IsName, known_root}
 use Rattle.gix_tree.specs.Preorder.{IsPreorder}
-use Rattle.gix_commands.specs.Listings.{AreNamed, Misnames}
+use Rattle.gix_commands.specs.Listings.{AreNamed, Misnames, Unfolds}
 use Rattle.gix_commands.specs.Readable.{is_faultless, is_text, or_zero, readable_bytes, readable_object, readable}
 
 module _ (all_lines : Bool) where
@@ -155,13 +155,16 @@ module _ (all_lines : Bool) (objects : Objects) where
   readable_named tree =
       subst (λ (t : ObjectId → Option Items). (i : ObjectId) → Reaches (subtrees_of t (LookUpFails objects (never_faulty objects)) (λ e. true)) (tree ∷ []) i → AllByRecursion (λ e. IsName e.name) (entries_at t i)) (sym all_trees_same)
 
+  pub unfolds_back : (tree : ObjectId) (visits : List Visit) → Unfolds (readable all_lines objects) tree visits → Unfolds objects tree visits
+  unfolds_back tree visits u = record {
+    in_order = subst (λ (t : ObjectId → Option Items). IsPreorder (entries_at t) (known_root tree) (entries_at t tree) visits false) all_trees_same u.in_order;
+    all = u.all;
+  }
+
   pub misnames_back : (tree i : ObjectId) → Misnames (readable all_lines objects) tree i → Misnames objects tree i
   misnames_back tree i m = record {
     visits = m.visits;
-    unfolds = record {
-      in_order = subst (λ (t : ObjectId → Option Items). IsPreorder (entries_at t) (known_root tree) (entries_at t tree) m.visits false) all_trees_same m.unfolds.in_order;
-      all = m.unfolds.all;
-    };
+    unfolds = unfolds_back tree m.visits m.unfolds;
     first = m.first;
     entry = m.entry;
     held = subst (λ (t : ObjectId → Option Items). Contains (entries_at t i) m.entry) all_trees_same m.held;

@@ -11,7 +11,7 @@ use Rattle.gix_statement.proofs.InEach.{Each, ahead_each, bases_each, containing
 use Rattle.gix_statement.specs.WholeStatement as page
 use Rattle.gix_statement.specs.WholeStatement.{IsThere, Row, contains}
 use Rattle.gix_commands.specs.Pages.{HaveTexts, page_objects}
-use Rattle.gix_commands.specs.Run.{Serves, cut_off, misnamed}
+use Rattle.gix_commands.specs.Run.{Serves, cut_off, misnamed, too_many}
 use Rattle.gix_commands.specs.TopoWalked.{Walk as TopoWalk}
 use Rattle.gix_commands.proofs.AheadRuns.{counted_so, counted_whole}
 use Rattle.gix_commands.proofs.BasesRuns.{joined_so}
@@ -55,6 +55,7 @@ module _ (objects : Objects) (rows : List GraphRow) (agrees : IsAgreeing objects
       subst (EachSo new) (sym is) (files_each (page_objects objects) [] (text_next objects) (time_of objects) (fed_history objects) given their (here_on on) old new shown.limit bound option text within ends spells (on.tree tree t.0 t.2) (unfolds_on on t.3) t.4)
   files_right words shown tree w (Err e) new (not_listed recorder why walk) = inl refl
   files_right words shown tree w (Err e) new (misnamed recorder walk first) = inl refl
+  files_right words shown tree w (Err e) new (too_many recorder walk names none more) = inl refl
   files_right words shown tree w (Err e) new unserved = inl refl
   files_right words shown tree w (Err e) new (cut_off {answer = answer} {full = full} some more s a b) = cut_right (page_objects objects) given their words old answer full new some more (files_right words shown tree w answer full s) a b
 

@@ -4,7 +4,6 @@ pub mod Checked
 pub mod TopoWalked
 pub mod Opening
 pub mod Files
-pub mod Lister
 pub mod Ahead
 pub mod Readable
 pub mod Pages
@@ -13,4 +12,3 @@ pub mod StoredRuns
 pub mod Histories
 pub mod Listings
 pub mod Output
-pub mod Examples

@@ -4,6 +4,7 @@ use Rattle.std.specs.Io.KnownBytes.{Appends}
 use Rattle.std.specs.Iterator.{Yields, YieldsThen}
 use Rattle.std.specs.List.{flat_map}
 use Rattle.gix_hash.specs.declared.ObjectId.{ObjectId}
+use Rattle.gix_lines.specs.Output.{Grows, WritesBeginning}
 use Rattle.gix_revwalk.specs.declared.Info.{Info}
 use Rattle.gix_words.specs.declared.fault.Fault.{Fault}
 use Rattle.gix_words.specs.declared.fault.Fault.TheVariants as fault
@@ -13,10 +14,6 @@ use Rattle.gix_commands.specs.declared.output.Sink.{Sink}
 use Rattle.gix_commands.specs.Chosen.{Writes}
 use Rattle.gix_revwalk.specs.Infos.{given}
 use Rattle.gix_commands.specs.Walked.{AsksForMore, EndsBy, Have}
-
--- the writer's bytes, followed by the buffered ones, grew by these bytes
-abbrev pub Grows : Option (List ℕ) → List ℕ → Option (List ℕ) → List ℕ → List ℕ → Type 0
-Grows old waiting new waits bytes = (written : List ℕ) × Appends old new written × (waiting ++ bytes ≡ written ++ waits)
 
 -- a walk was drawn until as many were written as a limit says, and no answer behind that, or to its end
 abbrev pub StopsWithin : {W E : Type 0} → (W → Option (Result Info E) → W → Type 0) → (List Info → List ObjectId) → Option ℕ → W → W → Type 0
@@ -61,7 +58,7 @@ pub record WritesAll {W E : Type 0} (Steps : W → Option (Result Info E) → W 
 
 -- the writer failed: a beginning of these bytes was written
 abbrev pub BreaksOff : Option (List ℕ) → Option (List ℕ) → List ℕ → Fault → Type 0
-BreaksOff old new bytes e = (e ≡ fault.Write) × ((some more : List ℕ) × (bytes ≡ some ++ more) × Appends old new some)
+BreaksOff old new bytes e = (e ≡ fault.Write) × WritesBeginning old new bytes
 
 -- No line was added to those buffered. Either memory ran out, and what was buffered may be written; or the writer failed, and none is buffered.
 abbrev pub AddsNone : Option (List ℕ) → List ℕ → Option (List ℕ) → List ℕ → Fault → Type 0

@@ -1,5 +1,5 @@
 -- What a run of the program may answer and write.
-use Rattle.std.specs.Prelude.{◌≡◌, ◌≢◌, ℕ, List, [], ◌∷◌, length, Option, Result, Ok, Err}
+use Rattle.std.specs.Prelude.{◌≡◌, ◌≢◌, ◌<◌, ℕ, List, [], ◌∷◌, length, Option, None, Result, Ok, Err}
 use Rattle.std.specs.Io.KnownBytes.{Appends}
 use Rattle.std.specs.Iterator.{Yields}
 use Rattle.std.specs.List.{flat_map}
@@ -21,6 +21,7 @@ use Rattle.gix_topo.specs.declared.Sorting.{Sorting as TopoSorting}
 use Rattle.gix_tree.specs.declared.breadthfirst.Error.{Error as TreeError}
 use Rattle.gix_tree.specs.Paths.{HaveNames}
 use Rattle.gix_tree.specs.Tracked.{Tracked}
+use Rattle.gix_tree_size.specs.Survey.{IsMisnamed, capped}
 use Rattle.gix_words.specs.declared.fault.Fault.{Fault}
 use Rattle.gix_words.specs.declared.fault.Fault.TheVariants as fault
 use Rattle.gix_words.specs.declared.words.EntryLines.{EntryLines}
@@ -30,7 +31,7 @@ use Rattle.gix_commands.specs.Ahead.{Counts, FailsToCount, ahead_line}
 use Rattle.gix_words.specs.Faults.{fault_of_walk, fault_of_topo_walk, fault_of_search, fault_of_tree_walk}
 use Rattle.gix_commands.specs.Checked.{GoesOnWhole, LacksParent}
 use Rattle.gix_commands.specs.Chosen.{HasObject, HasText, Writes, kept_in, line_in}
-use Rattle.gix_commands.specs.Files.{IsMisnamed, RecordsTree, file_lines}
+use Rattle.gix_commands.specs.Files.{RecordsTree, file_lines, most_entries}
 use Rattle.gix_graph_check.specs.declared.Disagreement.TheVariants.{Row}
 use Rattle.gix_graph_store.specs.Laws.{StoredAgree}
 use Rattle.gix_graph_store.specs.StoredRows.{StoredDisagrees}
@@ -78,6 +79,9 @@ pub data Serves (IsStored : ObjectId → Type 0) (objects : Objects) (rows : Lis
   -- and of a tree whose walk ended well, where a name is none. The first tree that has such a name is reported
   misnamed : {shown : EntryLines} {tree i : ObjectId} (recorder : Tracked) (walk : RecordsTree objects tree recorder (Ok tt)) → IsMisnamed walk.visits i
       → Serves IsStored objects rows old (Files shown tree) (Err (fault.Name i)) old
+  -- and of a tree that has too many entries, where no limit was asked for
+  too_many : {shown : EntryLines} {tree : ObjectId} (recorder : Tracked) (walk : RecordsTree objects tree recorder (Ok tt)) → HaveNames walk.visits
+      → shown.limit ≡ None → most_entries < length walk.visits → Serves IsStored objects rows old (Files shown tree) (Err (fault.Entries (capped (length walk.visits)))) old
   counted : {one other : ObjectId} (ahead behind : ℕ) {new : Option (List ℕ)}
       → Counts objects rows one other ahead → Counts objects rows other one behind → Appends old new (ahead_line ahead behind)
       → Serves IsStored objects rows old (Ahead one other) (Ok tt) new

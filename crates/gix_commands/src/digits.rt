@@ -1,9 +1,9 @@
 //! Hex digits of ids in lines.
-ghost use Rattle.std.specs.Prelude.{◌≡◌, ◌*◌, ◌<◌, ◌++◌, ◌∷◌, [], length, slice_index, OnOk, OnErr};
-ghost use Rattle.hex.specs.Hex.{encode_lower, lower_digits};
+ghost use Rattle.std.specs.Prelude.{◌≡◌, ◌++◌, ◌∷◌, [], OnOk, OnErr};
 ghost use Rattle.gix_hash.specs.Id.{hex_of};
 
 use gix_hash::ObjectId;
+use gix_lines::put_digits;
 use std::alloc::AllocError;
 
 /// Adds an id in hex digits of lower case, and this byte after it.
@@ -48,26 +48,4 @@ pub fn add_digits(line: &mut Vec<u8>, id: &ObjectId) -> Result<(), AllocError>
             line.extend_from_slice(&text)
         }
     }
-}
-
-/// Writes the two digits of each byte.
-#[inline(always)]
-fn put_digits(bytes: &[u8], text: &mut [u8])
-    requires { length text.old ≡ 2 * length bytes.now }
-    ensures { text.new ≡ encode_lower bytes.now }
-{
-    'bytes: for i in 0..bytes.len() {
-        let byte = bytes[i];
-        text[2 * i] = digit(byte >> 4);
-        text[2 * i + 1] = digit(byte & 0x0f);
-    }
-}
-
-/// The digit of a number.
-#[inline(always)]
-fn digit(number: u8) -> u8
-    requires { number < 16 }
-    ensures { result ≡ slice_index lower_digits number }
-{
-    number + b'0' + u8::from(number > 9) * (b'a' - b'9' - 1)
 }

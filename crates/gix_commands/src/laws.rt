@@ -1,7 +1,7 @@
 //! What a run of the program writes, as laws over the definitions: functions that do nothing, and whose contracts are proved.
 
 ghost use Rattle.gix_commands.specs.Histories.{AheadSucceeds, BasesSucceeds, ContainingSucceeds, ContainsSucceeds, SimpleSucceeds, TopoSucceeds};
-ghost use Rattle.gix_commands.specs.Listings.{FilesReportNames, FilesSucceeds};
+ghost use Rattle.gix_commands.specs.Listings.{FilesReportEntries, FilesReportNames, FilesSucceeds};
 
 /// Where all that is reached are whole commits, `breadth`, `newest` and `oldest` fail for memory, reading or writing alone, whatever is
 /// written of it.
@@ -20,8 +20,13 @@ pub fn files_report_names()
     ensures { FilesReportNames }
 {}
 
-/// Where each of these trees reads whole, none is under itself, and no name is empty or holds `/`, `files` fails for memory, reading or
-/// writing alone.
+/// Where `files` reports too many entries, no limit was asked for, and the tree and the trees in it have this many, more than 268,435,456.
+pub fn files_report_entries()
+    ensures { FilesReportEntries }
+{}
+
+/// Where each of these trees reads whole, none is under itself, no name is empty or holds `/`, and the entries aren't too many or a limit is
+/// asked for, `files` fails for memory, reading or writing alone.
 pub fn files_succeeds()
     ensures { FilesSucceeds }
 {}

@@ -81,8 +81,9 @@ pub use stored::{run_named, run_stored};
 /// `Record` where the input isn't records: nothing is written. `Missing`, `WrongKind` and `Broken` where the walk meets such an object,
 /// or in an order by time such a parent of the commit that it gave last, `Cycle` where it meets a tree that is under itself, and
 /// `Memory`: the lines of the commits before are written, and nothing with `--reverse` and `--count`, and of `files`, `ahead`, `contains`,
-/// `containing` and `merge-base`. `Name` where a tree has a name that is empty or holds `/`: nothing is written. `Write` where the writer fails, or takes nothing: a beginning of the lines is written,
-/// which may end within a line.
+/// `containing` and `merge-base`. `Name` where a tree has a name that is empty or holds `/`, and `Entries` where `files` without `-n` would
+/// write more than 268,435,456 lines: nothing is written. `Write` where the writer fails, or takes nothing: a beginning of the lines is
+/// written, which may end within a line.
 ///
 /// A commit without a byte is `Broken`, and with `--first-parent` one is of which a line of a parent isn't sound, be it of another parent.
 pub fn run<R: Read, W: Write>(

@@ -1,24 +1,23 @@
 //! The lines of a walk over commits.
-ghost use Rattle.std.specs.Prelude.{◌≡◌, ◌≤◌, ◌++◌, ◌∷◌, [], false, take, length, reverse, OnOk, IfOk, IfErr};
+ghost use Rattle.std.specs.Prelude.{◌≡◌, ◌++◌, ◌∷◌, [], false, length, reverse, OnOk, IfOk, IfErr};
 ghost use Rattle.std.specs.Fmt.{digits};
-ghost use Rattle.std.specs.Io.KnownBytes.{Appends, Keeps};
+ghost use Rattle.std.specs.Io.KnownBytes.{Appends};
 ghost use Rattle.std.specs.Iterator.{IsFinite};
 ghost use Rattle.std.specs.List.{flat_map};
 ghost use Rattle.gix_commands.specs.Chosen.{HasTextIn, fresh_choosing, kept_in, line_in};
-ghost use Rattle.gix_commands.specs.Output.{Grows, AddsBegun, AddsNone, StopsWithin, BreaksOff, Takes, TakesNone, WritesBegun, WritesWhole, held_in};
+ghost use Rattle.gix_commands.specs.Output.{AddsBegun, AddsNone, StopsWithin, BreaksOff, Takes, TakesNone, WritesBegun, WritesWhole, held_in};
+ghost use Rattle.gix_lines.specs.Output.{Grows};
 
 use crate::chosen::Chooser;
 use gix_hash::ObjectId;
+use gix_lines::write_bytes;
 use gix_revwalk::Info;
 use gix_words::{Fault, Form};
 use std::alloc::{AllocError, Global};
-use std::io::{ErrorKind, Write};
+use std::io::Write;
 
 /// How many bytes are buffered before they are written.
 const MANY: usize = 1 << 16;
-
-/// How often a writer is asked at the most to take the bytes that are buffered.
-const WRITES: u32 = 1 << 31;
 
 /// Where the commits that are written go: lines are buffered, and written when they are many; for a list with the last first the ids are
 /// held; for their number nothing is.
@@ -244,39 +243,5 @@ fn write_lines<W: Write>(lines: &mut Vec<u8>, writer: &mut W) -> Result<(), Faul
 {
     let written = write_bytes(lines.as_slice(), writer);
     lines.clear();
-    written
-}
-
-/// Writes these bytes. A write that was interrupted is made again.
-fn write_bytes<W: Write>(bytes: &[u8], writer: &mut W) -> Result<(), Fault>
-    ensures ok { OnOk result (Appends (W.contents writer.old) (W.contents writer.new) bytes.now) }
-    ensures fault { IfErr result (BreaksOff (W.contents writer.old) (W.contents writer.new) bytes.now) }
-{
-    let mut rest = bytes;
-    for _turn in 0..WRITES {
-        if rest.is_empty() {
-            return Ok(());
-        }
-        let taken = write_some(rest, writer)?;
-        rest = &rest[taken..];
-    }
-    Err(Fault::Write)
-}
-
-/// Asks the writer once to take bytes. How many it took: none where it was interrupted.
-fn write_some<W: Write>(bytes: &[u8], writer: &mut W) -> Result<usize, Fault>
-    ensures within { IfOk result (λ taken. taken ≤ length bytes.now) }
-    ensures ok { IfOk result (λ taken. Appends (W.contents writer.old) (W.contents writer.new) (take taken bytes.now)) }
-    ensures fault { IfErr result (λ e. (e ≡ Fault.Write) × Keeps (W.contents writer.old) (W.contents writer.new)) }
-{
-    match writer.write(bytes) {
-        Ok(0) => Err(Fault::Write),
-        Ok(taken) => Ok(taken),
-        Err(error) => {
-            if error.kind() != ErrorKind::Interrupted {
-                return Err(Fault::Write);
-            }
-            Ok(0)
-        }
-    }
+    Ok(written?)
 }

@@ -35,6 +35,7 @@ of_fault (fault.Graph e) = of_length 13 0
 of_fault (fault.Row i) = of_id 14 i
 of_fault (fault.Disagrees i) = of_id 15 i
 of_fault (fault.Name i) = of_id 16 i
+of_fault (fault.Entries n) = of_place 22 n
 
 -- what a run of the commands answers and writes over a text of words and the bytes of records
 abbrev pub RunsOver : List ℕ → List ℕ → Result (Unit {0}) Fault → List ℕ → Type 0
@@ -78,4 +79,5 @@ text_of n =
     else if nat_eq n 19 then codes "unknown revision"
     else if nat_eq n 20 then codes "damaged files of objects"
     else if nat_eq n 21 then codes "another object than the id's"
+    else if nat_eq n 22 then codes "too many entries"
     else codes "unknown fault"

@@ -66,6 +66,7 @@ impl Answer {
             Fault::Row(id) => Answer::of_id(14, id),
             Fault::Disagrees(id) => Answer::of_id(15, id),
             Fault::Name(id) => Answer::of_id(16, id),
+            Fault::Entries(number) => Answer::of_place(22, number as usize),
         }
     }
 
@@ -188,6 +189,7 @@ pub fn text_of(number: u32) -> &'static str
         19 => "unknown revision",
         20 => "damaged files of objects",
         21 => "another object than the id's",
+        22 => "too many entries",
         _ => "unknown fault",
     }
 }

@@ -7,6 +7,8 @@ use Rattle.gix_records.specs.declared.Error.{Error as RecordsError}
 use Rattle.gix_records.specs.declared.Error.TheVariants as records
 use Rattle.gix_object.specs.declared.find.existing_iter.Error.{Error as ExistingError}
 use Rattle.gix_object.specs.declared.find.existing_iter.Error.TheVariants as existing
+use Rattle.gix_lines.specs.declared.Error.{Error as LinesError}
+use Rattle.gix_lines.specs.declared.Error.TheVariants as lines_error
 use Rattle.gix_simple.specs.declared.Error.{Error}
 use Rattle.gix_simple.specs.declared.Error.TheVariants as error
 use Rattle.gix_paint.specs.declared.Hidden.TheVariants as hidden_by
@@ -61,3 +63,7 @@ fault_of_tree_walk tree_error.Cancelled = fault.Internal
 fault_of_tree_walk (tree_error.ObjectDecode e) = fault.Broken
 fault_of_tree_walk (tree_error.Cycle oid) = fault.Cycle oid
 fault_of_tree_walk tree_error.Memory = fault.Memory
+
+abbrev pub fault_of_lines : LinesError → Fault
+fault_of_lines lines_error.Memory = fault.Memory
+fault_of_lines lines_error.Write = fault.Write

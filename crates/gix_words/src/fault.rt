@@ -38,6 +38,10 @@ pub enum Fault {
     /// entry, in the order in which `files` lists entries. Nothing is written.
     #[error("bad name in tree {0}")]
     Name(ObjectId),
+    /// The tree has this many entries, with those of the trees in it, each as often as it is met: more than 268,435,456, and no limit was
+    /// asked for. `u64::MAX` stands for more, too. Nothing is written.
+    #[error("too many entries: {0}")]
+    Entries(u64),
     /// The layers are no commit-graph that can be read. Nothing is written, and of the input nothing is read.
     #[error("bad commit-graph: {0}")]
     Graph(ChainError),
@@ -160,6 +164,19 @@ impl From<gix_contained::Error> for Fault {
             gix_contained::Error::Find(fault) => Fault::from(fault),
             gix_contained::Error::ObjectDecode(_) => Fault::Broken,
             gix_contained::Error::Memory => Fault::Memory,
+        }
+    }
+}
+
+impl From<gix_lines::Error> for Fault {
+    ghost use Rattle.gix_words.specs.Faults.{fault_of_lines};
+
+    ghost from_gives = { λ e r. r ≡ fault_of_lines e };
+
+    fn from(error: gix_lines::Error) -> Fault {
+        match error {
+            gix_lines::Error::Memory => Fault::Memory,
+            gix_lines::Error::Write => Fault::Write,
         }
     }
 }

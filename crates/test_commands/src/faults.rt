@@ -29,6 +29,10 @@ fn prints_its_text(rt: HostRuntime) -> Result<(), Fail> {
             "bad name in tree 1111111111111111111111111111111111111111",
         ),
         (
+            Fault::Entries(18446744073709551615),
+            "too many entries: 18446744073709551615",
+        ),
+        (
             Fault::Graph(ChainError::Layer(1, Error::Base)),
             "bad commit-graph: layer 1: the chunk BASE isn't the hashes of the layers below",
         ),

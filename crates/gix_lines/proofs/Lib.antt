@@ -1,0 +1,6 @@
+mod Octal
+mod Putting
+mod Names
+mod Leaving
+mod Scripts
+mod FirstLines
