@@ -1,8 +1,8 @@
 -- What a run of `files` answers, by the survey of its tree.
-use Rattle.std.proofs.Common.{◌≡◌, ◌≢◌, ◌≤◌, ◌<◌, ℕ, ◌-◌, ◌^◌, min, List, [], map, take, take_all, length, IfSome, inl, inr, ◌⊎◌, Bool, true, false, nat_lt, refl, Option, None, Some, Result, Ok, Err, IfErr, OnOk, flat_map, sym, ap, subst, ◌∙◌, arith, if◌then◌else◌, option_map}
+use Rattle.std.proofs.Common.{◌≡◌, ◌≢◌, ◌≤◌, ◌<◌, ℕ, ◌-◌, ◌^◌, min, List, map, take, take_all, length, IfSome, inl, inr, Bool, true, false, nat_lt, refl, Option, None, Some, Result, Ok, Err, flat_map, sym, ap, subst, ◌∙◌, arith, if◌then◌else◌, option_map, ltb-false, ltb-true}
 use Rattle.std.specs.Option.{option_or}
 use Rattle.std.proofs.lemmas.List.{length-map}
-use Rattle.gix_commands.proofs.Common.{get, Appends, ObjectId, Objects, GraphRow, Fault, Items, Object, IsDepthScript, DepthScript, Ending, Whole, LookUpFails, trees_of, items_of_object, with_rows, depth_is_recorded, fault_of_tree_walk, RecordsTree, file_line, file_lines, allowed, never_faulty, not_listed}
+use Rattle.gix_commands.proofs.Common.{get, ObjectId, Objects, GraphRow, Fault, Items, Object, IsDepthScript, DepthScript, Whole, LookUpFails, trees_of, items_of_object, with_rows, depth_is_recorded, fault_of_tree_walk, file_line, file_lines, allowed, never_faulty, not_listed}
 use Rattle.gix_commands.proofs.Common.{Call, EntryLines, Files, unserved}
 use Rattle.gix_object.specs.declared.find.existing_iter.Error.{Error as ExistingError}
 use Rattle.gix_graph_store.specs.RowText.{text_at}
@@ -13,7 +13,7 @@ use Rattle.gix_lines.specs.Output.{WritesLines}
 use Rattle.gix_tree.specs.declared.breadthfirst.Error.{Error}
 use Rattle.gix_tree.specs.declared.breadthfirst.Error.TheVariants as error
 use Rattle.gix_tree.specs.Paths.{HaveNames}
-use Rattle.gix_tree.specs.Recorder.{Record, record_of}
+use Rattle.gix_tree.specs.Recorder.{record_of}
 use Rattle.gix_tree.specs.Script as script
 use Rattle.gix_tree.specs.Visits.{Place, Visit}
 use Rattle.gix_tree.proofs.Theorems.SameRecords.{GoOn}
@@ -27,12 +27,6 @@ use Rattle.gix_commands.specs.Run.{Serves, listed, misnamed, too_many}
 use Rattle.gix_commands.proofs.ReadableObjects.{all_trees_same}
 use Rattle.gix_commands.proofs.ServedCalls.{nothing_written, written_or_begun}
 use Rattle.gix_commands.proofs.TreeFacts.{ends_whole, goes_on}
-
-lt_true : (n m : ℕ) → nat_lt n m ≡ true → n < m
-lt_true n m e = grind (arith, e)
-
-lt_false : (n m : ℕ) → nat_lt n m ≡ false → m ≤ n
-lt_false n m e = grind (arith, e)
 
 pub none_of : {A : Type 0} (o : Option A) → ((x : A) → o ≡ Some x → ⊥) → o ≡ None
 none_of None h = refl
@@ -74,11 +68,11 @@ taken (Some most) xs number bound is =
   where
     choose : (b : Bool) → nat_lt most (length xs) ≡ b → min most (capped (length xs)) ≡ number → (take number xs ≡ take most xs) × (number ≤ length xs)
     choose true less so =
-        let small : most < length xs = lt_true most (length xs) less in
+        let small : most < length xs = ltb-true most (length xs) less in
         let same : number ≡ most = omega (arith, small, bound, so) in
         (ap (λ n. take n xs) same, omega (arith, small, same))
     choose false more so =
-        let big : length xs ≤ most = omega (arith, lt_false most (length xs) more) in
+        let big : length xs ≤ most = omega (arith, ltb-false most (length xs) more) in
         let all : number ≡ length xs = omega (arith, big, bound, so) in
         (ap (λ n. take n xs) all ∙ take_all (length xs) xs (omega arith) ∙ sym (take_all most xs big), omega (arith, all))
 taken None xs number bound is = choose (nat_lt most_entries (capped (length xs))) refl is
@@ -86,7 +80,7 @@ taken None xs number bound is = choose (nat_lt most_entries (capped (length xs))
     choose : (b : Bool) → nat_lt most_entries (capped (length xs)) ≡ b → (if b then Err (fault.Entries (capped (length xs))) else Ok (capped (length xs))) ≡ Ok number → (take number xs ≡ xs) × (number ≤ length xs)
     choose true more so = cc
     choose false few so =
-        let within : capped (length xs) ≤ most_entries = omega (arith, lt_false most_entries (capped (length xs)) few) in
+        let within : capped (length xs) ≤ most_entries = omega (arith, ltb-false most_entries (capped (length xs)) few) in
         let is_it : capped (length xs) ≡ number = cc in
         let all : number ≡ length xs = omega (arith, within, is_it) in
         (ap (λ n. take n xs) all ∙ take_all (length xs) xs (omega arith), omega (arith, all))
@@ -120,7 +114,7 @@ module _ (Stored : ObjectId → Type 0) (objects : Objects) (rows : List GraphRo
         where
           look : shown.limit ≡ None → (b : Bool) → nat_lt most_entries s.entries ≡ b → (if b then Err (fault.Entries s.entries) else Ok s.entries) ≡ Err e → ServesFiles result old
           look at true more is_it =
-              let many : most_entries < length here.walk.visits = omega (arith, lt_true most_entries s.entries more, here.entries) in
+              let many : most_entries < length here.walk.visits = omega (arith, ltb-true most_entries s.entries more, here.entries) in
               let it : fault.Entries s.entries ≡ e = cc in
               subst (λ r. ServesFiles r old) (ap (λ n. Err (fault.Entries n)) (sym here.entries) ∙ ap (λ f. Err f) it ∙ sym same) (too_many here.recorder here.walk named at many)
           look at false more is_it = cc

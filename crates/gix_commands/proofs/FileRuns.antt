@@ -26,36 +26,24 @@ use Rattle.gix_commands.proofs.TreeFacts.{goes_on, in_preorder}
 name_same : {i j : ObjectId} → fault.Name i ≡ fault.Name j → i ≡ j
 name_same e = cc
 
--- no walk fails for a name
-find_not_named : (i : ObjectId) (e : ExistingError) → fault_of_find e ≡ fault.Name i → ⊥
-find_not_named i existing.Store e = cc
-find_not_named i (existing.NotFound oid) e = cc
-find_not_named i (existing.ObjectKind oid wanted actual) e = cc
-find_not_named i existing.Memory e = cc
-
-not_named : (i : ObjectId) (why : Error) → fault_of_tree_walk why ≡ fault.Name i → ⊥
-not_named i error.Memory e = cc
-not_named i (error.Find f) e = find_not_named i f e
-not_named i error.Cancelled e = cc
-not_named i (error.ObjectDecode f) e = cc
-not_named i (error.Cycle j) e = cc
-
 entries_same : {n m : ℕ} → fault.Entries n ≡ fault.Entries m → n ≡ m
 entries_same e = cc
 
--- nor for too many entries
-find_not_counted : (n : ℕ) (e : ExistingError) → fault_of_find e ≡ fault.Entries n → ⊥
-find_not_counted n existing.Store e = cc
-find_not_counted n (existing.NotFound oid) e = cc
-find_not_counted n (existing.ObjectKind oid wanted actual) e = cc
-find_not_counted n existing.Memory e = cc
+-- a fault that a walk through a tree may have: neither that a name is none, nor that there are too many entries
+abbrev IsOfTree : Fault → Type 0
+IsOfTree (fault.Name i) = ⊥
+IsOfTree (fault.Entries n) = ⊥
+IsOfTree e = Unit {0}
 
-not_counted : (n : ℕ) (why : Error) → fault_of_tree_walk why ≡ fault.Entries n → ⊥
-not_counted n error.Memory e = cc
-not_counted n (error.Find f) e = find_not_counted n f e
-not_counted n error.Cancelled e = cc
-not_counted n (error.ObjectDecode f) e = cc
-not_counted n (error.Cycle j) e = cc
+-- a look-up that fails has such a fault
+of_find : (e : ExistingError) → IsOfTree (fault_of_find e)
+of_find existing.Store = tt
+of_find e = tt
+
+-- and so has each walk that fails
+of_tree : (why : Error) → IsOfTree (fault_of_tree_walk why)
+of_tree (error.Find e) = of_find e
+of_tree e = tt
 
 not_failed : (why : Error) (end : Ending) → Err why ≡ depth_answer end → IsUnfailed end → ⊥
 not_failed why Whole e u = cc
@@ -68,7 +56,7 @@ module _ (objects : Objects) (shown : EntryLines) (tree : ObjectId) where
 
   reports : {Stored : ObjectId → Type 0} → (i : ObjectId) (answer : Result (Unit {0}) Fault) (old new : Option (List ℕ)) → Serves Stored objects [] old (Files shown tree) answer new → answer ≡ Err (fault.Name i) → Misnames objects tree i
   reports i answer old new (listed recorder walk names written) is = cc
-  reports i answer old new (not_listed recorder why walk) is = absurd (not_named i why (err_same is))
+  reports i answer old new (not_listed recorder why walk) is = absurd (subst IsOfTree (err_same is) (of_tree why))
   reports i answer old new (misnamed {i = j} recorder walk first) is = subst (Misnames objects tree) (name_same (err_same is)) (misnames objects tree walk.visits j (unfolds recorder walk) first)
   reports i answer old new (too_many recorder walk names none more) is = cc
   reports i answer old new unserved is = cc
@@ -80,7 +68,7 @@ module _ (objects : Objects) (shown : EntryLines) (tree : ObjectId) where
 
   counts : {Stored : ObjectId → Type 0} → (n : ℕ) (answer : Result (Unit {0}) Fault) (old new : Option (List ℕ)) → Serves Stored objects [] old (Files shown tree) answer new → answer ≡ Err (fault.Entries n) → Counted n
   counts n answer old new (listed recorder walk names written) is = cc
-  counts n answer old new (not_listed recorder why walk) is = absurd (not_counted n why (err_same is))
+  counts n answer old new (not_listed recorder why walk) is = absurd (subst IsOfTree (err_same is) (of_tree why))
   counts n answer old new (misnamed recorder walk first) is = cc
   counts n answer old new (too_many recorder walk names none more) is = (walk.visits, unfolds recorder walk, more, sym (entries_same (err_same is)), none)
   counts n answer old new unserved is = cc

@@ -12,12 +12,13 @@ use Rattle.gix_simple.specs.declared.Sorting.TheVariants as sorting
 use Rattle.gix_topo.specs.declared.Sorting.{Sorting as TopoSorting}
 use Rattle.gix_topo.specs.declared.Sorting.TheVariants as topo
 use Rattle.gix_tree.specs.Recorder.{record_of}
+use Rattle.gix_lines.proofs.Scripts.{joined_behind}
 use Rattle.gix_statement.specs.WholeStatement as page
 use Rattle.gix_commands.proofs.PageLists.{Lists}
 use Rattle.gix_commands.proofs.KeptLists.{all_followed, cut_all, tips_kept}
 use Rattle.gix_commands.proofs.SameOrders.{reaches, reaches_back, are_distinct, in_order_there, name_of}
 use Rattle.gix_commands.proofs.SameDescents.{in_order_down, name_down}
-use Rattle.gix_commands.proofs.SameTrees.{joined_behind, placed_by, same_bytes}
+use Rattle.gix_commands.proofs.SameTrees.{placed_by, same_bytes}
 use Rattle.gix_commands.proofs.SameWords.{IsCutoff, IsNameOf, IsOptionOf}
 use Rattle.gix_commands.proofs.ListedCommits.{IsShownBy, ListsBy, ListsDown, followed, kept_tips, lines_of_ids}
 

@@ -1,8 +1,8 @@
 -- The entries of trees, the trees in them and the lines of entries are those of the statement.
-use Rattle.std.proofs.Common.{◌≡◌, ◌≢◌, ◌≤◌, ◌<◌, ◌+◌, ◌*◌, ◌==◌, nat_lt, ℕ, zero, suc, List, [], ◌∷◌, ◌++◌, map, length, take, drop, Bool, true, false, cond, Option, Some, None, All, bit_and, Continue, flat_map, position, refl, sym, ap}
+use Rattle.std.proofs.Common.{◌≡◌, ◌≢◌, ◌≤◌, ◌<◌, ◌+◌, ◌*◌, ◌==◌, nat_lt, ℕ, zero, suc, List, [], ◌∷◌, ◌++◌, map, length, take, drop, Bool, true, false, cond, Option, Some, None, All, bit_and, Continue, position, refl, sym, ap}
 use Rattle.std.proofs.Common.{subst, ◌∙◌, arith, append-nil, append_assoc, length-append, get_or, drop-cons, eqb-true, eq-eqb, ltb-false, get_or-take, length-take-le, take-append-drop}
-use Rattle.gix_commands.proofs.Common.{get, false≢true, All-cons, All-head, All-nil, All-tail, same_Some, none-some, ObjectId, id_len, id_of, kind_of, bytes_of, is_among, Object, Objects, kind_word, Call, DepthScript, IsDepthScript, entries_in}
-use Rattle.gix_commands.proofs.Common.{Items, Place, Visit, visit, Whole, items_of_object, items_of_kind, trees_of, Entry, IsNumber, AreEntries, IsTree, bytes_in, digits_in}
+use Rattle.gix_commands.proofs.Common.{get, false≢true, All-cons, All-head, All-nil, All-tail, same_Some, none-some, ObjectId, id_len, id_of, kind_of, bytes_of, Object, Objects, kind_word, Call, DepthScript, IsDepthScript, entries_in}
+use Rattle.gix_commands.proofs.Common.{Items, Place, Visit, visit, Whole, Leaves, Enters, items_of_object, items_of_kind, trees_of, Entry, IsNumber, AreEntries, IsTree, bytes_in, digits_in}
 use Rattle.std.specs.List.{AllByRecursion}
 use Rattle.std.proofs.lemmas.List.{map-append}
 use Rattle.std.proofs.lemmas.List.Quantifiers.{position-Some}
@@ -14,17 +14,18 @@ use Rattle.gix_object.specs.declared.Kind.TheVariants as kind
 use Rattle.gix_object.specs.declared.find.existing_iter.Error.{Error as ExistingError}
 use Rattle.gix_object.specs.TreeItems.{TreeEntry, TreeFront, Found, Faulty, Ended, is_tree, parted_at, parted, mode_of, mode_before, mode_parted, mode_at, name_at, id_at, named_front, moded_front, entry_front, tree_front, unfolded, entries_within, tree_items}
 use Rattle.gix_tree.specs.Laws.{IsWhole}
-use Rattle.gix_tree.specs.Paths.{HaveNames, IsName, joined}
+use Rattle.gix_tree.specs.Paths.{HaveNames, IsName}
 use Rattle.gix_tree.specs.Script as script
 use Rattle.gix_tree.proofs.All.{all_left, all_right}
+use Rattle.gix_tree.proofs.Outcomes.{says}
 use Rattle.gix_tree.proofs.Theorems.SameRecords.{GoOn}
+use Rattle.gix_lines.proofs.Scripts.{before}
 use Rattle.gix_statement.specs.WholeStatement as page
 use Rattle.gix_statement.specs.WholeStatement.{Unfolds}
 use Rattle.gix_commands.specs.Pages.{page_objects}
 use Rattle.gix_commands.proofs.SameNumbers.{is_octal_number, width_of}
 use Rattle.gix_commands.proofs.SameCommits.{IsHeld, held}
 use Rattle.gix_commands.proofs.SameNumbers.{own_width}
-use Rattle.gix_commands.proofs.TreeFacts.{leaves_mode, enters_mode}
 
 -- an entry, as the statement has it
 abbrev pub entry_of : TreeEntry → Entry
@@ -199,18 +200,10 @@ module _ (objects : Objects) (i : ObjectId) where
       go None at e = absurd (none-some items e)
       go (Some o) at e = of_object o at items o.kind refl e w a
 
--- what the paths in a place begin with
-abbrev pub before : List (List ℕ) → List ℕ
-before names = flat_map (λ name. name ++ 47 ∷ []) names
-
+-- what the paths in a tree begin with, by what those in the tree above begin with
 before_more : (names : List (List ℕ)) (name : List ℕ) → before (names ++ name ∷ []) ≡ before names ++ name ++ 47 ∷ []
 before_more [] name = append-nil (name ++ 47 ∷ [])
 before_more (n ∷ names) name = ap (λ xs. n ++ 47 ∷ [] ++ xs) (before_more names name) ∙ sym (append_assoc (n ++ 47 ∷ []) (before names ++ name) (47 ∷ [])) ∙ ap (λ xs. xs ++ 47 ∷ []) (sym (append_assoc (n ++ 47 ∷ []) (before names) name))
-
-pub joined_behind : (names : List (List ℕ)) (name : List ℕ) → joined (names ++ name ∷ []) ≡ before names ++ name
-joined_behind [] name = refl
-joined_behind (n ∷ []) name = sym (append_assoc n (47 ∷ []) name) ∙ ap (λ xs. xs ++ name) (sym (append-nil (n ++ 47 ∷ [])))
-joined_behind (n ∷ m ∷ names) name = ap (λ xs. n ++ 47 ∷ xs) (joined_behind (m ∷ names) name) ∙ sym (append_assoc n (47 ∷ []) (before (m ∷ names) ++ name)) ∙ sym (append_assoc (n ++ 47 ∷ []) (before (m ∷ names)) name)
 
 -- a visit's entry, behind what its path begins with
 abbrev pub placed_by : Visit → List ℕ × Entry
@@ -222,11 +215,11 @@ module _ (objects : Objects) (fails : ObjectId → ExistingError → Type 0) whe
   unfolds_script script.whole h n = (tt, tt, page.whole)
   unfolds_script (script.leaves {p = p} {e = e} {a = a} o rest) h n =
       let r = unfolds_script rest h.1 n.1 in
-      (r.0, (n.0, r.1), page.other (λ s. false≢true (sym (leaves_mode (is_tree e.mode) a (is_among e.id p.ids) h.0 o) ∙ eq-eqb (bit_and e.mode 0o170000) 0o040000 s)) r.2)
+      (r.0, (n.0, r.1), page.other (λ s. false≢true (sym (says (is_tree e.mode) _ a Leaves o h.0) ∙ eq-eqb (bit_and e.mode 0o170000) 0o040000 s)) r.2)
   unfolds_script (script.enters {p = p} {e = e} {a = a} {sub = sub} {items = items} {visits = visits} {others = others} o found inner rest) h n =
       let i = unfolds_script inner (all_left (λ v. v.answer ≡ Continue true) visits others h.1) (all_left (λ v. IsName v.entry.name) visits others n.1) in
       let r = unfolds_script rest (all_right (λ v. v.answer ≡ Continue true) visits others h.1) (all_right (λ v. IsName v.entry.name) visits others n.1) in
-      let mode : bit_and e.mode 0o170000 ≡ 0o040000 = eqb-true (bit_and e.mode 0o170000) 0o040000 (enters_mode (is_tree e.mode) a (is_among e.id p.ids) h.0 o) in (
+      let mode : bit_and e.mode 0o170000 ≡ 0o040000 = eqb-true (bit_and e.mode 0o170000) 0o040000 (says (is_tree e.mode) _ a Enters o).0.0 in (
         r.0,
         (n.0, r.1),
         subst (λ those. Unfolds (page_objects objects) (before p.names) (map entry_of (e ∷ entries_in items)) (placed_by (visit p e a) ∷ those)) (sym (map-append placed_by visits others))

@@ -1,7 +1,7 @@
 -- How walks through stored trees end.
-use Rattle.std.proofs.Common.{◌≡◌, ◌≢◌, List, [], ◌∷◌, Bool, true, false, Result, Ok, Err, refl, subst, Continue}
-use Rattle.gix_commands.proofs.Common.{ObjectId, Objects, Action, Call, Run, DepthScript, IsDepthScript, whole, leaves, enters, ends_inside, breaks, cycles, fault, no_memory_at_look_up, no_memory_for_descent, found, Tracked, Tracks, fresh_recorder, entries_at, LookUpFails}
-use Rattle.gix_commands.proofs.Common.{depth_answer, trees_of, Items, Place, Visit, Ending, Whole, Broken, Failed, IsUnfailed, is_broken, Leaves, Enters, outcome_of, descent, depth_ok, depth_is_in_order, go_on, fault_of_tree_walk, RecordsTree, never_faulty}
+use Rattle.std.proofs.Common.{◌≡◌, ◌≢◌, List, [], ◌∷◌, false, Result, Ok, Err, refl, subst}
+use Rattle.gix_commands.proofs.Common.{ObjectId, Objects, Call, Run, DepthScript, IsDepthScript, whole, leaves, enters, ends_inside, breaks, cycles, fault, no_memory_at_look_up, no_memory_for_descent, found, Tracked, Tracks, fresh_recorder, entries_at, LookUpFails}
+use Rattle.gix_commands.proofs.Common.{depth_answer, trees_of, Items, Place, Visit, Ending, Whole, Broken, Failed, IsUnfailed, is_broken, depth_ok, depth_is_in_order, go_on, fault_of_tree_walk, RecordsTree, never_faulty}
 use Rattle.std.specs.List.{AllByRecursion}
 use Rattle.gix_object.specs.declared.Kind.TheVariants as object
 use Rattle.gix_tree.specs.declared.breadthfirst.Error.{Error}
@@ -13,19 +13,6 @@ use Rattle.gix_tree.proofs.Theorems.Called.{root_called}
 use Rattle.gix_tree.proofs.Theorems.SameRecords.{GoOn, unbroken}
 use Rattle.gix_words.specs.declared.fault.Fault.TheVariants as run_fault
 use Rattle.gix_commands.proofs.InternalFacts.{find_sound}
-
-leaves_of : (t known : Bool) → descent known ≡ Leaves → t ≡ false
-leaves_of t true o = cc
-leaves_of t false o = cc
-
--- an entry at which a walk goes on, and that it doesn't go into, is no tree
-pub leaves_mode : (t : Bool) (a : Action) (known : Bool) → a ≡ Continue true → outcome_of t a known ≡ Leaves → t ≡ false
-leaves_mode false a known goes o = refl
-leaves_mode true a known goes o = leaves_of true known (subst (λ b. outcome_of true b known ≡ Leaves) goes o)
-
-pub enters_mode : (t : Bool) (a : Action) (known : Bool) → a ≡ Continue true → outcome_of t a known ≡ Enters → t ≡ true
-enters_mode true a known goes o = refl
-enters_mode false a known goes o = let no : Leaves ≡ Enters = subst (λ b. outcome_of false b known ≡ Enters) goes o in cc
 
 -- a recorder answers each call so
 answers_of : (old : Tracked) (calls : List Call) (new : Tracked) → Run Tracks old calls new → AllByRecursion IsRecorderAnswer calls

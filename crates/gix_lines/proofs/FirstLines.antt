@@ -18,7 +18,7 @@ module _ {A : Type 0} where
   none_taken zero = refl
   none_taken (suc k) = refl
 
-  take_parts : (i k : ℕ) (xs : List A) → take (i + k) xs ≡ take i xs ++ take k (drop i xs)
+  pub take_parts : (i k : ℕ) (xs : List A) → take (i + k) xs ≡ take i xs ++ take k (drop i xs)
   take_parts zero k xs = ap (λ n. take n xs) (omega arith)
   take_parts (suc i) k [] = none_taken (suc i + k) ∙ sym (none_taken k)
   take_parts (suc i) k (x ∷ xs) = let more : suc i + k ≡ suc (i + k) = omega arith in ap (λ n. take n (x ∷ xs)) more ∙ ap (λ ys. x ∷ ys) (take_parts i k xs)

@@ -1,20 +1,13 @@
 -- What a walk has before it, where it stands.
-use Rattle.std.proofs.Common.{◌≡◌, ◌+◌, ◌<◌, ℕ, List, [], ◌∷◌, ◌++◌, map, take, length, get_or, true, false, Option, Some, Ok, Err, refl, sym, ap, subst, ◌∙◌}
+use Rattle.std.proofs.Common.{◌≡◌, ◌<◌, ℕ, List, [], ◌∷◌, ◌++◌, length, true, false, Option, Some, Ok, Err, refl, sym, subst, ◌∙◌}
 use Rattle.std.proofs.lemmas.Bool.{false≢true}
-use Rattle.std.proofs.lemmas.List.{map_more, same_from_push}
+use Rattle.std.proofs.lemmas.List.{same_from_push}
 use Rattle.gix_hash.specs.declared.ObjectId.{ObjectId}
 use Rattle.gix_object.specs.declared.decode.Error.{Error as DecodeError}
-use Rattle.gix_object.specs.declared.tree.TreeRefIter.{TreeRefIter}
 use Rattle.gix_object.specs.TreeItems.{TreeEntry, is_tree}
-use Rattle.gix_object.specs.TreeRefIter.{items_left}
 use Rattle.gix_tree.specs.Recorder.{Record}
 use Rattle.gix_tree.specs.Visits.{Items}
-use Rattle.gix_lines.specs.declared.walk.Upper.{Upper}
-use Rattle.gix_lines.specs.Inside.{Above, above_of, Left, back, other, tree, Standing, HasLeft, record_in}
-
--- where a walk stands
-abbrev pub stands : TreeRefIter → List Upper → ℕ → Standing
-stands entries above level = record { items = items_left entries; above = map above_of (take level above); room = length above }
+use Rattle.gix_lines.specs.Inside.{Above, Left, back, other, tree, Standing, AreLeft, record_in}
 
 not_empty : {A : Type 0} (xs : List A) (x : A) → xs ++ x ∷ [] ≡ [] → ⊥
 not_empty [] x e = cc
@@ -47,12 +40,12 @@ module _ {trees : ObjectId → Option Items} {room : ℕ} where
   at_last h = let b = at_end h in not_empty b.0 b.1 (sym b.2)
 
 -- back in the tree above
-pub back_in : (trees : ObjectId → Option Items) (entries : TreeRefIter) (above : List Upper) (level : ℕ) (u : Upper) (r : Record) (records : List Record) → items_left entries ≡ [] → level < length above
-    → u ≡ get_or above level u → HasLeft trees (stands entries above (level + 1)) (r ∷ records) → HasLeft trees (stands u.entries above level) (r ∷ records)
-back_in trees entries above level u r records none few is h =
-    let b = at_end (subst (λ items. Left trees (length above) items (map above_of (take (level + 1) above)) (r ∷ records)) none h) in
-    let same = same_from_push b.0 (map above_of (take level above)) b.1 (above_of u) (sym b.2 ∙ map_more above_of above level u few ∙ ap (λ x. map above_of (take level above) ++ above_of x ∷ []) (sym is)) in
-    subst (λ outer. Left trees (length above) (items_left u.entries) outer (r ∷ records)) same.0 (subst (λ x. Left trees (length above) x.items b.0 (r ∷ records)) same.1 b.3)
+pub back_in : {trees : ObjectId → Option Items} {room : ℕ} {items : Items} {above : List Above} {r : Record} {records : List Record} (outer : List Above) (u : Above) (new : Standing) → Left trees room items above (r ∷ records) → items ≡ []
+    → above ≡ outer ++ u ∷ [] → new ≡ record { items = u.items; above = outer; room = room } → AreLeft trees new (r ∷ records)
+back_in {trees} {room} {items} {above} {r} {records} outer u new h none is goes =
+    let b = at_end (subst (λ items. Left trees room items above (r ∷ records)) none h) in
+    let same = same_from_push b.0 outer b.1 u (sym b.2 ∙ is) in
+    subst (λ s. AreLeft trees s (r ∷ records)) (sym goes) (subst (λ outer. Left trees room u.items outer (r ∷ records)) same.0 (subst (λ x. Left trees room x.items b.0 (r ∷ records)) same.1 b.3))
 
 -- at an entry that is no tree
 pub left_on : {trees : ObjectId → Option Items} {room : ℕ} {e : TreeEntry} {items : Items} {above : List Above} {records : List Record} → Behind trees room e items above records → is_tree e.mode ≡ false → Left trees room items above records

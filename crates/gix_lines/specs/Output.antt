@@ -24,4 +24,5 @@ WritesLines old bytes (Err e) new = ((e ≡ fault.Memory) × (new ≡ old)) ⊎ 
 -- these bytes were put behind those that wait, or the writer failed
 pub data Puts (old : Option (List ℕ)) (waiting bytes : List ℕ) : Result (Unit {0}) Error → Option (List ℕ) → List ℕ → Type 0 where
   put : {new : Option (List ℕ)} {waits : List ℕ} → Grows old waiting new waits bytes → Puts old waiting bytes (Ok tt) new waits
-  broken_off : {e : Error} {new : Option (List ℕ)} {waits : List ℕ} → IsCut old new (waiting ++ bytes) e → Puts old waiting bytes (Err e) new waits
+  broken_off : {e : Error} {new : Option (List ℕ)} {waits : List ℕ} → IsCut old new (waiting ++ bytes) e
+      → Puts old waiting bytes (Err e) new waits

@@ -53,6 +53,20 @@ impl Buffer {
         self.put_late(piece, behind, writer)
     }
 
+    /// Adds bytes.
+    ///
+    /// # Errors
+    /// As `put`.
+    #[inline(always)]
+    pub fn put_all<W: Write>(&mut self, bytes: &[u8], writer: &mut W) -> Result<(), Error>
+        ensures { Puts (W.contents writer.old) self.old bytes.now result (W.contents writer.new) self.new }
+    {
+        match bytes.split_last() {
+            None => Ok(()),
+            Some((last, front)) => self.put(front, *last, writer),
+        }
+    }
+
     /// Writes what waits, and adds a piece and a byte behind it. A piece that is longer than the buffer is written too.
     fn put_late<W: Write>(&mut self, piece: &[u8], behind: u8, writer: &mut W) -> Result<(), Error>
         ensures { Puts (W.contents writer.old) self.old (piece.now ++ behind ∷ []) result (W.contents writer.new) self.new }
@@ -85,7 +99,7 @@ impl Buffer {
 
 /// Puts a piece and a byte behind it at a place, and returns the place behind that.
 #[inline(always)]
-fn place(bytes: &mut [u8], at: usize, piece: &[u8], behind: u8) -> usize
+pub fn place(bytes: &mut [u8], at: usize, piece: &[u8], behind: u8) -> usize
     requires { at + length piece.now < length bytes.old }
     ensures taken { take result bytes.new ≡ take at bytes.old ++ (piece.now ++ behind ∷ []) }
     ensures end { result ≡ at + length piece.now + 1 }

@@ -33,16 +33,22 @@ pub fn put_octal(mode: u32, text: &mut [u8; 11]) -> usize
     at
 }
 
-/// Writes the two digits of each byte.
+/// Writes the two digits of each byte. The digits are found in two rows first, so that a compiler can find many at once.
 #[inline(always)]
-pub fn put_digits(bytes: &[u8], text: &mut [u8])
-    requires { length text.old ≡ 2 * length bytes.now }
+pub fn put_digits<const N: usize>(bytes: &[u8; N], text: &mut [u8])
+    requires { length text.old ≡ 2 * N }
     ensures { text.new ≡ encode_lower bytes.now }
 {
-    'bytes: for i in 0..bytes.len() {
+    let mut first = [0; N];
+    let mut second = [0; N];
+    'bytes: for i in 0..N {
         let byte = bytes[i];
-        text[2 * i] = digit(byte >> 4);
-        text[2 * i + 1] = digit(byte & 0x0f);
+        first[i] = digit(byte >> 4);
+        second[i] = digit(byte & 0x0f);
+    }
+    'pairs: for i in 0..N {
+        text[2 * i] = first[i];
+        text[2 * i + 1] = second[i];
     }
 }
 

@@ -12,7 +12,7 @@ ghost use Rattle.gix_tree.specs.Visits.{Visit, Whole};
 ghost use Rattle.gix_tree.specs.Walk.{trees_of};
 ghost use Rattle.gix_tree_size.specs.Survey.{deepest};
 ghost use Rattle.gix_lines.specs.Files.{file_line};
-ghost use Rattle.gix_lines.specs.Inside.{HasLeft};
+ghost use Rattle.gix_lines.specs.Inside.{AreLeft};
 ghost use Rattle.gix_lines.specs.Output.{Puts, WritesLines};
 
 use crate::Error;
@@ -26,8 +26,9 @@ use std::io::Write;
 
 /// Writes a line for each of the first `number` entries of the tree of this id and of the trees in it, in the order of a walk in depth.
 ///
-/// No entry may be in more than `depth` trees, the walk may meet no fault, and there must be as many entries. Where that isn't so, nothing is
-/// said of what is written, nor of the answer.
+/// The walk must meet no fault, there must be as many entries, and none may be in more than `depth` trees. Where that isn't so, nothing is
+/// said of what is written, nor of the answer. All memory is taken before the first byte is written: as much as the depth needs, and a
+/// buffer.
 ///
 /// # Errors
 /// `Memory`: nothing is written. `Write` where the writer failed: a beginning of the lines is.
@@ -43,7 +44,8 @@ pub fn write_entries<W: Write>(
     ensures { (calls : List Call) (visits : List Visit)
         → IsDepthScript (trees_of store.now) (λ _ _. ⊥) tree calls visits Whole → AllByRecursion (λ v. v.answer ≡ Continue true) visits
         → number ≤ length visits → deepest visits ≤ depth
-        → WritesLines (W.contents writer.old) (flat_map (file_line ending) (take number (map record_of visits))) result (W.contents writer.new) }
+        → WritesLines (W.contents writer.old) (flat_map (file_line ending) (take number (map record_of visits))) result
+        (W.contents writer.new) }
 {
     let Some(entries) = entries_of(store, &tree) else {
         return Err(Error::Memory);
@@ -67,8 +69,9 @@ fn put_lines<'a, W: Write>(
     buffer: &mut Buffer,
     writer: &mut W,
 ) -> Result<(), Error>
-    ensures { (records : List Record) → HasLeft (trees_of store.now) walk.old records → number ≤ length records
-        → Puts (W.contents writer.old) buffer.old (flat_map (file_line ending) (take number records)) result (W.contents writer.new) buffer.new }
+    ensures { (records : List Record) → AreLeft (trees_of store.now) walk.old records → number ≤ length records
+        → Puts (W.contents writer.old) buffer.old (flat_map (file_line ending) (take number records)) result (W.contents writer.new)
+        buffer.new }
 {
     'lines: for _line in 0..number {
         put_next(ending, store, walk, buffer, writer)?;
@@ -84,10 +87,10 @@ fn put_next<'a, W: Write>(
     buffer: &mut Buffer,
     writer: &mut W,
 ) -> Result<(), Error>
-    ensures line { (r : Record) (records : List Record) → HasLeft (trees_of store.now) walk.old (r ∷ records)
+    ensures line { (r : Record) (records : List Record) → AreLeft (trees_of store.now) walk.old (r ∷ records)
         → Puts (W.contents writer.old) buffer.old (file_line ending r) result (W.contents writer.new) buffer.new }
-    ensures left { (r : Record) (records : List Record) → HasLeft (trees_of store.now) walk.old (r ∷ records)
-        → OnOk result (HasLeft (trees_of store.now) walk.new records) }
+    ensures left { (r : Record) (records : List Record) → AreLeft (trees_of store.now) walk.old (r ∷ records)
+        → OnOk result (AreLeft (trees_of store.now) walk.new records) }
 {
     let Some(entry) = walk.next() else {
         return Err(Error::Memory);

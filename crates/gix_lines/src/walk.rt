@@ -3,11 +3,11 @@ ghost use Rattle.std.specs.Prelude.{◌≡◌, ◌↔◌, ◌<◌, ◌++◌, ◌
 ghost use Rattle.std.specs.Option.{option_map};
 ghost use Rattle.gix_object.specs.TreeRefIter.{entry_of, items_left};
 ghost use Rattle.gix_tree.specs.Walk.{trees_of};
-ghost use Rattle.gix_lines.specs.Inside.{ComesTo, names_above};
+ghost use Rattle.gix_lines.specs.Inside.{ComesTo, LeavesTo, names_above};
 ghost use Rattle.gix_lines.specs.Output.{Puts};
 
 use crate::Error;
-use crate::buffer::Buffer;
+use crate::buffer::{Buffer, place};
 use gix_hash::ObjectId;
 use gix_object::Kind;
 use gix_object::memory::MemoryStore;
@@ -40,6 +40,9 @@ struct Upper<'a> {
     entries: TreeRefIter<'a>,
 }
 
+/// How many bytes of the names above are kept in one piece.
+const PATH: usize = 1 << 14;
+
 /// Where a walk in depth is: what is left of a tree, and of the trees above it. It goes down to a depth for which all memory is taken when
 /// it begins.
 #[derive(Drop)]
@@ -50,18 +53,28 @@ pub struct Walk<'a> {
     above: Vec<Upper<'a>>,
     /// How many trees are above it.
     level: usize,
+    /// The names of the first of these trees, each with a `/` behind it, in the front of this: those of which it has room for all.
+    path: Vec<u8>,
+    /// Of how many trees the names are in the path.
+    joined: usize,
+    /// How many bytes these names take.
+    end: usize,
 }
 
 impl<'a> Model for Walk<'a> {
-    ghost use Rattle.std.specs.Prelude.{◌≤◌, length, map, take};
+    ghost use Rattle.std.specs.Prelude.{length, map, take};
     ghost use Rattle.gix_object.specs.TreeRefIter.{items_left};
-    ghost use Rattle.gix_lines.specs.Inside.{Standing, above_of};
+    ghost use Rattle.gix_lines.specs.Inside.{KeepsNames, Standing, above_of};
 
     ghost Value = { Standing };
 
-    ghost view = { λ w. record { items = items_left w.entries; above = map above_of (take w.level w.above.items); room = length w.above.items } };
+    ghost view = { λ w. record {
+      items = items_left w.entries;
+      above = map above_of (take w.level w.above.items);
+      room = length w.above.items;
+    } };
 
-    ghost invariant = { λ w. w.level ≤ length w.above.items };
+    ghost invariant = { λ w. KeepsNames w.above.items w.level w.joined w.path.items w.end };
 }
 
 impl<'a> Walk<'a> {
@@ -75,10 +88,14 @@ impl<'a> Walk<'a> {
     {
         let none = Upper { name: &[], entries };
         let above = vec![in alloc; none; depth]?;
+        let path = vec![in alloc; 0; PATH]?;
         Ok(Walk {
             entries,
             above,
             level: 0,
+            path,
+            joined: 0,
+            end: 0,
         })
     }
 
@@ -92,14 +109,30 @@ impl<'a> Walk<'a> {
                 Some(Ok(entry)) => return Some(entry),
                 Some(Err(_)) => return None,
                 None => {
-                    if self.level == 0 {
+                    if !self.leave() {
                         return None;
                     }
-                    self.level -= 1;
-                    self.entries = self.above[self.level].entries;
                 }
             }
         }
+    }
+
+    /// Goes back to the tree above. Whether there is one.
+    fn leave(&mut self) -> bool
+        ensures { LeavesTo self.old result self.new }
+    {
+        if self.level == 0 {
+            return false;
+        }
+        self.level -= 1;
+        let upper = self.above[self.level];
+        self.entries = upper.entries;
+        if self.joined <= self.level {
+            return true;
+        }
+        self.joined = self.level;
+        self.end = self.end - upper.name.len() - 1;
+        true
     }
 
     /// Goes into a tree of this name, which has these entries. Whether there is room for that.
@@ -117,8 +150,16 @@ impl<'a> Walk<'a> {
             name,
             entries: self.entries,
         };
-        self.level += 1;
         self.entries = entries;
+        self.level += 1;
+        if self.joined + 1 < self.level {
+            return true;
+        }
+        if self.path.len() - self.end <= name.len() {
+            return true;
+        }
+        self.end = place(&mut self.path, self.end, name, b'/');
+        self.joined = self.level;
         true
     }
 
@@ -127,7 +168,8 @@ impl<'a> Walk<'a> {
     pub fn put_names<W: Write>(&self, buffer: &mut Buffer, writer: &mut W) -> Result<(), Error>
         ensures { Puts (W.contents writer.old) buffer.old (names_above self.now.above) result (W.contents writer.new) buffer.new }
     {
-        'names: for upper in &self.above[..self.level] {
+        buffer.put_all(&self.path[..self.end], writer)?;
+        'names: for upper in &self.above[self.joined..self.level] {
             buffer.put(upper.name, b'/', writer)?;
         }
         Ok(())

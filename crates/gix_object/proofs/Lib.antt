@@ -4,3 +4,5 @@ pub mod MemoryStore
 pub mod Commits
 -- The entries of a tree.
 pub mod TreeText
+-- The first of some bytes that passes a test, by the bits of those that do.
+mod FirstByLanes

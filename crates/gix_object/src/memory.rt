@@ -145,10 +145,10 @@ impl<'a> MemoryStore<'a> {
         let Some(stored) = self.objects.get(id) else {
             return None;
         };
-        let bytes = &self.bytes.as_slice()[stored.start..stored.end];
+        let bytes = self.bytes.as_slice();
         Some(Data {
             kind: stored.kind,
-            bytes,
+            bytes: &bytes[stored.start..stored.end],
         })
     }
 

@@ -9,6 +9,7 @@ ghost use Rattle.gix_object.specs.TreeParts.{IsFront};
 use crate::decode;
 use bstr::BStr;
 use gix_hash::{Kind, ObjectId};
+use std::simd::prelude::*;
 
 /// The mode of an entry of a tree, as Git writes it in octal digits: the kind of file and its permissions.
 #[derive(Clone, Copy, PartialEq, Eq, Debug)]
@@ -123,6 +124,13 @@ fn read_entry<'a>(bytes: &'a [u8], kind: Kind) -> Result<(EntryRef<'a>, &'a [u8]
 fn read_mode(bytes: &[u8]) -> Option<(u32, &[u8])>
     ensures { option_map (λ p. (p.0, p.1.now)) result ≡ mode_at bytes.now }
 {
+    // Most entries are of files, and most others of trees.
+    if let [b'1', b'0', b'0', b'6', b'4', b'4', b' ', rest @ ..] = bytes {
+        return Some((0o100644, rest));
+    }
+    if let [b'4', b'0', b'0', b'0', b'0', b' ', rest @ ..] = bytes {
+        return Some((0o040000, rest));
+    }
     let (digits, rest) = split_at_byte(bytes, b' ')?;
     Some((octal_number(digits)?, rest))
 }
@@ -163,9 +171,18 @@ fn split_at_byte(bytes: &[u8], byte: u8) -> Option<(&[u8], &[u8])>
     Some((&bytes[..at], &bytes[at + 1..]))
 }
 
+/// The place of the first such byte. The first 32 bytes are looked at in one step, as most names end there.
 fn index_of(bytes: &[u8], byte: u8) -> Option<usize>
     ensures value { result ≡ position (λ b. b == byte) bytes.now }
     ensures bound { IfSome result (λ at. at < length bytes.now) }
 {
+    if 32 <= bytes.len() {
+        let places = u8x32::from_slice(bytes)
+            .simd_eq(u8x32::splat(byte))
+            .to_bitmask();
+        if places != 0 {
+            return Some(places.trailing_zeros() as usize);
+        }
+    }
     bytes.iter().position(|b| *b == byte)
 }

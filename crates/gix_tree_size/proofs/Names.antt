@@ -1,4 +1,5 @@
 -- Which tree has the first name that is none, in the order of visits.
+use Rattle.std.proofs.lemmas.Bool.{or_parts}
 use Rattle.std.proofs.Common.{◌≡◌, ◌≢◌, ◌==◌, ◌||◌, not, ℕ, List, [], ◌∷◌, ◌++◌, Bool, true, false, Option, Some, None, refl, sym, ap, subst, ◌∙◌, append_assoc, eqb-true}
 use Rattle.std.specs.List.{AllByRecursion, list_any}
 use Rattle.gix_hash.specs.declared.ObjectId.{ObjectId}
@@ -8,13 +9,9 @@ use Rattle.gix_tree.proofs.All.{all_both}
 use Rattle.gix_tree_size.specs.Survey.{IsFirstMisnamed, is_name}
 use Rattle.gix_tree_size.specs.Inside.Surveyor.{misnamed_by}
 
-either_false : (t u : Bool) → t || u ≡ false → (t ≡ false) × (u ≡ false)
-either_false true u e = cc
-either_false false u e = (refl, e)
-
 no_slash : (name : List ℕ) → list_any (λ c. c == 47) name ≡ false → AllByRecursion (λ c. c ≢ 47) name
 no_slash [] e = tt
-no_slash (b ∷ name) e = let both = either_false (b == 47) (list_any (λ c. c == 47) name) e in (λ is. differs b both.0 is, no_slash name both.1)
+no_slash (b ∷ name) e = let both = or_parts (b == 47) (list_any (λ c. c == 47) name) e in (λ is. differs b both.0 is, no_slash name both.1)
   where
     differs : (b : ℕ) → (b == 47) ≡ false → b ≡ 47 → ⊥
     differs b e is = let no : (47 == 47) ≡ false = subst (λ c. (c == 47) ≡ false) is e in cc

@@ -1,4 +1,5 @@
 -- How large a tree is that holds itself nowhere, and its walk wherever it is met.
+use Rattle.std.proofs.lemmas.Bool.{and_parts}
 use Rattle.std.proofs.Common.{◌≡◌, ◌≤◌, ◌<◌, ◌⊎◌, inl, inr, ℕ, zero, suc, ◌+◌, max, Bool, true, false, ◌&&◌, ◌||◌, List, [], ◌∷◌, ◌++◌, length, length-append, Option, Some, Ok, Err, refl, sym, ap, subst, ◌∙◌, arith, Continue}
 use Rattle.std.specs.List.{AllByRecursion}
 use Rattle.gix_hash.specs.declared.ObjectId.{ObjectId}
@@ -14,10 +15,6 @@ use Rattle.gix_tree.specs.Visits.{Items, Place, Visit, visit, inside, Outcome, L
 use Rattle.gix_tree.proofs.All.{all_both}
 use Rattle.gix_tree_size.specs.Survey.{deepest, is_name}
 use Rattle.gix_tree_size.proofs.Names.{is_named}
-
-pub both_true : (b c : Bool) → b && c ≡ true → (b ≡ true) × (c ≡ true)
-both_true true c e = (refl, e)
-both_true false c e = cc
 
 -- how deep visits are in a tree of this depth that lies under so many others
 abbrev pub raised : ℕ → ℕ → ℕ
@@ -197,7 +194,7 @@ module _ (trees : ObjectId → Option Items) (fails : ObjectId → ExistingError
         answers = calls_answered p e r.calls r.answers;
         entries = ap suc r.entries;
         depth = (λ k. max (at.deep k) (r.depth k)) ∙ raised_other above h;
-        names = λ t. let both = both_true (is_name e.name) b t in (is_named e.name both.0, r.names both.1);
+        names = λ t. let both = and_parts (is_name e.name) b t in (is_named e.name both.0, r.names both.1);
       }
   unfolds (tree {e = e} {sub = sub} {m = m} {k = k} {n = n} {h = h} {b = b} {c = c} is found u s) p i up above all at held =
       let there : Holds trees all e.id = held e.id (inl (is, refl)) in
@@ -214,7 +211,7 @@ module _ (trees : ObjectId → Option Items) (fails : ObjectId → ExistingError
         entries = omega (arith, length-append inner.visits r.visits, inner.entries, r.entries);
         depth = omega (arith, deepest_both inner.visits r.visits, at.deep, inner.depth, r.depth, raised_tree above k h);
         names = λ t.
-            let both = both_true (is_name e.name) (b && c) t in
-            let two = both_true b c both.1 in
+            let both = and_parts (is_name e.name) (b && c) t in
+            let two = and_parts b c both.1 in
             (is_named e.name both.0, all_both (λ v. IsName v.entry.name) inner.visits r.visits (inner.names two.0) (r.names two.1));
       }

@@ -5,7 +5,7 @@ use Rattle.std.proofs.lemmas.Result.{err_from_is_err_and}
 use Rattle.gix_object.specs.TreeRefIter.{entry_of, items_left}
 use Rattle.gix_tree.specs.Walk.{trees_of}
 use Rattle.gix_lines.specs.Files.{file_line}
-use Rattle.gix_lines.specs.Inside.{HasLeft, Left}
+use Rattle.gix_lines.specs.Inside.{AreLeft, Left}
 use Rattle.gix_lines.specs.Output.{Puts}
 use Rattle.gix_lines.proofs.Leaving.{at_entry, left_down, left_on}
 use Rattle.gix_lines.proofs.Putting.{puts_as}
@@ -50,6 +50,6 @@ returns-clause-left g c = λ r records h.
     let at = at_entry (c.in-Some.ensures (trees_of c.args.store.now) r records h) in
     let below = left_down at.1 (sym c.is_tree.ensures ∙ c.if-not-is_tree.false) in
     let sub = same_Some _ _ (sym below.found ∙ sym c.in-Some-entries_of.ensures) in
-    subst (λ s. HasLeft (trees_of c.args.store.now) s records) (sym (c.if-not-enter.ensures.entered refl))
+    subst (λ s. AreLeft (trees_of c.args.store.now) s records) (sym (c.if-not-enter.ensures.entered refl))
     (subst (λ name. Left (trees_of c.args.store.now) c.next.new.self.room (items_left c.in-Some-entries_of.entries) (c.next.new.self.above ++ record { name = name; items = c.next.new.self.items } ∷ []) records) (sym c.as_bytes.ensures)
     (subst (λ items. Left (trees_of c.args.store.now) c.next.new.self.room items (c.next.new.self.above ++ record { name = (entry_of c.in-Some.entry).name; items = c.next.new.self.items } ∷ []) records) sub below.rest))

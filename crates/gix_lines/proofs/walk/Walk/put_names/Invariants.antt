@@ -5,4 +5,4 @@ use Rattle.gix_lines.proofs.walk.Walk.put_names.Given as goal
 
 -- the names so far were put
 abbrev pub invariant-names : goal.invariant-names
-invariant-names g l = Puts (g.W.Write.contents l.fn.writer) l.fn.buffer (names_of (take l.upper-index l.upper-items)) (Ok tt) (g.W.Write.contents l.writer) l.buffer
+invariant-names g l = Puts (g.W.Write.contents l.initial.writer) l.initial.buffer (names_of (take l.upper-index l.upper-items)) (Ok tt) (g.W.Write.contents l.writer) l.buffer

@@ -14,5 +14,5 @@ pub returns : goal.returns
 returns c =
     let buffer = cow_slice_items c.self.inside.bytes in
     let stored = c.in-Some.stored.now in
-    ap (λ (bytes : List ℕ). Some (record { kind = stored.kind; bytes = take (stored.end - stored.start) (drop stored.start bytes) })) c.as_slice.ensures.value
+    ap (λ (bytes : List ℕ). Some (record { kind = stored.kind; bytes = take (stored.end - stored.start) (drop stored.start bytes) })) c.as_slice-bytes.ensures.value
     ∙ ap (option_map (object_at buffer)) c.in-Some.ensures ∙ sym (get_stored buffer c.self.inside.objects c.args.id.now) ∙ ap (λ m. map.get m c.args.id.now) c.self.view_is
