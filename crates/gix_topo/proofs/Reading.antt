@@ -8,3 +8,5 @@ pub mod FoundIsStored
 pub mod Faultless
 -- Why a reading fails. What was read once is known, and as long as the rows are in use its row has no fault.
 pub mod OnceRead
+-- What is kept of a commit is its header.
+pub mod KeptHeaders

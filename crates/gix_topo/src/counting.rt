@@ -21,7 +21,7 @@ use std::collections::VecDeque;
 
 /// The searches of both sides, and how far down they have come.
 #[derive(Drop)]
-pub(super) struct Counting<F> {
+pub(super) struct Counting<F: Find> {
     pub(super) reader: Reader<F>,
     pub(super) parents: Parents,
     pub(super) frontier: Frontier,

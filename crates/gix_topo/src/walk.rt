@@ -16,7 +16,7 @@ use gix_revwalk::{Info, Parents};
 
 /// What a walk holds, apart from its predicate.
 #[derive(Drop)]
-pub(super) struct Walk<F> {
+pub(super) struct Walk<F: Find> {
     pub(super) counting: Counting<F>,
     pub(super) tips: Vec<ObjectId>,
     pub(super) ends: Vec<ObjectId>,

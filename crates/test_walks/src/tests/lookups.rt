@@ -400,16 +400,16 @@ fn topos() -> &'static [TopoLookUps] {
 static TOPOS: [TopoLookUps; 8] = [
     TopoLookUps(test_topo_rows::Table {
         cases: &[
-            // One when a commit is counted, and one when it becomes ready.
+            // One when a commit is counted. Its header is kept until it becomes ready,
             (
                 &[8],
                 &[],
-                "8 7 4 2 6 5 3 1; 8:2 7:2 6:2 5:2 4:2 3:2 2:2 1:2",
+                "8 7 4 2 6 5 3 1; 8:1 7:1 6:1 5:1 4:1 3:1 2:1 1:1",
             ),
-            // One more for the search of the ends.
-            (&[6], &[7], "6 5 3; 7:1 6:2 5:2 4:1 3:2 2:1 1:2"),
-            (&[8], &[5], "8 7 4 2 6; 8:2 7:2 6:2 5:2 4:2 3:2 2:2 1:2"),
-            (&[7], &[8], "; 8:1 7:2 6:1 5:1 4:2 3:1 2:2 1:2"),
+            // or the other side counts it.
+            (&[6], &[7], "6 5 3; 7:1 6:1 5:1 4:1 3:1 2:1 1:1"),
+            (&[8], &[5], "8 7 4 2 6; 8:1 7:1 6:1 5:1 4:1 3:1 2:1 1:1"),
+            (&[7], &[8], "; 8:1 7:1 6:1 5:1 4:1 3:1 2:1 1:1"),
             (&[], &[5], "; 5:1 3:1 1:1"),
         ],
         ..test_topo_rows::OF_SAMPLE
@@ -420,9 +420,9 @@ static TOPOS: [TopoLookUps; 8] = [
             (
                 &[8],
                 &[],
-                "8 7 6 5 4 3 2 1; 8:2 7:2 6:2 5:2 4:2 3:2 2:2 1:2",
+                "8 7 6 5 4 3 2 1; 8:1 7:1 6:1 5:1 4:1 3:1 2:1 1:1",
             ),
-            (&[6], &[7], "6 5 3; 7:1 6:2 5:2 4:1 3:2 2:1 1:2"),
+            (&[6], &[7], "6 5 3; 7:1 6:1 5:1 4:1 3:1 2:1 1:1"),
         ],
         ..test_topo_rows::OF_SAMPLE
     }),
@@ -430,8 +430,8 @@ static TOPOS: [TopoLookUps; 8] = [
     TopoLookUps(test_topo_rows::Table {
         way: FIRST,
         cases: &[
-            (&[8], &[], "8 6 5 3 1; 8:2 7:1 6:2 5:2 3:2 1:2"),
-            (&[8], &[7], "8 6 5 3; 8:2 7:1 6:2 5:2 4:1 3:2 2:1 1:2"),
+            (&[8], &[], "8 6 5 3 1; 8:1 7:1 6:1 5:1 3:1 1:1"),
+            (&[8], &[7], "8 6 5 3; 8:1 7:1 6:1 5:1 4:1 3:1 2:1 1:1"),
         ],
         ..test_topo_rows::OF_SAMPLE
     }),
@@ -458,8 +458,8 @@ static TOPOS: [TopoLookUps; 8] = [
         rows: SOME,
         by: BY_ROWS,
         cases: &[
-            (&[8], &[], "8 7 4 2 6 5:3 3:2 1:1; 8:2 7:2 6:2 4:2 2:2"),
-            (&[8], &[5], "8 7 4 2 6; 8:2 7:2 6:2 4:2 2:2"),
+            (&[8], &[], "8 7 4 2 6 5:3 3:2 1:1; 8:1 7:1 6:1 4:1 2:1"),
+            (&[8], &[5], "8 7 4 2 6; 8:1 7:1 6:1 4:1 2:1"),
         ],
         ..test_topo_rows::OF_SAMPLE
     }),
@@ -467,17 +467,17 @@ static TOPOS: [TopoLookUps; 8] = [
         rows: SOME,
         by: BY_ROWS,
         way: FIRST,
-        cases: &[(&[8], &[], "8 6 5:3 3:2 1:1; 8:2 7:1 6:2")],
+        cases: &[(&[8], &[], "8 6 5:3 3:2 1:1; 8:1 7:1 6:1")],
         ..test_topo_rows::OF_SAMPLE
     }),
-    // The rows are dropped at 8. From then on each parent of a commit that becomes ready is looked up once more.
+    // The rows are dropped at 8. From then on a kept header is used up when a child becomes ready, whose parents all have to be there.
     TopoLookUps(test_topo_rows::Table {
         rows: FAULT_AT_8,
         by: BY_ROWS,
         cases: &[(
             &[8],
             &[],
-            "8 7 4 2 6 5 3 1; 8:2 7:3 6:3 5:3 4:3 3:3 2:3 1:4",
+            "8 7 4 2 6 5 3 1; 8:1 7:2 6:2 5:2 4:2 3:2 2:2 1:2",
         )],
         ..test_topo_rows::OF_SAMPLE
     }),
@@ -491,9 +491,9 @@ static BEGUN_TOPOS: [BegunTopoLookUps; 2] = [
     // All is counted at once.
     BegunTopoLookUps(
         &[
-            (0, "; 8:2 7:1 6:1 5:1 4:1 3:1 2:1 1:1"),
-            (1, "; 8:2 7:2 6:2 5:1 4:1 3:1 2:1 1:1"),
-            (2, "; 8:2 7:2 6:2 5:1 4:2 3:1 2:1 1:1"),
+            (0, "; 8:1 7:1 6:1 5:1 4:1 3:1 2:1 1:1"),
+            (1, "; 8:1 7:1 6:1 5:1 4:1 3:1 2:1 1:1"),
+            (2, "; 8:1 7:1 6:1 5:1 4:1 3:1 2:1 1:1"),
         ],
         BY_STORE,
     ),
