@@ -66,7 +66,7 @@ pub use Rattle.gix_lines.specs.Output.{Grows}
 pub use Rattle.gix_commands.specs.Files.{file_lines, RecordsTree}
 pub use Rattle.gix_commands.specs.Histories.{AheadSucceeds, AreWhole, BasesSucceeds, ContainingSucceeds, ContainsSucceeds, EndsWell, IsOutside, SimpleSucceeds, TopoSucceeds}
 pub use Rattle.gix_commands.specs.Output.{Adds, WritesAll}
-pub use Rattle.gix_commands.specs.Run.{bad_record, counted, disagrees, joined, no_command, not_ahead, not_behind, not_built, not_joined, not_listed, not_reaching, not_read, not_selected, not_walked, reaching, Runs, RunsOver, selected, served, unserved, walked, walked_down}
+pub use Rattle.gix_commands.specs.Run.{bad_record, counted, disagrees, joined, no_command, not_built, not_counted, not_joined, not_listed, not_reaching, not_read, not_selected, not_walked, reaching, Runs, RunsOver, selected, served, unserved, walked, walked_down}
 pub use Rattle.gix_commands.specs.Run.{without_memory}
 pub use Rattle.gix_commands.specs.TopoWalked.{IsBuiltFrom, plan_from}
 pub use Rattle.gix_revwalk.specs.Asking.{accepts_all}

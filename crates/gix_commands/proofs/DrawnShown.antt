@@ -1,6 +1,6 @@
 -- What a walk gave that was drawn to its end, and which best common ancestors were found, is all that the statement means by these: over a
 -- store that has a commit for each row.
-use Rattle.std.proofs.Common.{◌≢◌, ℤ, false, List, [], ◌∷◌, ◌++◌, map, Contains, IsSome, Ok, refl, sym, subst, ◌∙◌, inl, inr}
+use Rattle.std.proofs.Common.{◌≢◌, ◌↔◌, ℤ, false, List, [], ◌∷◌, ◌++◌, map, None, Contains, IsSome, Ok, refl, sym, subst, ◌∙◌, inl, inr}
 use Rattle.gix_commands.proofs.Common.{AreWhole, Contains-append_left, Contains-append_right, Ends, finished, GraphRow, Info, IsAgreeing, no_member, ObjectId, Objects, parents_of, time_of, transport, with_rows}
 use Rattle.gix_commitgraph.specs.Packed.{AreGraphRows}
 use Rattle.gix_graph_check.specs.Sound.{AreSound}
@@ -15,8 +15,8 @@ use Rattle.gix_statement.specs.WholeStatement.{IsHistory}
 use Rattle.gix_commands.specs.Pages.{page_objects, page_rows}
 use Rattle.gix_commands.specs.Readable.{readable}
 use Rattle.gix_commands.specs.Walked.{Answers, Any, IsWalkFault, StartsFrom, Walk}
-use Rattle.gix_commands.proofs.AheadRuns.{plain_list}
-use Rattle.gix_commands.proofs.KeptLists.{tips_kept}
+use Rattle.gix_commands.proofs.KeptLists.{all_followed, tips_kept}
+use Rattle.gix_commands.proofs.ListedCommits.{IsShown, IsSimpleBy, ListsBy}
 use Rattle.gix_commands.proofs.PageCommits.{fed_history, whole_text}
 use Rattle.gix_commands.proofs.ReadableObjects.{readable_agrees}
 use Rattle.gix_commands.proofs.ReadableTexts.{text_kept}
@@ -25,6 +25,13 @@ use Rattle.gix_commands.proofs.SameBases.{bases_so, one_there, others_there}
 use Rattle.gix_commands.proofs.SameReach as same
 use Rattle.gix_commands.proofs.SimpleRuns.{all_read, listed_whole}
 use Rattle.gix_revwalk.specs.Texts.{text_next}
+
+-- breadth first through all parents a list is one of what is shown
+plain_list : (objects : Objects) (tips hidden ids : List ObjectId) → IsSimpleBy objects (parents_of objects) mode.All sorting.BreadthFirst tips hidden ids → (i : ObjectId) → Contains ids i ↔ IsShown objects tips hidden i
+plain_list objects tips hidden ids l =
+    let k : ListsBy objects (parents_of objects) (parents_of objects) None tips hidden ids =
+    transport (λ j. ListsBy objects (parents_of objects) (all_followed objects (parents_of objects) mode.All sorting.BreadthFirst refl j) None (tips_kept objects sorting.BreadthFirst tips refl j) hidden ids) l in
+    λ i. (λ c. let s = (k.exact i).0 c in (s.reached, s.outside), λ s. (k.exact i).1 (record { reached = s.0; outside = s.1 }))
 
 module _ (objects : Objects) (rows : List GraphRow) (graph : AreGraphRows rows) (sound : AreSound rows) (agree : StoredAgree rows objects)
     (parents : ObjectId → List ObjectId) (time : ObjectId → ℤ) (history : IsHistory (page_objects objects) (page_rows rows) parents time) where
@@ -57,7 +64,7 @@ module _ (objects : Objects) (rows : List GraphRow) (graph : AreGraphRows rows) 
         let whole : AreWhole every (tips ++ hidden) = transport (λ k. AreWhole every (kept k ++ hidden))
         (all_read every rows mode.All sorting.BreadthFirst tips hidden walk starts agrees infos h.0 new h.1 h.2 behind (λ e. some (sym kept ∙ e))) in
         let list = plain_list every tips hidden (map (λ info. info.id) infos) (listed_whole every rows mode.All sorting.BreadthFirst tips hidden walk starts agrees infos h.0 new h.1 h.2 behind) in
-        (list.1 i).1 (
+        (list i).1 (
           back (tips ++ hidden) whole tips (λ j c. start (Contains-append_left tips hidden j c)) i s.0,
           λ r. s.1 (there (tips ++ hidden) whole hidden (λ j c. start (Contains-append_right tips hidden j c)) i r),
         )

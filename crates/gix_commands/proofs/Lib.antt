@@ -14,7 +14,6 @@ pub mod LostParents
 mod RowedParents
 pub mod CheckedWalks
 mod CheckedSteps
-mod AheadFacts
 mod StartFacts
 pub mod RunFacts
 pub mod GivenRuns

@@ -1,7 +1,7 @@
 -- What a run of `files` wrote that ended well is the tree that the page has.
-use Rattle.std.proofs.Common.{◌≡◌, ℕ, List, [], map, false, Option, Ok, flat_map, refl, ap, subst, ◌∙◌}
-use Rattle.gix_commands.proofs.Common.{Appends, ObjectId, Objects, GraphRow, IsDepthScript, entries_at, Tracks, fresh_recorder, Ending, Whole, Broken, Failed, IsUnfailed}
-use Rattle.gix_commands.proofs.Common.{is_broken, LookUpFails, trees_of, depth_ok, depth_is_in_order, depth_is_recorded, file_lines, never_faulty, Files}
+use Rattle.std.proofs.Common.{◌≡◌, ℕ, List, [], map, Option, Ok, flat_map, ap, subst, ◌∙◌}
+use Rattle.gix_commands.proofs.Common.{Appends, ObjectId, Objects, GraphRow, IsDepthScript, entries_at, Tracks, fresh_recorder, Whole}
+use Rattle.gix_commands.proofs.Common.{LookUpFails, trees_of, depth_ok, depth_is_in_order, depth_is_recorded, file_lines, never_faulty, Files}
 use Rattle.gix_commands.proofs.Common.{Entry, EntryLines, IsTree, allowed, entry_line}
 use Rattle.gix_tree.proofs.Theorems.SameRecords.{unbroken}
 use Rattle.gix_commands.specs.Pages.{page_objects}

@@ -1,6 +1,6 @@
 -- What a run may answer.
 use Rattle.std.proofs.Common.{◌≡◌, ◌≢◌, ℕ, List, [], ◌∷◌, Option, Some, None, Result, Ok, Err, refl, sym, subst, ap, ◌∙◌}
-use Rattle.gix_commands.proofs.Common.{get, same_map, ObjectId, Object, Objects, id_total, id_apart, with_rows, GraphRow, IsAgreeing, none_agree, Info, Parents, Fault, Order, Simple, Topo, fault_of_records, fault_of_walk, fault_of_topo_walk, WritesAll, stored, walked, not_walked, walked_down, not_built, not_listed, not_ahead, not_behind, not_selected, not_reaching, not_joined, unserved, Runs, without_memory, no_command, Shown, Writes, kept_in}
+use Rattle.gix_commands.proofs.Common.{get, same_map, ObjectId, Object, Objects, id_total, id_apart, with_rows, GraphRow, IsAgreeing, none_agree, Info, Parents, Fault, Order, Simple, Topo, fault_of_records, fault_of_walk, fault_of_topo_walk, WritesAll, stored, walked, not_walked, walked_down, not_built, not_listed, not_counted, not_selected, not_reaching, not_joined, unserved, Runs, without_memory, no_command, Shown, Writes, kept_in}
 use Rattle.gix_commands.proofs.Common.{not_read, bad_record, served, StartsFrom, FailsAtStart, IsStartFault, Ends, EndsBy, finished, cut_short, enough, before, Request, Commits, request_of, no_bad_record}
 use Rattle.std.specs.Option.{option_or}
 use Rattle.gix_graph_store.proofs.ToldObjects.{get-with_rows}
@@ -81,8 +81,7 @@ serves_sound agreeing (not_walked why f) = λ same. start_sound f (err_same same
 serves_sound {Stored = Stored} {objects = objects} agreeing (walked_down {shown = shown} walk infos built ends have a) = topo_by_sound (HasText Stored shown) (kept_in objects shown) shown.limit walk infos (built_agreeing built agreeing) ends
 serves_sound {objects = objects} {rows = rows} agreeing (not_built {parents = m} {by = by} {tips = tips} {ends = ends} why h) = λ same. build_sound objects rows agreeing m by tips ends why h (err_same same)
 serves_sound {objects = objects} agreeing (not_listed recorder why r) = λ same. tree_sound objects r (err_same same)
-serves_sound agreeing (not_ahead f) = ends_sound f.1.ends
-serves_sound agreeing (not_behind n a f) = ends_sound f.1.ends
+serves_sound {objects = objects} {rows = rows} agreeing (not_counted {one = one} {other = other} why f) = λ same. bases_sound objects rows agreeing one (other ∷ []) why f (err_same same)
 serves_sound {objects = objects} {rows = rows} agreeing (not_selected {tip = tip} {ids = ids} why f) = λ same. contained_sound objects rows (tip ∷ []) ids why f (err_same same)
 serves_sound {objects = objects} {rows = rows} agreeing (not_reaching {target = target} {tips = tips} why f) = λ same. bases_sound objects rows agreeing target tips why f (err_same same)
 serves_sound {objects = objects} {rows = rows} agreeing (not_joined {one = one} {others = others} why f) = λ same. bases_sound objects rows agreeing one others why f (err_same same)

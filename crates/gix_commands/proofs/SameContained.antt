@@ -1,10 +1,8 @@
 -- Which ids a commit contains, in each history that has the commits at hand, and in the words of the statement.
-use Rattle.std.proofs.Common.{◌≡◌, ℤ, List, [], ◌∷◌, Option, Some, None, Contains, IsSome, refl, sym, ap, subst, ◌∙◌}
-use Rattle.gix_commands.proofs.Common.{ObjectId, Contains-here, Contains-there, no_member, Objects, commit_at, parents_of, text_next, text_whole, time_of, whole_from, AreWhole}
+use Rattle.std.proofs.Common.{◌≡◌, ℤ, List, [], ◌∷◌, Contains, IsSome, sym, subst, ◌∙◌}
+use Rattle.gix_commands.proofs.Common.{ObjectId, Contains-here, Contains-there, Objects, commit_at, parents_of, text_next, text_whole, time_of, whole_from, AreWhole}
 use Rattle.gix_contained.specs.Contained.{AreContained, empty, reached, passed}
 use Rattle.gix_hash.specs.Reach.{Reaches}
-use Rattle.gix_object.specs.CommitText.{Commit}
-use Rattle.gix_revwalk.specs.Commits.{parents_in}
 use Rattle.gix_statement.specs.WholeStatement as page
 use Rattle.gix_statement.proofs.EachHistory.{same_parents}
 use Rattle.gix_commands.specs.Pages.{page_objects}

@@ -4,20 +4,18 @@ use Rattle.gix_commands.proofs.Common.{kept_in, Shown, EndsBy, Yields, Contains-
 use Rattle.gix_commands.proofs.Common.{by_mode, Contains-there, Contains-cons_cases, no_member, Info, Parents, Pending, ReadsWhole, commit_at, commit_of_object, parents_in, parents_of, step, Treated, Enqueues, dropped, enqueued}
 use Rattle.gix_commands.proofs.Common.{Treats, hidden, known, accepted, store_fails, no_memory_after, TreatsAll, none, more, stops, Concludes, broken, Takes, by_row, by_store, Chooses, Steps, took, FirstStep, unhidden, paints}
 use Rattle.gix_commands.proofs.Common.{faulty_history, initial, later, unrowed, ids_of, scan_is, no_fault, row_parents, walked_within, none_agree, kept_either, Fault, Simple, fault_of_walk, AreWhole, EndsWell, IsOutside, SimpleSucceeds}
-use Rattle.gix_commands.proofs.Common.{AheadSucceeds, walked, not_walked, not_ahead, not_behind, StartsFrom, FailsAtStart, Ends, finished, cut_short, enough, before, objects_of, never_faulty, accepts_all}
-use Rattle.gix_commands.proofs.Common.{Commits, Ahead, whole_from, filter_within, only_member, reaches_from, reach_more}
+use Rattle.gix_commands.proofs.Common.{walked, not_walked, StartsFrom, FailsAtStart, Ends, finished, cut_short, enough, before, objects_of, never_faulty, accepts_all}
+use Rattle.gix_commands.proofs.Common.{Commits, whole_from, filter_within, only_member, reaches_from, reach_more}
 use Rattle.std.proofs.lemmas.List.Sorted.{Contains-permutation, IsPermutation-sym}
 use Rattle.gix_object.specs.declared.Kind.TheVariants as object
 use Rattle.gix_object.specs.declared.decode.Error.{Error as DecodeError}
 use Rattle.gix_object.specs.declared.find.existing_iter.Error.{Error as ExistingError}
 use Rattle.gix_object.specs.CommitItems.{commit_items}
-use Rattle.gix_revwalk.specs.declared.Parents.TheVariants as mode
 use Rattle.gix_simple.specs.declared.Error.{Error}
 use Rattle.gix_simple.specs.declared.Error.TheVariants as error
 use Rattle.gix_paint.specs.declared.Hidden.{Hidden}
 use Rattle.gix_paint.specs.declared.Hidden.TheVariants as hidden_by
 use Rattle.gix_simple.specs.declared.Sorting.{Sorting}
-use Rattle.gix_simple.specs.declared.Sorting.TheVariants as sorting
 use Rattle.gix_hash.specs.Reach.{Reaches, start}
 use Rattle.gix_simple.specs.Building.{IsTipFault}
 use Rattle.gix_paint.specs.Painting.{IsFaultAt}
@@ -214,18 +212,6 @@ module _ (Stored : ObjectId → Type 0) (objects : Objects) (rows : List GraphRo
   well ms by shown tips hiders whole answer new (not_walked e f) = started_well objects tips hiders whole by e f
   well ms by shown tips hiders whole answer new s = tt
 
-  pub ahead_well : (one other : ObjectId) → AreWhole objects (one ∷ other ∷ []) → (answer : Result (Unit {0}) Fault) (new : Option (List ℕ)) → Serves Stored objects rows old (Ahead one other) answer new → EndsWell answer
-  ahead_well one other whole answer new (not_ahead f) = drawn_well objects (one ∷ []) (other ∷ []) whole (λ i. tt) rows agreeing mode.All sorting.BreadthFirst f.1.walk f.1.starts f.0 answer f.1.ends
-  ahead_well one other whole answer new (not_behind n a f) = drawn_well objects (other ∷ []) (one ∷ []) turned (λ i. tt) rows agreeing mode.All sorting.BreadthFirst f.1.walk f.1.starts f.0 answer f.1.ends
-    where
-      turned : AreWhole objects (other ∷ one ∷ [])
-      turned i r = whole i (reach_more (parents_of objects) (other ∷ one ∷ []) (one ∷ other ∷ []) (λ j c. ⊎_elim (λ e. Contains-there j one (other ∷ []) (subst (λ k. Contains (other ∷ []) k) e (Contains-here other []))) (λ m. ⊎_elim (λ e. subst (λ k. Contains (one ∷ other ∷ []) k) e (Contains-here one (other ∷ []))) (λ n. absurd (no_member j n)) (Contains-cons_cases j one [] m)) (Contains-cons_cases j other (one ∷ []) c)) i r)
-  ahead_well one other whole answer new s = tt
-
 pub simple_succeeds : SimpleSucceeds
 simple_succeeds words input records ms by shown tips hiders answer old new asked are whole =
     ends_whole words input records (Commits (Simple ms by) shown tips hiders) (tips ++ hiders) answer old new asked are whole (λ Stored objects rows each agreeing all. well Stored objects rows each agreeing old ms by shown tips hiders all)
-
-pub ahead_succeeds : AheadSucceeds
-ahead_succeeds words input records one other answer old new asked are whole =
-    ends_whole words input records (Ahead one other) (one ∷ other ∷ []) answer old new asked are whole (λ Stored objects rows each agreeing. ahead_well Stored objects rows each agreeing old one other)

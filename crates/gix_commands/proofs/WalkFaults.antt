@@ -1,6 +1,6 @@
 -- Which faults walks may have, and commands that are served.
 use Rattle.std.proofs.Common.{◌≡◌, ◌≢◌, ℕ, List, Option, None, Some, Result, Ok, Err, refl, sym, ap, subst, inl, inr, ◌∙◌}
-use Rattle.gix_commands.proofs.Common.{ObjectId, GraphRow, Objects, Info, Fault, fault_of_find, fault_of_walk, fault_of_topo_walk, fault_of_search, fault_of_tree_walk, walked, not_walked, walked_down, not_built, not_listed, not_ahead, not_behind, not_selected, not_reaching, not_joined, Ends, EndsBy, finished, cut_short, enough, before, Request, kept_in}
+use Rattle.gix_commands.proofs.Common.{ObjectId, GraphRow, Objects, Info, Fault, fault_of_find, fault_of_walk, fault_of_topo_walk, fault_of_search, fault_of_tree_walk, walked, not_walked, walked_down, not_built, not_listed, not_counted, not_selected, not_reaching, not_joined, Ends, EndsBy, finished, cut_short, enough, before, Request, kept_in}
 use Rattle.gix_contained.specs.declared.Error.{Error as SearchError}
 use Rattle.gix_contained.specs.declared.Error.TheVariants as search_error
 use Rattle.gix_object.specs.declared.find.existing_iter.Error.{Error as ExistingError}
@@ -87,8 +87,7 @@ serves_of_walk (not_walked why f) = simple_of_walk why
 serves_of_walk {objects = objects} (walked_down {shown = shown} walk infos built ends have a) = by_of_walk topo.Answers topo.IsWalkFault _ (kept_in objects shown) shown.limit walk infos _ topo_tells ends
 serves_of_walk (not_built why h) = topo_of_walk why
 serves_of_walk (not_listed recorder why r) = tree_of_walk why
-serves_of_walk (not_ahead f) = ends_of_walk simple_tells f.1.ends
-serves_of_walk (not_behind n a f) = ends_of_walk simple_tells f.1.ends
+serves_of_walk (not_counted why f) = search_of_walk why
 serves_of_walk (not_selected why f) = search_of_walk why
 serves_of_walk (not_reaching why f) = search_of_walk why
 serves_of_walk (not_joined why f) = search_of_walk why

@@ -27,7 +27,8 @@ use Rattle.gix_words.specs.declared.fault.Fault.TheVariants as fault
 use Rattle.gix_words.specs.declared.words.EntryLines.{EntryLines}
 use Rattle.gix_words.specs.declared.words.Order.TheVariants.{Simple, Topo}
 use Rattle.gix_words.specs.declared.words.Shown.{Shown}
-use Rattle.gix_commands.specs.Ahead.{Counts, FailsToCount, ahead_line}
+use Rattle.gix_ahead.specs.Ahead.{FindsAhead}
+use Rattle.gix_commands.specs.Ahead.{ahead_line}
 use Rattle.gix_words.specs.Faults.{fault_of_walk, fault_of_topo_walk, fault_of_search, fault_of_tree_walk}
 use Rattle.gix_commands.specs.Checked.{GoesOnWhole, LacksParent}
 use Rattle.gix_commands.specs.Chosen.{HasObject, HasText, Writes, kept_in, line_in}
@@ -83,12 +84,10 @@ pub data Serves (IsStored : ObjectId → Type 0) (objects : Objects) (rows : Lis
   too_many : {shown : EntryLines} {tree : ObjectId} (recorder : Tracked) (walk : RecordsTree objects tree recorder (Ok tt)) → HaveNames walk.visits
       → shown.limit ≡ None → most_entries < length walk.visits → Serves IsStored objects rows old (Files shown tree) (Err (fault.Entries (capped (length walk.visits)))) old
   counted : {one other : ObjectId} (ahead behind : ℕ) {new : Option (List ℕ)}
-      → Counts objects rows one other ahead → Counts objects rows other one behind → Appends old new (ahead_line ahead behind)
+      → FindsAhead objects rows one other ahead behind → Appends old new (ahead_line ahead behind)
       → Serves IsStored objects rows old (Ahead one other) (Ok tt) new
-  -- of two commits one of whose walks failed nothing is written: the second walk is drawn once the first has ended well
-  not_ahead : {one other : ObjectId} {e : Fault} → FailsToCount objects rows one other e → Serves IsStored objects rows old (Ahead one other) (Err e) old
-  not_behind : {one other : ObjectId} {e : Fault} (ahead : ℕ) → Counts objects rows one other ahead → FailsToCount objects rows other one e
-      → Serves IsStored objects rows old (Ahead one other) (Err e) old
+  not_counted : {one other : ObjectId} (e : SearchError) → base.FailsBy objects (never_faulty objects) rows one (other ∷ []) e
+      → Serves IsStored objects rows old (Ahead one other) (Err (fault_of_search e)) old
   selected : {tip : ObjectId} {ids : List ObjectId} (those : List ObjectId) {new : Option (List ℕ)}
       → Selects objects rows (tip ∷ []) ids those → Appends old new (flat_map line_of those) → Serves IsStored objects rows old (Contained tip ids) (Ok tt) new
   not_selected : {tip : ObjectId} {ids : List ObjectId} (e : SearchError) → FailsBy objects (never_faulty objects) rows (tip ∷ []) ids e

@@ -30,7 +30,7 @@ use Rattle.gix_revwalk.proofs.Rows.{found_entry, ids_in_rows}
 abbrev pub names : Objects → List GraphRow → List ObjectId
 names objects rows = map (λ row. row.id) rows ++ flat_map (λ entry. parents_of objects entry.0) (map_of.entries objects)
 
-among_stored : (objects : Objects) (c : ObjectId) (ids : List ObjectId) → Reads objects c ids → (i : ObjectId) → Contains ids i → is_among i (flat_map (λ entry. parents_of objects entry.0) (map_of.entries objects)) ≡ true
+pub among_stored : (objects : Objects) (c : ObjectId) (ids : List ObjectId) → Reads objects c ids → (i : ObjectId) → Contains ids i → is_among i (flat_map (λ entry. parents_of objects entry.0) (map_of.entries objects)) ≡ true
 among_stored objects c ids r i m = go (map_of.get objects c) refl r.1
   where
     go : (o : Rattle.std.proofs.Common.Option Object) → map_of.get objects c ≡ o → commit_of_object c (map_of.get objects c) ≡ Some r.0 → is_among i (flat_map (λ entry. parents_of objects entry.0) (map_of.entries objects)) ≡ true

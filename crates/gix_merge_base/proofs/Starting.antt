@@ -93,7 +93,7 @@ module _ {F P : Type 0} (objects : F → Objects) (faulty : F → ObjectId → T
     drawn_opened : Drains (Next objects faulty answers) opened (given infos)
     drawn_opened = subst (λ w. Drains (Next objects faulty answers) w (given infos)) starts.is drawn
 
-    difference : GivesDifference (objects store) others (one ∷ []) (given infos)
+    pub difference : GivesDifference (objects store) others (one ∷ []) (given infos)
     unfolding built
     difference = faultless_difference objects faulty answers store predicate others accepting opened built tt new_walk.all_parents agreeing (λ e. cc) (given infos) (no_faults infos) drawn_opened
 

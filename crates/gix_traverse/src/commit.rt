@@ -1,4 +1,5 @@
 //! Walks of commits.
+pub mod ahead;
 pub mod contained;
 pub mod containing;
 pub mod merge_base;

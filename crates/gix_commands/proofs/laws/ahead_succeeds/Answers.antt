@@ -1,4 +1,4 @@
-use Rattle.gix_commands.proofs.SimpleFaults.{ahead_succeeds}
+use Rattle.gix_commands.proofs.AheadRuns.{ahead_succeeds}
 use Rattle.gix_commands.proofs.laws.ahead_succeeds.Goals as goal
 
 pub returns : goal.returns
