@@ -33,7 +33,7 @@ enum {
     KESTRELRACK_USAGE = 2,      /* the words are no command */
     KESTRELRACK_ID = 3,         /* the word number `place` is no id; the command is word 1 */
     KESTRELRACK_RECORD = 4,     /* the record number `place` isn't one, or is cut; the first is record 1 */
-    KESTRELRACK_MISSING = 5,    /* the records have no object of this `id` */
+    KESTRELRACK_MISSING = 5,    /* there is no object of this `id`, where the records or the revision number `place` need it */
     KESTRELRACK_WRONG_KIND = 6, /* a commit is needed, or a tree, and the object of this `id` is none */
     KESTRELRACK_BROKEN = 7,     /* an object's bytes are broken */
     KESTRELRACK_CYCLE = 8,      /* the tree of this `id` is under itself */
@@ -46,11 +46,27 @@ enum {
     KESTRELRACK_DISAGREES = 15, /* never answered */
     KESTRELRACK_NAME = 16,      /* the tree of this `id` has an entry whose name is empty or holds a '/' */
     KESTRELRACK_MORE = 17,      /* of commits alone: there is no room for more, and there may be more */
-    KESTRELRACK_REPOSITORY = 18, /* the files are no known repository, or one that holds no objects is damaged */
-    KESTRELRACK_REVISION = 19,  /* the revision number `place`, from 1 on, stands for nothing; at 0 the repository has no commit */
+    KESTRELRACK_REPOSITORY = 18, /* the files are no repository */
+    KESTRELRACK_REVISION = 19,  /* the revision number `place`, from 1 on, stands for nothing: no ref and no object is called so */
     KESTRELRACK_OBJECTS = 20,   /* a file of objects is damaged */
     KESTRELRACK_HASH = 21,      /* the object that is stored for this `id` is another's */
-    KESTRELRACK_ENTRIES = 22    /* of `files` without `-n`: the tree has `place` entries in all, more than 268435456 */
+    KESTRELRACK_ENTRIES = 22,   /* of `files` without `-n`: the tree has `place` entries in all, more than 268435456 */
+    /* Over a repository alone. A `place` is that of a revision, or the number of a line. */
+    KESTRELRACK_NO_COMMIT = 23, /* the repository has no ref */
+    KESTRELRACK_FORM = 24,      /* the revision is none, or has a form that isn't taken, as ":/fix" and "HEAD@{1}" */
+    KESTRELRACK_AMBIGUOUS = 25, /* the ids of several objects begin as the revision says */
+    KESTRELRACK_UPSTREAM = 26,  /* the branch has no upstream that is known */
+    KESTRELRACK_PARENT = 27,    /* the commit of this `id` has no such parent */
+    KESTRELRACK_ENTRY = 28,     /* the tree of this `id` has no such entry */
+    KESTRELRACK_TAGS = 29,      /* more than 1000 tags lead to one another */
+    KESTRELRACK_REF = 30,       /* a ref is damaged, or more than five symbolic refs lead to one another */
+    KESTRELRACK_CONFIG = 31,    /* the line number `place` of the config isn't one */
+    KESTRELRACK_FORMAT = 32,    /* the config says a format of the repository that isn't known */
+    KESTRELRACK_EXTENSION = 33, /* the config names an extension that isn't known */
+    KESTRELRACK_REFTABLE = 34,  /* the refs are in a reftable */
+    KESTRELRACK_PACKED_REF = 35, /* the line number `place` of packed-refs is no ref; at 0 a name in it can't be one */
+    KESTRELRACK_SHALLOW = 36,   /* the line number `place` of shallow is no id */
+    KESTRELRACK_FILE = 37       /* another file or folder that holds no objects is damaged */
 };
 
 struct kestrelrack_answer {
@@ -58,8 +74,8 @@ struct kestrelrack_answer {
     uint32_t id_length; /* how many bytes of `id` are an id: 20 (SHA-1), 32 (SHA-256), or 0 if the number names no object */
     size_t length;      /* in bytes: of the lines, at KESTRELRACK_WELL and KESTRELRACK_ROOM; otherwise 0. Of kestrelrack_commits: how many
                            commits it gave, at each number */
-    size_t place;       /* the number of the word or record that is named, of entries that are too many, or the room for parents that a
-                           commit needs; otherwise 0 */
+    size_t place;       /* the number of the word, record, revision or line that is named, of entries that are too many, or the room for
+                           parents that a commit needs; otherwise 0 */
     uint8_t id[32];     /* the id that is named, as bytes and not as digits, and zeros behind it */
 };
 
@@ -161,7 +177,8 @@ struct kestrelrack_file {
 /* Puts the words of a command at the front of the room, with a newline between two, and with ids in place of its revisions.
  *
  * words    A command as for kestrelrack_run, or "resolve", whose revisions are as the program takes them: "main~2", "^v1.0", "A..B",
- *          "A...B", "HEAD^{tree}", an id or the first digits of one; and "--not", "--all", "--branches" and "--tags".
+ *          "A...B", "HEAD^{tree}", an id or the first digits of one; and "--not", "--all", "--branches", "--tags" and "--remotes", which may
+ *          stand for no id.
  *
  * At KESTRELRACK_WELL the first `length` bytes of the room are words for the two calls below. Those of "resolve" are no command: they are
  * its name, and the ids. At KESTRELRACK_ROOM the words need `length` bytes. At every number but KESTRELRACK_WELL the room is as it was.
@@ -169,13 +186,16 @@ struct kestrelrack_file {
 struct kestrelrack_answer kestrelrack_resolve_in(const void *words, size_t words_length, const struct kestrelrack_file *files,
                                                  size_t files_length, void *room, size_t room_length);
 
-/* As kestrelrack_run, over a repository: the words have ids. Of few lines of a list ("-n") only as many commits are read as they need. */
+/* As kestrelrack_run, over a repository: the words have ids. Of few lines of a list ("-n") only as many commits are read as they need. Where
+ * all sets were empty, the words of a list have no id without a ^, and those of "contains", "containing" and "merge-base" have one id: then
+ * no line is written, or "0" with "--count".
+ */
 struct kestrelrack_answer kestrelrack_run_in(const void *words, size_t words_length, const struct kestrelrack_file *files, size_t files_length,
                                              void *room, size_t room_length);
 
 /* As kestrelrack_commits, over a repository: the words have ids. By breadth, newest and oldest only as many commits are read as a batch
  * needs. Over ids each call walks the same commits, also if the repository has grown meanwhile. A fault of the files comes with `length` 0,
- * and both slices are as they were.
+ * and both slices are as they were. Words without an id that has no ^ give no commit.
  */
 struct kestrelrack_answer kestrelrack_commits_in(const void *words, size_t words_length, const struct kestrelrack_file *files,
                                                  size_t files_length, uint64_t skip, struct kestrelrack_commit *commits, size_t commits_length,

@@ -114,7 +114,7 @@ int main(void) {
         drop(records);
         drop(room);
     }
-    for (uint32_t number = 0; number < 32; number++) {
+    for (uint32_t number = 0; number < 48; number++) {
         struct slice room = make(32), small = make(1);
         size_t length = kestrelrack_text(number, room.bytes, room.length);
         if (length > room.length || kestrelrack_text(number, small.bytes, small.length) != length || small.bytes[0] != 0) {

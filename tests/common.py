@@ -281,8 +281,9 @@ class Repository:
 
     def cases(self, table, *options, label="", **values):
         """The lines of a table, each a case, or a run and behind | what is said of a fault"""
-        date = time.strftime("%Y-%m-%dT%H:%M:%SZ", time.gmtime(self.now - 20))
-        for line in lines_of(table, now=self.now, before=self.now - 1, ago=self.now - 20, date=date, **values):
+        zones = {"date": (0, "Z"), "east": (19800, "+05:30"), "west": (-12600, "-0330")}
+        dates = {name: time.strftime(f"%Y-%m-%dT%H:%M:%S{zone}", time.gmtime(self.now - 20 + off)) for name, (off, zone) in zones.items()}
+        for line in lines_of(table, now=self.now, before=self.now - 1, ago=self.now - 20, **dates, **values):
             words, *said = line.split(" | ")
             self.fault(words, *said, label=label) if said else self.case(words, *options, label=label)
 

@@ -2,7 +2,7 @@
  * bytes, and these, each length as a line. Without arguments it resolves the words, and lists commits and lines by them, each call again with
  * each of its requests for memory refused: the answer is then out of memory, and what is written is as it was. It prints how many requests
  * were refused. With a number and a seed it makes so many random calls that the header allows and nobody makes, and prints how many ended
- * with each number. Whatever the answer is, it keeps the rules of the header. The linker puts the functions __wrap_.. into the place of the
+ * with each number. Whatever the answer is, it keeps the rules of the header. With one argument it prints what the words are answered. The linker puts the functions __wrap_.. into the place of the
  * system's. */
 #include <stdio.h>
 #include <stdlib.h>
@@ -164,6 +164,40 @@ static void call_thoroughly(const void *words, size_t length, struct kestrelrack
     }
     free(ids);
     printf("%zu\n", refusals);
+}
+
+/* A call, also with each of its requests refused, unless there are many of these. */
+static struct kestrelrack_answer answer_to(const char *what, struct ask ask) {
+    if (ask.count < 1000) {
+        thorough(what, ask);
+    }
+    return make(ask);
+}
+
+/* What the words are answered: the number, the place, how many commits there are, and the lines. */
+static void print_answer(const void *words, size_t length, const struct kestrelrack_file *files, size_t count) {
+    struct ask ask = {RESOLVE, words, length, files, count, ROOM, COMMITS, PARENTS, 0};
+    struct kestrelrack_answer answer = answer_to("resolving", ask);
+    size_t commits = 0, name = strlen("resolve");
+    if (answer.number == KESTRELRACK_WELL) {
+        ask.words = memcpy(room_for(answer.length), left.room, answer.length);
+        ask.length = answer.length;
+        ask.call = COMMITS_IN;
+        commits = answer_to("commits", ask).length;
+        ask.call = RUN;
+        if (length < name || memcmp(words, "resolve", name) != 0) {
+            answer = answer_to("running", ask);
+        } else {
+            /* The ids are words, and a newline is between two */
+            make((struct ask){RESOLVE, words, length, files, count, ROOM, 0, 0, 0});
+            left.room[answer.length] = '\n';
+            answer.length -= name;
+            memmove(left.room, left.room + name + 1, answer.length);
+        }
+        free((void *)ask.words);
+    }
+    printf("%u %zu %zu\n", answer.number, answer.place, commits);
+    fwrite(left.room, 1, answer.number == KESTRELRACK_WELL ? answer.length : 0, stdout);
 }
 
 static uint64_t chance;
@@ -376,9 +410,10 @@ static size_t check_commits(struct ask ask, struct kestrelrack_answer answer) {
 static void check(struct ask ask, struct kestrelrack_answer answer) {
     uint32_t number = answer.number;
     size_t written = 0, commits = 0, parents = 0;
-    int names_place = number == KESTRELRACK_ID || number == KESTRELRACK_RECORD || number == KESTRELRACK_REVISION;
+    int names_place = number == KESTRELRACK_ID || number == KESTRELRACK_RECORD || number == KESTRELRACK_REVISION || number > KESTRELRACK_NO_COMMIT
+        || (ask.call == RESOLVE && number >= KESTRELRACK_MISSING && number <= KESTRELRACK_BROKEN);
     is_kept(held == 0, "memory is lost", ask, answer);
-    is_kept(number <= KESTRELRACK_HASH && (number < KESTRELRACK_READ || number > KESTRELRACK_DISAGREES), "a number that is never answered", ask, answer);
+    is_kept(number <= KESTRELRACK_FILE && (number < KESTRELRACK_READ || number > KESTRELRACK_DISAGREES), "a number that is never answered", ask, answer);
     is_kept(number < KESTRELRACK_REPOSITORY || is_over_files(ask.call), "a fault of files", ask, answer);
     is_kept(number != KESTRELRACK_RECORD || !is_over_files(ask.call), "a fault of records", ask, answer);
     is_kept(number != KESTRELRACK_MORE || (is_of_commits(ask.call) && answer.length > 0), "more", ask, answer);
@@ -444,7 +479,7 @@ static uint32_t misuse(const char *ids, size_t length, size_t width, const struc
 }
 
 static void call_at_random(size_t number, const struct kestrelrack_file *files, size_t count) {
-    size_t ended[KESTRELRACK_HASH + 1] = {0}, width = 0;
+    size_t ended[KESTRELRACK_FILE + 1] = {0}, width = 0;
     struct ask ask = {RESOLVE, "resolve\n--all\nHEAD", 18, files, count, ROOM, 0, 0, 0};
     struct kestrelrack_answer answer = make(ask);
     char *ids;
@@ -461,8 +496,8 @@ static void call_at_random(size_t number, const struct kestrelrack_file *files, 
         kestrelrack_text((uint32_t)chance, left.room, below(40));
     }
     free(ids);
-    for (size_t i = 0; i <= KESTRELRACK_HASH; i++) {
-        printf("%zu%c", ended[i], i == KESTRELRACK_HASH ? '\n' : ' ');
+    for (size_t i = 0; i <= KESTRELRACK_FILE; i++) {
+        printf("%zu%c", ended[i], i == KESTRELRACK_FILE ? '\n' : ' ');
     }
 }
 
@@ -482,6 +517,8 @@ int main(int arguments, char **words_given) {
     if (arguments == 3) {
         chance = strtoull(words_given[2], NULL, 10) * 0x9E3779B97F4A7C15u + 1;
         call_at_random(strtoull(words_given[1], NULL, 10), files, count);
+    } else if (arguments == 2) {
+        print_answer(words, length, files, count);
     } else {
         call_thoroughly(words, length, files, count);
     }

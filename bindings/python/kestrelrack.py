@@ -70,8 +70,8 @@ class RawFile(ctypes.Structure):
 
 
 class Fault(Exception):
-    """Why a run failed. `number` is one of Number. `place` is the number of the word or of the record that the fault names, or 0. `id` is the
-    id that it names, as bytes, or empty. For ROOM `length` is the number of bytes that are needed."""
+    """Why a run failed. `number` is one of Number. `place` is the number of the word, record, revision or line that the fault names, or 0.
+    `id` is the id that it names, as bytes, or empty. For ROOM `length` is the number of bytes that are needed."""
 
     def __init__(self, answer):
         self.number, self.place, self.length = answer.number, answer.place, answer.length

@@ -137,8 +137,8 @@ pub enum Error {
     Word,
     /// The room is too small for so many bytes.
     Room(usize),
-    /// A fault of the run: its number, one of [`number`], the number of the word or of the record that it names, or 0, and the id that it
-    /// names, or nothing.
+    /// A fault of the run: its number, one of [`number`], the number of the word, record, revision or line that it names, or 0, and the id
+    /// that it names, or nothing.
     Fault { number: u32, place: usize, id: Vec<u8> },
 }
 
@@ -602,10 +602,11 @@ impl Repository {
     /// Those of [`resolve`](Repository::resolve), and the fault of the run.
     pub fn run(&self, words: &[&str]) -> Result<Vec<u8>, Error> {
         let resolved = self.resolve(words)?;
-        match resolved.strip_prefix("resolve\n") {
-            Some(ids) => Ok(format!("{ids}\n").into_bytes()),
-            None => self.text(&resolved, kestrelrack_run_in),
+        let mut lines = resolved.split('\n');
+        if lines.next() != Some("resolve") {
+            return self.text(&resolved, kestrelrack_run_in);
         }
+        Ok(lines.flat_map(|id| [id, "\n"]).collect::<String>().into_bytes())
     }
 
     /// The commits of a list command, whose revisions are resolved once.

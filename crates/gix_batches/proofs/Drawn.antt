@@ -14,8 +14,8 @@ use Rattle.gix_batches.specs.declared.commit.Ending.{Ending}
 use Rattle.gix_batches.specs.declared.commit.Ending.TheVariants.{Ended, More, Small, Failed}
 use Rattle.gix_revwalk.specs.Infos.{given}
 use Rattle.gix_commands.specs.Walked.{Any, AsksForMore, Ends, EndsBy, before, enough, failed as fell, finished, cut_short, unstored}
-use Rattle.gix_batches.specs.Draws.{Draws, ended, failed, more, small, Fills, FillsFront, Holds, IsFull, IsOver, IsSkipped, Passes, ending_at, ids_given, least_of, most_of}
-use Rattle.gix_batches.specs.Slices.{Told, commit_of, commits_of, id_of, ids_of, told_by, told_of}
+use Rattle.gix_batches.specs.Draws.{Draws, ended, failed, more, small, Fills, FillsFront, Passes, ending_at, ids_given, least_of, most_of}
+use Rattle.gix_batches.specs.Slices.{Holds, IsFull, IsOver, IsSkipped, Told, commit_of, commits_of, id_of, ids_of, told_by, told_of}
 use Rattle.gix_batches.proofs.Slots.{put_next}
 
 -- WHAT THE SLICES HOLD

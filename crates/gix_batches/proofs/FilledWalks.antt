@@ -16,7 +16,7 @@ use Rattle.gix_commands.specs.Walked.{Walk, Answers, IsWalkFault, StartsFrom}
 use Rattle.gix_batches.specs.declared.commit.Batch.{Batch}
 use Rattle.gix_batches.specs.declared.commit.Commit.{Commit}
 use Rattle.gix_batches.specs.declared.commit.CommitId.{CommitId}
-use Rattle.gix_batches.specs.Batches.{all_lines_to}
+use Rattle.gix_batches.specs.Failing.{all_lines_to}
 use Rattle.gix_batches.specs.Draws.{Fills}
 use Rattle.gix_batches.specs.Walks.{FillsBy, breadth}
 
@@ -28,10 +28,6 @@ all_if shown false e h = cc
 pub others_if : (shown : Shown) (b : Bool) → b ≡ false → MatchBool b (shown ≡ all_lines_to shown.limit) (shown ≢ all_lines_to shown.limit) → shown ≢ all_lines_to shown.limit
 others_if shown true e h = cc
 others_if shown false e h = h
-
--- words that ask for lines which are all
-pub asked_all : (words : List (List ℕ)) (order : Order) (shown : Shown) (limit : Option ℕ) (tips hidden : List ObjectId) → request_of words ≡ Ok (Commits order shown tips hidden) → shown ≡ all_lines_to limit → request_of words ≡ Ok (Commits order (all_lines_to limit) tips hidden)
-asked_all words order shown limit tips hidden asked is = asked ∙ ap (λ s. Ok (Commits order s tips hidden)) is
 
 pub if_err : {A : Type 0} (P : Fault → Type 0) (r : Result A Fault) (e : Fault) → r ≡ Err e → P e → IfErr r P
 if_err {A} P r e is p = subst (λ (x : Result A Fault). IfErr x P) (sym is) p

@@ -14,9 +14,8 @@ use Rattle.gix_statement.proofs.Tests.{not_among}
 use Rattle.gix_batches.specs.declared.commit.Ending.{Ending}
 use Rattle.gix_batches.specs.declared.commit.Ending.TheVariants.{Ended, More, Small, Failed}
 use Rattle.gix_batches.specs.Batches.{IsNext, IsPart, IsTold, Says, Shows, breadth, first, has_ended, timed}
-use Rattle.gix_batches.specs.Draws.{IsOver}
+use Rattle.gix_batches.specs.Slices.{IsOver, Told}
 use Rattle.gix_batches.specs.InRow.{AreInRow, EachIs, HasMore, IsOneBatch, IsOneList, NoneClash, before, last}
-use Rattle.gix_batches.specs.Slices.{Told}
 use Rattle.gix_batches.proofs.ToldWords.{says_id}
 
 -- ONE COMMIT is told in one way

@@ -38,11 +38,9 @@ use Rattle.gix_commands.specs.Pages.{page_objects}
 use Rattle.gix_commands.specs.Readable.{readable, reads_all_lines}
 use Rattle.gix_commands.specs.Run.{Runs, Serves, served}
 use Rattle.gix_commands.specs.StoredRuns as stored_runs
-use Rattle.gix_commands.specs.StoredRuns.{RunsStored}
 use Rattle.gix_commands.specs.Walked.{Answers, Any, EndsBy, IsWalkFault}
 use Rattle.gix_commands.proofs.GivenRuns.{records_unread, serves_unread, words_unread}
 use Rattle.gix_commands.proofs.ReadableTexts.{have_texts, bytes_kept, text_kept, tree_kept}
-use Rattle.gix_commands.proofs.MemoryFaults.{failed_so}
 use Rattle.gix_commands.proofs.RightRuns.{unrowed_read}
 use Rattle.gix_commands.proofs.RunFacts.{runs_input, runs_sound, runs_words, serves_checked, serves_sound, serves_topo, serves_walk, without_rows}
 use Rattle.gix_commands.proofs.SameCommits.{are_fed}
@@ -53,9 +51,10 @@ use Rattle.gix_batches.specs.declared.commit.Commit.{Commit}
 use Rattle.gix_batches.specs.declared.commit.CommitId.{CommitId}
 use Rattle.gix_batches.specs.declared.commit.Ending.{Ending}
 use Rattle.gix_batches.specs.declared.commit.Ending.TheVariants.{Ended, More, Small, Failed}
-use Rattle.gix_batches.specs.Batches.{AsksForNone, Fails, FailsOver, IfFailed, IsNext, IsTold, Promises, Shows, asks_another, asks_for_other, asks_over, all_lines_to, gives, gives_none, has_ended, rejected, runs, runs_over}
-use Rattle.gix_batches.specs.Draws.{Draws, Fills, IsSkipped, failed, ids_given}
-use Rattle.gix_batches.specs.Slices.{Told, told_by, told_of}
+use Rattle.gix_batches.specs.Batches.{IsNext, IsTold, Promises, Shows, gives, gives_none, has_ended}
+use Rattle.gix_batches.specs.Failing.{Fails, FailsOver, HasNoList, IfFailed, asks_another, asks_for_other, asks_over, all_lines_to, no_memory, runs, runs_over}
+use Rattle.gix_batches.specs.Draws.{Draws, Fills, failed, ids_given}
+use Rattle.gix_batches.specs.Slices.{IsSkipped, Told, told_by, told_of}
 use Rattle.gix_batches.specs.Walks.{FillsBy, IsItself, breadth, down, timed}
 use Rattle.gix_batches.proofs.ShownWalks.{IsNextGood, all_kept, any_by, shown_breadth, shown_down, shown_timed}
 use Rattle.gix_batches.proofs.ToldWords.{says_id}
@@ -248,9 +247,12 @@ module _ (words : List (List ℕ)) (records : List ℕ) where
   as_run : (e : Fault) (lines : List ℕ) → Runs words (Some records) (Some []) (Err e) (Some lines) → e ≢ fault.Read → e ≢ fault.Write → Fails words records e
   as_run e lines r unread unwritten = runs lines r unread unwritten (λ same. runs_sound r (ap (λ x. Err x) same))
 
-  pub fails_words : {e : Fault} → AsksForNone words e → Fails words records e
-  fails_words (rejected e h) = as_run e [] (runs_words words (Some records) (Some []) (Err e) e refl h) (words_unread words e h) (words_unwritten words e h)
-  fails_words (asks_another asks) = asks_for_other asks
+  pub fails_words : (e : Fault) → (e ≢ fault.Memory → request_of words ≡ Err e) → Fails words records e
+  fails_words e h = as_run e [] (runs_words words (Some records) (Some []) (Err e) e refl h) (words_unread words e h) (words_unwritten words e h)
+
+  pub fails_list : (request : Request) {e : Fault} → request_of words ≡ Ok request → HasNoList request e → Fails words records e
+  fails_list request asked (asks_another other) = asks_for_other request asked other
+  fails_list request asked no_memory = fails_words fault.Memory (λ other. absurd (other refl))
 
   pub fails_records : (request : Request) (e : RecordsError) → request_of words ≡ Ok request → IsRecordFault records e → Fails words records (fault_of_records e)
   fails_records request e asked h =
@@ -270,21 +272,20 @@ module _ (words : List (List ℕ)) (records : List ℕ) where
         (λ same. serves_unread s (ap (λ x. Err x) same)) unwritten
 
 -- OBJECTS that are there: why a batch over them fails
-module _ (words : List (List ℕ)) (objects : Objects) where
-  pub fails_over_words : {e : Fault} → AsksForNone words e → FailsOver words objects e
-  fails_over_words (rejected e h) =
-      runs_over [] (failed_so (λ (r : Result (Unit {0}) Fault). RunsStored words objects [] (Some []) r (Some [])) stored_runs.without_memory (Err e) e refl (λ known. stored_runs.no_command (h known))) (words_unread words e h) (words_unwritten words e h)
-      (λ same. runs_sound (runs_words words None (Some []) (Err e) e refl h) (ap (λ x. Err x) same))
-  fails_over_words (asks_another asks) = asks_over asks
+pub fails_over_list : (request : Request) (objects : Objects) {e : Fault} → HasNoList request e → FailsOver request objects e
+fails_over_list request objects (asks_another other) = asks_over other
+fails_over_list request objects no_memory = runs_over [] stored_runs.without_memory (λ e. cc) (λ e. cc) (λ e. cc)
 
-  module _ (AreGiven : page.Objects → Type 0) (given : AreGiven (page_objects objects)) (spelled : AreSpelled (page_objects objects)) where
-    pub served_over : (order : Order) (limit : Option ℕ) (tips hidden : List ObjectId) → request_of words ≡ Ok (Commits order (all_lines_to limit) tips hidden) → IsServed words objects AreGiven given spelled (FailsOver words objects) limit tips hidden order
-    served_over order limit tips hidden asked e lines s unwritten =
-        runs_over lines
-        (stored_runs.served (Commits order (all_lines_to limit) tips hidden) asked (λ i row l. absurd (omega (arith, l))) (λ row object c. absurd (no_member row c))
-        (subst (λ (o : Objects). Serves (HasObject objects []) (readable (reads_all_lines (Commits order (all_lines_to limit) tips hidden)) o) [] (Some []) (Commits order (all_lines_to limit) tips hidden) (Err e) (Some lines)) (sym (without_rows objects)) s))
-        (λ same. serves_unread s (ap (λ x. Err x) same)) unwritten
-        (λ same. serves_sound (none_agree (readable (reads_all_lines (Commits order (all_lines_to limit) tips hidden)) objects) [] refl) s (ap (λ x. Err x) same))
+module _ (words : List (List ℕ)) (objects : Objects) (AreGiven : page.Objects → Type 0) (given : AreGiven (page_objects objects)) (spelled : AreSpelled (page_objects objects)) where
+  pub served_over : (request : Request) (order : Order) (limit : Option ℕ) (tips hidden : List ObjectId) → request ≡ Commits order (all_lines_to limit) tips hidden → IsServed words objects AreGiven given spelled (FailsOver request objects) limit tips hidden order
+  served_over request order limit tips hidden is e lines s unwritten =
+      let listed : Request = Commits order (all_lines_to limit) tips hidden in
+      subst (λ (r : Request). FailsOver r objects e) (sym is)
+      (runs_over lines
+      (stored_runs.served (λ i row l. absurd (omega (arith, l))) (λ row object c. absurd (no_member row c))
+      (subst (λ (o : Objects). Serves (HasObject objects []) (readable (reads_all_lines listed) o) [] (Some []) listed (Err e) (Some lines)) (sym (without_rows objects)) s))
+      (λ same. serves_unread s (ap (λ x. Err x) same)) unwritten
+      (λ same. serves_sound (none_agree (readable (reads_all_lines listed) objects) [] refl) s (ap (λ x. Err x) same)))
 
 -- ANOTHER COMMAND
 pub is_other : (command : Command) → ((order : Order) (shown : Shown) (tips hidden : _) → command ≡ command_of.Commits order shown tips hidden → ⊥) → (by : Order) (limit : Option ℕ) (tips hidden : List ObjectId) → request_of_command command ≢ Commits by (all_lines_to limit) tips hidden

@@ -34,7 +34,8 @@ use Rattle.gix_commands.proofs.SameWords.{IsNameOf, IsOptionOf}
 use Rattle.gix_commands.proofs.WrittenBytes.{allows_fewer}
 use Rattle.gix_batches.specs.declared.commit.Ending.{Ending}
 use Rattle.gix_batches.specs.declared.commit.Ending.TheVariants.{Ended, More, Small, Failed}
-use Rattle.gix_batches.specs.Batches.{Shows, all_lines_to, has_ended}
+use Rattle.gix_batches.specs.Batches.{Shows, has_ended}
+use Rattle.gix_batches.specs.Failing.{all_lines_to}
 use Rattle.gix_batches.specs.Draws.{Draws, ended, failed, ids_given, more, small}
 use Rattle.gix_batches.specs.Slices.{told_by}
 use Rattle.gix_batches.specs.Walks.{IsItself}

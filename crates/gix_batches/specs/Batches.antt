@@ -1,23 +1,14 @@
 -- What a batch is, from lists of bytes up, in the words of the page: the beginning of the right list, and what the text of each commit says.
-use Rattle.std.specs.Prelude.{◌≡◌, ◌≢◌, ℕ, List, [], ◌∷◌, ◌++◌, flat_map, take, length, Bool, true, false, Option, Some, None, Ok, Err, Contains, codes}
+use Rattle.std.specs.Prelude.{◌≡◌, ◌≢◌, ℕ, List, [], ◌∷◌, ◌++◌, flat_map, take, length, Bool, true, false, Some, None, Contains, codes}
 use Rattle.std.specs.List.{AllByRecursion}
-use Rattle.gix_hash.specs.declared.ObjectId.{ObjectId}
-use Rattle.gix_object.specs.Object.{Objects as Stored}
 use Rattle.gix_statement.specs.WholeStatement.{InEach, IsText, Lists, Objects, Row, Spells, digits_in, id_line}
 use Rattle.gix_words.specs.declared.fault.Fault.{Fault}
-use Rattle.gix_words.specs.declared.fault.Fault.TheVariants as fault
-use Rattle.gix_words.specs.Words.{Request, Commits, all_lines, request_of}
-use Rattle.gix_words.specs.declared.words.Order.{Order}
-use Rattle.gix_words.specs.declared.words.Shown.{Shown}
-use Rattle.gix_commands.specs.Run.{Runs}
-use Rattle.gix_commands.specs.StoredRuns.{RunsStored}
 use Rattle.gix_batches.specs.declared.commit.Batch.{Batch}
 use Rattle.gix_batches.specs.declared.commit.Commit.{Commit}
 use Rattle.gix_batches.specs.declared.commit.CommitId.{CommitId}
 use Rattle.gix_batches.specs.declared.commit.Ending.{Ending}
 use Rattle.gix_batches.specs.declared.commit.Ending.TheVariants.{Ended, More, Small, Failed}
-use Rattle.gix_batches.specs.Draws.{Holds, IsFull, IsSkipped}
-use Rattle.gix_batches.specs.Slices.{Told}
+use Rattle.gix_batches.specs.Slices.{Holds, IsFull, IsSkipped, Told}
 
 -- What is told of a commit by these words, of which this is its text: all that it says, or its first parent alone; and no time by `breadth`.
 pub data Says (r : Row) : List (List ℕ) → Told → Type 0 where
@@ -75,36 +66,3 @@ pub data Promises (words : List (List ℕ)) (AreGiven : Objects → Type 0) (ski
   gives : Gives words AreGiven skip old new before after batch → Promises words AreGiven skip old new before after batch
   gives_none : (e : Fault) → batch ≡ record { commits = 0; parents = 0; ending = Failed e } → new ≡ old → after ≡ before
       → Promises words AreGiven skip old new before after batch
-
--- all lines up to a limit
-abbrev pub all_lines_to : Option ℕ → Shown
-all_lines_to limit = record all_lines { limit = limit }
-
--- These words ask for something else than all lines of a list of commits.
-abbrev pub AskForOther : List (List ℕ) → Type 0
-AskForOther words = (request : Request) × (request_of words ≡ Ok request)
-    × ((by : Order) (limit : Option ℕ) (tips hidden : List ObjectId) → request ≢ Commits by (all_lines_to limit) tips hidden)
-
--- Why words ask for no list: they are no command, unless memory ran out, or they ask for something else.
-pub data AsksForNone (words : List (List ℕ)) : Fault → Type 0 where
-  rejected : (e : Fault) → (e ≢ fault.Memory → request_of words ≡ Err e) → AsksForNone words e
-  asks_another : AskForOther words → AsksForNone words fault.Usage
-
--- Why a batch fails: as a run over these words and records does that writes into memory, whose lines are of the commits before; or its words ask
--- for something else. None fails for a reader or a writer, or for what never happens.
-pub data Fails (words : List (List ℕ)) (records : List ℕ) : Fault → Type 0 where
-  runs : {e : Fault} (lines : List ℕ) → Runs words (Some records) (Some []) (Err e) (Some lines) → e ≢ fault.Read → e ≢ fault.Write
-      → e ≢ fault.Internal → Fails words records e
-  asks_for_other : AskForOther words → Fails words records fault.Usage
-
--- the same over objects that are there
-pub data FailsOver (words : List (List ℕ)) (objects : Stored) : Fault → Type 0 where
-  runs_over : {e : Fault} (lines : List ℕ) → RunsStored words objects [] (Some []) (Err e) (Some lines) → e ≢ fault.Read → e ≢ fault.Write
-      → e ≢ fault.Internal → FailsOver words objects e
-  asks_over : AskForOther words → FailsOver words objects fault.Usage
-
-abbrev pub IfFailed : (Fault → Type 0) → Ending → Type 0
-IfFailed P Ended = Unit {0}
-IfFailed P More = Unit {0}
-IfFailed P (Small n) = Unit {0}
-IfFailed P (Failed e) = P e

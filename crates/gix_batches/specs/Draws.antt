@@ -1,5 +1,5 @@
 -- How slices are filled from a walk.
-use Rattle.std.specs.Prelude.{◌≡◌, ◌⊎◌, ℕ, ◌+◌, ◌<◌, nat_lt, nat_eq, List, [], ◌∷◌, ◌++◌, map, length, drop, Option, Some, None, Result, Ok, Err, if◌then◌else◌}
+use Rattle.std.specs.Prelude.{◌≡◌, ℕ, ◌<◌, nat_lt, nat_eq, List, [], ◌∷◌, ◌++◌, map, length, Option, Some, None, Result, Ok, Err, if◌then◌else◌}
 use Rattle.std.specs.Iterator.{Yields}
 use Rattle.gix_hash.specs.declared.ObjectId.{ObjectId}
 use Rattle.gix_revwalk.specs.declared.Info.{Info}
@@ -11,7 +11,7 @@ use Rattle.gix_batches.specs.declared.commit.Ending.{Ending}
 use Rattle.gix_batches.specs.declared.commit.Ending.TheVariants.{Ended, More, Small, Failed}
 use Rattle.gix_revwalk.specs.Infos.{given}
 use Rattle.gix_commands.specs.Walked.{Any, AsksForMore, EndsBy, Ends}
-use Rattle.gix_batches.specs.Slices.{Told, commits_of, ids_of, told_by}
+use Rattle.gix_batches.specs.Slices.{Holds, IsFull, IsSkipped, told_by}
 
 -- how many commits are passed, and how many are put at most
 abbrev pub least_of : Option ℕ → ℕ → ℕ
@@ -48,23 +48,6 @@ Passes Steps Tells number walk (Err (Failed f)) new = (infos : List Info) × End
 Passes Steps Tells number walk (Err More) new = ⊥
 Passes Steps Tells number walk (Err (Small n)) new = ⊥
 
--- these commits are at the front of the slices, and the rest of both is as it was
-pub record Holds (told : List Told) (old new : List Commit) (before after : List CommitId) (batch : Batch) : Type 0 where
-  pub commits : new ≡ commits_of 0 told ++ drop (length told) old
-  pub parents : after ≡ ids_of told ++ drop (length (ids_of told)) before
-  pub number : batch.commits ≡ length told
-  pub ids : batch.parents ≡ length (ids_of told)
-
--- a batch is full for its ending
-abbrev pub IsFull : (room ids : ℕ) → Batch → Type 0
-IsFull room ids batch = Full batch.ending
-  where
-    Full : Ending → Type 0
-    Full Ended = Unit {0}
-    Full (Failed f) = Unit {0}
-    Full More = batch.commits ≡ room
-    Full (Small n) = (batch.commits < room) × (ids < batch.parents + n)
-
 -- the slices hold what a walk gave
 pub record FillsFront {W E : Type 0} (Steps : W → Option (Result Info E) → W → Type 0) (Tells : E → Fault → Type 0) (limit : Option ℕ) (walk : W)
     (old new : List Commit) (before after : List CommitId) (batch : Batch) : Type 0 where
@@ -72,17 +55,6 @@ pub record FillsFront {W E : Type 0} (Steps : W → Option (Result Info E) → W
   pub draws : Draws Steps Tells limit walk infos batch.ending
   pub holds : Holds (told_by infos) old new before after batch
   pub full : IsFull (length old) (length before) batch
-
--- nothing comes behind such an end
-abbrev pub IsOver : Ending → Type 0
-IsOver Ended = Unit {0}
-IsOver More = ⊥
-IsOver (Small n) = ⊥
-IsOver (Failed e) = Unit {0}
-
--- so many were skipped; or fewer, and then nothing was given, and nothing comes behind
-abbrev pub IsSkipped : {A B : Type 0} → ℕ → List A → List B → Ending → Type 0
-IsSkipped skip skipped those ending = (length skipped ≡ skip) ⊎ ((length skipped < skip) × (those ≡ []) × IsOver ending)
 
 -- the slices hold what a walk gave behind those that are skipped
 pub record Fills {W E : Type 0} (Steps : W → Option (Result Info E) → W → Type 0) (Tells : E → Fault → Type 0) (limit : Option ℕ) (skip : ℕ) (walk : W)

@@ -6,5 +6,7 @@ pub mod Draws
 pub mod Walks
 -- What a batch is, by the page.
 pub mod Batches
+-- Why a batch fails.
+pub mod Failing
 -- Batches one behind another.
 pub mod InRow

@@ -1,11 +1,14 @@
 -- What a caller's slices hold of commits.
-use Rattle.std.specs.Prelude.{ℕ, ℤ, pos, ◌+◌, ◌-◌, List, [], ◌∷◌, ◌++◌, map, length, replicate, Option, Some, None}
+use Rattle.std.specs.Prelude.{◌≡◌, ◌⊎◌, ℕ, ℤ, pos, ◌+◌, ◌-◌, ◌<◌, List, [], ◌∷◌, ◌++◌, map, length, drop, replicate, Option, Some, None}
 use Rattle.std.specs.List.{flat_map}
 use Rattle.gix_hash.specs.declared.ObjectId.{ObjectId}
 use Rattle.gix_hash.specs.Id.{bytes_of, id_len, kind_of}
 use Rattle.gix_revwalk.specs.declared.Info.{Info}
+use Rattle.gix_batches.specs.declared.commit.Batch.{Batch}
 use Rattle.gix_batches.specs.declared.commit.Commit.{Commit}
 use Rattle.gix_batches.specs.declared.commit.CommitId.{CommitId}
+use Rattle.gix_batches.specs.declared.commit.Ending.{Ending}
+use Rattle.gix_batches.specs.declared.commit.Ending.TheVariants.{Ended, More, Small, Failed}
 
 -- what is told of a commit
 pub record Told : Type 0 where
@@ -59,3 +62,31 @@ told_of info = record { id = info.id; parents = info.parent_ids.items; time = in
 
 abbrev pub told_by : List Info → List Told
 told_by infos = map told_of infos
+
+-- these commits are at the front of the slices, and the rest of both is as it was
+pub record Holds (told : List Told) (old new : List Commit) (before after : List CommitId) (batch : Batch) : Type 0 where
+  pub commits : new ≡ commits_of 0 told ++ drop (length told) old
+  pub parents : after ≡ ids_of told ++ drop (length (ids_of told)) before
+  pub number : batch.commits ≡ length told
+  pub ids : batch.parents ≡ length (ids_of told)
+
+-- a batch is full for its ending
+abbrev pub IsFull : (room ids : ℕ) → Batch → Type 0
+IsFull room ids batch = Full batch.ending
+  where
+    Full : Ending → Type 0
+    Full Ended = Unit {0}
+    Full (Failed f) = Unit {0}
+    Full More = batch.commits ≡ room
+    Full (Small n) = (batch.commits < room) × (ids < batch.parents + n)
+
+-- nothing comes behind such an end
+abbrev pub IsOver : Ending → Type 0
+IsOver Ended = Unit {0}
+IsOver More = ⊥
+IsOver (Small n) = ⊥
+IsOver (Failed e) = Unit {0}
+
+-- so many were skipped; or fewer, and then nothing was given, and nothing comes behind
+abbrev pub IsSkipped : {A B : Type 0} → ℕ → List A → List B → Ending → Type 0
+IsSkipped skip skipped those ending = (length skipped ≡ skip) ⊎ ((length skipped < skip) × (those ≡ []) × IsOver ending)

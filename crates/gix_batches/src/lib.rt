@@ -5,14 +5,15 @@
 //! are the list is a law of [`laws`].
 #![tactic(auto)]
 
-ghost use Rattle.std.specs.Prelude.{◌≡◌, ◌≢◌, ℕ, List, [], map, Some, Err, IfOk, IfErr, string_bytes};
+ghost use Rattle.std.specs.Prelude.{◌≡◌, ◌≢◌, ℕ, List, [], map, Some, Ok, Err, IfOk, IfErr, string_bytes};
 ghost use Rattle.gix_commands.specs.Pages.{page_objects};
 ghost use Rattle.gix_commands.specs.Readable.{readable, reads_all_lines};
 ghost use Rattle.gix_commands.specs.Run.{ServesOver};
 ghost use Rattle.gix_graph_store.specs.WithRows.{with_rows};
 ghost use Rattle.gix_statement.specs.WholeStatement.{AreFed, AreNamed, Objects};
-ghost use Rattle.gix_words.specs.Words.{Commits};
-ghost use Rattle.gix_batches.specs.Batches.{Fails, FailsOver, IfFailed, Promises, all_lines_to};
+ghost use Rattle.gix_words.specs.Words.{Commits, request_of, request_of_command};
+ghost use Rattle.gix_batches.specs.Batches.{Promises};
+ghost use Rattle.gix_batches.specs.Failing.{Fails, FailsOver, IfFailed, all_lines_to};
 ghost use Rattle.gix_batches.specs.Walks.{FillsBy};
 
 mod commit;
@@ -23,13 +24,14 @@ mod listing;
 pub use commit::{Batch, Commit, CommitId, Ending};
 use fill::fill_from;
 use gix_commands::checked::Checked;
-use gix_commands::commits::{Ends, topo_walk_from, walk_from};
+use gix_commands::commits::{topo_walk_from, walk_from};
 use gix_hash::Keys;
 use gix_object::memory::MemoryStore;
 use gix_records::{NamedObjects, records_in};
 use gix_simple::Sorting;
-use gix_words::{Fault, Order};
+use gix_words::{Command, Fault, Order, read_command};
 use listing::Listing;
+pub use listing::are_all_lines;
 use std::alloc::Global;
 
 /// Runs a list command over records that are in memory, and puts the commits behind those that are skipped at the front of the slices, as
@@ -67,26 +69,27 @@ pub fn batch_in(
     }
 }
 
-/// The same over objects that were compared with their ids, as those of a repository.
+/// The same of a command, over objects that were compared with their ids, as those of a repository.
 ///
 /// # Errors
-/// Those of [`batch_in`], but never `Record`.
+/// Those of [`batch_in`], but never `Id` and `Record`.
 pub fn batch_named(
     alloc: Global,
-    words: &[String],
+    command: &Command,
     objects: &NamedObjects,
     skip: u64,
     commits: &mut [Commit],
     parents: &mut [CommitId],
 ) -> Batch
     // What the slices hold, from lists of bytes up: it is right of these objects, each of whose ids is the hash of its object.
-    ensures whole { Promises (map string_bytes words.now) (λ (given : Objects). AreNamed given × (given ≡ page_objects objects.now)) skip
+    ensures whole { (words : List (List ℕ)) → request_of words ≡ Ok (request_of_command command.now) → Promises words (λ (given : Objects). AreNamed given × (given ≡ page_objects objects.now)) skip
         commits.old commits.new parents.old parents.new result }
     // The same in the words of the page alone.
-    ensures named { Promises (map string_bytes words.now) AreNamed skip commits.old commits.new parents.old parents.new result }
-    ensures fails { IfFailed (FailsOver (map string_bytes words.now) objects.now) result.ending }
+    ensures named { (words : List (List ℕ)) → request_of words ≡ Ok (request_of_command command.now) → Promises words AreNamed skip commits.old commits.new parents.old parents.new result }
+    ensures fails { (words : List (List ℕ)) → request_of words ≡ Ok (request_of_command command.now)
+        → IfFailed (FailsOver (request_of_command command.now) objects.now) result.ending }
 {
-    match try_named(alloc, words, objects, skip, commits, parents) {
+    match try_named(alloc, command, objects, skip, commits, parents) {
         Ok(batch) => batch,
         Err(fault) => Batch {
             commits: 0,
@@ -112,7 +115,8 @@ fn try_batch(
     ensures commits_stay { IfErr result (λ e. commits.new ≡ commits.old) }
     ensures parents_stay { IfErr result (λ e. parents.new ≡ parents.old) }
 {
-    let listing = Listing::read(alloc, words)?;
+    let command = read_command(alloc, words)?;
+    let listing = Listing::of(alloc, &command)?;
     let store = records_in(alloc, Keys::KNOWN, records)?;
     batch_of(alloc, listing, &store, skip, commits, parents)
 }
@@ -120,20 +124,22 @@ fn try_batch(
 /// As [`batch_named`]. At a fault before the first step of a walk nothing is put.
 fn try_named(
     alloc: Global,
-    words: &[String],
+    command: &Command,
     objects: &NamedObjects,
     skip: u64,
     commits: &mut [Commit],
     parents: &mut [CommitId],
 ) -> Result<Batch, Fault>
-    ensures whole { IfOk result (Promises (map string_bytes words.now)
+    ensures whole { (words : List (List ℕ)) → request_of words ≡ Ok (request_of_command command.now) → IfOk result (Promises words
         (λ (given : Objects). AreNamed given × (given ≡ page_objects objects.now)) skip commits.old commits.new parents.old parents.new) }
-    ensures ending { IfOk result (λ batch. IfFailed (FailsOver (map string_bytes words.now) objects.now) batch.ending) }
-    ensures fails { IfErr result (FailsOver (map string_bytes words.now) objects.now) }
+    ensures ending { (words : List (List ℕ)) → request_of words ≡ Ok (request_of_command command.now)
+        → IfOk result (λ batch. IfFailed (FailsOver (request_of_command command.now) objects.now) batch.ending) }
+    ensures fails { (words : List (List ℕ)) → request_of words ≡ Ok (request_of_command command.now)
+        → IfErr result (FailsOver (request_of_command command.now) objects.now) }
     ensures commits_stay { IfErr result (λ e. commits.new ≡ commits.old) }
     ensures parents_stay { IfErr result (λ e. parents.new ≡ parents.old) }
 {
-    let listing = Listing::read(alloc, words)?;
+    let listing = Listing::of(alloc, command)?;
     batch_of(alloc, listing, objects.store(), skip, commits, parents)
 }
 
@@ -150,22 +156,16 @@ fn batch_of(
     parents: &mut [CommitId],
 ) -> Result<Batch, Fault>
     ensures ok { IfOk result (λ batch. FillsBy
-        (readable (reads_all_lines (Commits listing.order (all_lines_to listing.limit) listing.tips.items listing.hidden.items))
-        (with_rows [] store.now)) listing.limit listing.tips.items listing.hidden.items skip commits.old commits.new parents.old parents.new
+        (readable (reads_all_lines (Commits listing.order (all_lines_to listing.limit) listing.ends.tips.items listing.ends.hidden.items))
+        (with_rows [] store.now)) listing.limit listing.ends.tips.items listing.ends.hidden.items skip commits.old commits.new parents.old parents.new
         batch listing.order) }
     ensures err { IfErr result (λ e. ServesOver store.now [] (Some [])
-        (Commits listing.order (all_lines_to listing.limit) listing.tips.items listing.hidden.items) (Err e) (Some [])) }
+        (Commits listing.order (all_lines_to listing.limit) listing.ends.tips.items listing.ends.hidden.items) (Err e) (Some [])) }
     ensures unwritten { IfErr result (λ e. e ≢ Fault.Write) }
     ensures commits_stay { IfErr result (λ e. commits.new ≡ commits.old) }
     ensures parents_stay { IfErr result (λ e. parents.new ≡ parents.old) }
 {
-    let Listing {
-        order,
-        limit,
-        tips,
-        hidden,
-    } = listing;
-    let ends = Ends { tips, hidden };
+    let Listing { order, limit, ends } = listing;
     match order {
         Order::Simple {
             parents: through,

@@ -1,10 +1,10 @@
-//! The list that words ask for.
-ghost use Rattle.std.specs.Prelude.{◌≡◌, ◌≢◌, Ok, IfOk, IfErr, MatchBool, map, string_bytes};
-ghost use Rattle.gix_words.specs.Words.{Commits, request_of};
-ghost use Rattle.gix_batches.specs.Batches.{AsksForNone, all_lines_to};
+//! The list that a command asks for.
+ghost use Rattle.std.specs.Prelude.{◌≡◌, ◌≢◌, IfOk, IfErr, MatchBool};
+ghost use Rattle.gix_words.specs.Words.{Commits, request_of_command};
+ghost use Rattle.gix_batches.specs.Failing.{HasNoList, all_lines_to};
 
-use gix_hash::ObjectId;
-use gix_words::{Command, Fault, Form, Merges, Order, Shown, read_command};
+use gix_commands::commits::Ends;
+use gix_words::{Command, Fault, Form, Merges, Order, Shown};
 use std::alloc::Global;
 
 /// A list command, of which all lines are asked for, up to a limit.
@@ -12,21 +12,19 @@ use std::alloc::Global;
 pub struct Listing {
     pub(crate) order: Order,
     pub(crate) limit: Option<u64>,
-    pub(crate) tips: Vec<ObjectId>,
-    pub(crate) hidden: Vec<ObjectId>,
+    pub(crate) ends: Ends,
 }
 
 impl Listing {
-    /// The list that these words ask for.
+    /// The list that a command asks for.
     ///
     /// # Errors
-    /// `Usage` and `Id` where the words are no command, `Usage` where they are another or ask for some lines only, and `Memory`.
-    pub(crate) fn read(alloc: Global, words: &[String]) -> Result<Listing, Fault>
-        ensures ok { IfOk result (λ listing. request_of (map string_bytes words.now) ≡ Ok
-            (Commits listing.order (all_lines_to listing.limit) listing.tips.items listing.hidden.items)) }
-        ensures err { IfErr result (AsksForNone (map string_bytes words.now)) }
+    /// `Usage` where it asks for something else, or for some lines only, and `Memory`.
+    pub(crate) fn of(alloc: Global, command: &Command) -> Result<Listing, Fault>
+        ensures ok { IfOk result (λ listing. request_of_command command.now
+            ≡ Commits listing.order (all_lines_to listing.limit) listing.ends.tips.items listing.ends.hidden.items) }
+        ensures err { IfErr result (HasNoList (request_of_command command.now)) }
     {
-        let command = read_command(alloc, words)?;
         let Command::Commits {
             order,
             shown,
@@ -36,20 +34,20 @@ impl Listing {
         else {
             return Err(Fault::Usage);
         };
-        if !are_all_lines(shown) {
+        if !are_all_lines(*shown) {
             return Err(Fault::Usage);
         }
+        let ends = Ends::of(alloc, tips.as_slice(), hidden.as_slice())?;
         Ok(Listing {
-            order,
+            order: *order,
             limit: shown.limit,
-            tips,
-            hidden,
+            ends,
         })
     }
 }
 
 /// Whether all lines of a list are asked for, up to a limit.
-fn are_all_lines(shown: Shown) -> bool
+pub fn are_all_lines(shown: Shown) -> bool
     ensures { MatchBool result (shown ≡ all_lines_to shown.limit) (shown ≢ all_lines_to shown.limit) }
 {
     shown.until.is_none()

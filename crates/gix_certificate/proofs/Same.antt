@@ -8,12 +8,12 @@ use Rattle.serde_json.specs.Read.{read}
 use Rattle.serde_json.specs.View.{items_of}
 use Rattle.serde_json.proofs.OnLiterals.{serde_json_on_literals}
 use Rattle.gix_certificate.specs.declared.record.Certificate.{Certificate}
-use Rattle.gix_certificate.specs.Written.{IsTextOf, OneTextSaysOne, SaysTheSame, certificate_data, page_data, revision_data, text_data}
+use Rattle.gix_certificate.specs.Written.{OneTextSaysOne, IsLineOf, SaysTheSame, certificate_data, page_data, revision_data, text_data}
 
-same_data : (a b : Certificate) (text : List ℕ) → IsTextOf a text → IsTextOf b text → certificate_data a ≡ certificate_data b
+same_data : (a b : Data) (text : List ℕ) → IsLineOf a text → IsLineOf b text → a ≡ b
 same_data a b text (json, written, says) (other, also, reads) =
     let same = append_cancel_right json other (10 ∷ []) (sym written ∙ also) in
-    same_Some (certificate_data a) (certificate_data b) (sym says ∙ ap read same ∙ reads)
+    same_Some a b (sym says ∙ ap read same ∙ reads)
 
 abbrev field : List ℕ → Data → Data
 field name data_of = unwrap_or (get name data_of) null
@@ -38,18 +38,21 @@ list_of-items_of (x ∷ xs) = ap (λ (rest : List Data). x ∷ rest) (list_of-it
 same_list : (xs ys : List Data) → list_of (items_of xs) ≡ list_of (items_of ys) → xs ≡ ys
 same_list xs ys e = sym (list_of-items_of xs) ∙ e ∙ list_of-items_of ys
 
-found : (a b : Certificate) → certificate_data a ≡ certificate_data b → SaysTheSame a b
+found : (s t : Data) (a b : Certificate) → certificate_data s a ≡ certificate_data t b → SaysTheSame a b
 unfolding serde_json_on_literals
-found a b e = (
+found s t a b e = (
   ap (λ d. number_in (field (codes "status") d)) e,
   ap (λ d. number_in (field (codes "bytes") (field (codes "output") d))) e,
   ap (λ d. field (codes "sha256") (field (codes "output") d)) e,
   ap (λ d. text_in (field (codes "rows") d)) e,
   same_list (map text_data a.words.items) (map text_data b.words.items) (ap (λ d. list_in (field (codes "words") d)) e),
+  same_list (map text_data a.lines.items) (map text_data b.lines.items) (ap (λ d. list_in (field (codes "lines") d)) e),
+  same_list (map text_data a.question.items) (map text_data b.question.items) (ap (λ d. list_in (field (codes "question") d)) e),
   same_list (map revision_data a.revisions.items) (map revision_data b.revisions.items) (ap (λ d. list_in (field (codes "revisions") d)) e),
   ap (λ d. field (codes "program") d) e,
   same_list (map page_data a.pages.items) (map page_data b.pages.items) (ap (λ d. list_in (field (codes "pages") d)) e),
 )
 
 pub says_the_same : OneTextSaysOne
-says_the_same a b text written read_back = found a b (same_data a b text written read_back)
+says_the_same a b text (bare, of_bare, written) (other, of_other, read_back) =
+    found _ _ a b (same_data _ _ text written read_back)

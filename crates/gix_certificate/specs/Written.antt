@@ -2,6 +2,7 @@
 use Rattle.std.specs.Prelude.{◌≡◌, ℕ, List, [], ◌∷◌, ◌++◌, map, codes, Option, Some, None, String, string_bytes}
 use Rattle.std.specs.declared.alloc.Global.{Global}
 use Rattle.hex.specs.Hex.{encode_lower}
+use Rattle.sha2.specs.Sha256.{sha256}
 use Rattle.serde_json.specs.Data.{Data, null, boolean, number, unsigned, string, array, object, member, no_members}
 use Rattle.serde_json.specs.Read.{read}
 use Rattle.serde_json.specs.View.{items_of}
@@ -71,23 +72,36 @@ rows_word Checked = codes "checked"
 rows_word Trusted = codes "trusted"
 rows_word Border = codes "border"
 
+abbrev pub seal_data : Option Digest → Data
+seal_data None = null
+seal_data (Some digest) = digest_data digest
+
 -- the members by rising names
-abbrev pub certificate_data : Certificate → Data
-certificate_data certificate = object (
-    member (codes "certificate") (number (unsigned 1)) (
+abbrev pub certificate_data : Data → Certificate → Data
+certificate_data seal certificate = object (
+    member (codes "certificate") (number (unsigned 2)) (
+    member (codes "lines") (array_of text_data certificate.lines.items) (
     member (codes "output") (output_data certificate.output) (
     member (codes "pages") (array_of page_data certificate.pages.items) (
     member (codes "program") (program_data certificate.program) (
+    member (codes "question") (array_of text_data certificate.question.items) (
     member (codes "revisions") (array_of revision_data certificate.revisions.items) (
     member (codes "rows") (string (rows_word certificate.rows)) (
+    member (codes "sha256") seal (
     member (codes "status") (number (unsigned certificate.status)) (
-    member (codes "words") (array_of text_data certificate.words.items) no_members))))))))
+    member (codes "words") (array_of text_data certificate.words.items) no_members)))))))))))
 
--- the text is JSON that says what the certificate says, no more and no less, and a newline
+-- the text is JSON that says this, no more and no less, and a newline
+abbrev pub IsLineOf : Data → List ℕ → Type 0
+IsLineOf said text = (json : List ℕ) × (text ≡ json ++ 10 ∷ []) × (read json ≡ Some said)
+
+-- the text says what the certificate says, and its digest is that of a text that says the same with null in the digest's place
 abbrev pub IsTextOf : Certificate → List ℕ → Type 0
-IsTextOf certificate text = (json : List ℕ) × (text ≡ json ++ 10 ∷ []) × (read json ≡ Some (certificate_data certificate))
+IsTextOf certificate text = (bare : List ℕ)
+    × IsLineOf (certificate_data null certificate) bare
+    × IsLineOf (certificate_data (string (encode_lower (sha256 bare))) certificate) text
 
--- both certificates say the same of the output, the words, the revisions, the program and the pages
+-- both certificates say the same of the output, the words, the question, the revisions, the program and the pages
 abbrev pub SaysTheSame : Certificate → Certificate → Type 0
 SaysTheSame a b =
     (a.status ≡ b.status)
@@ -95,6 +109,8 @@ SaysTheSame a b =
     × (digest_data a.output.sha256 ≡ digest_data b.output.sha256)
     × (rows_word a.rows ≡ rows_word b.rows)
     × (map text_data a.words.items ≡ map text_data b.words.items)
+    × (map text_data a.lines.items ≡ map text_data b.lines.items)
+    × (map text_data a.question.items ≡ map text_data b.question.items)
     × (map revision_data a.revisions.items ≡ map revision_data b.revisions.items)
     × (program_data a.program ≡ program_data b.program)
     × (map page_data a.pages.items ≡ map page_data b.pages.items)

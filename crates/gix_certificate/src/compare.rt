@@ -1,5 +1,6 @@
 //! Two certificates compared: what was written, and what another run of the same words writes now.
-ghost use Rattle.std.specs.Prelude.{◌≡◌, ◌↔◌, IsTrue};
+ghost use Rattle.std.specs.Prelude.{◌≡◌, ◌↔◌, IsTrue, string_eq};
+ghost use Rattle.std.specs.Cmp.Lexicographic.{pointwise};
 
 use crate::digest::Digest;
 use crate::record::{Certificate, Lines, Meaning, Page, Program, Revision};
@@ -21,6 +22,13 @@ impl Certificate {
         self.output == other.output && self.status == other.status
     }
 
+    /// Whether two runs asked the same: the words of their questions are the same, in order.
+    pub fn has_same_question(&self, other: &Certificate) -> bool
+        ensures { result ≡ pointwise string_eq self.now.question.items other.now.question.items }
+    {
+        self.question == other.question
+    }
+
     /// What agrees in both certificates and what differs, in lines. The revisions of the second are those that the words stand for now.
     pub fn report(&self, alloc: Global, now: &Certificate) -> Result<String, AllocError> {
         let mut report = Report {
@@ -37,7 +45,11 @@ impl Certificate {
 impl Report {
     /// Adds all lines.
     fn add_all(&mut self, then: &Certificate, now: &Certificate) -> Result<(), AllocError> {
-        self.add_words(then.words.as_slice())?;
+        self.add_words("words", then.words.as_slice())?;
+        if !then.lines.is_empty() {
+            self.add_words("lines", then.lines.as_slice())?;
+        }
+        self.add_question(then.question.as_slice(), now.question.as_slice())?;
         self.add_output(then.output, now.output)?;
         self.add_status(then.status, now.status)?;
         self.add_program(&then.program, &now.program)?;
@@ -56,14 +68,23 @@ impl Report {
         Ok(self.text.push_str(line.as_str())?)
     }
 
-    /// Adds the words that ran.
-    fn add_words(&mut self, words: &[String]) -> Result<(), AllocError> {
-        self.text.push_str("words:")?;
-        for word in words {
-            let word = format!(in self.alloc; " {word:?}")?;
-            self.text.push_str(word.as_str())?;
-        }
-        Ok(self.text.push_str("\n")?)
+    /// Adds words that nothing is compared with.
+    fn add_words(&mut self, what: &str, words: &[String]) -> Result<(), AllocError> {
+        let words = quoted(self.alloc, words)?;
+        let line = format!(in self.alloc; "{what}:{words}\n")?;
+        Ok(self.text.push_str(line.as_str())?)
+    }
+
+    /// Adds what was asked.
+    fn add_question(&mut self, then: &[String], now: &[String]) -> Result<(), AllocError> {
+        let asked = quoted(self.alloc, then)?;
+        let asks = quoted(self.alloc, now)?;
+        let line = if asked == asks {
+            format!(in self.alloc; "agrees: question:{asks}\n")?
+        } else {
+            format!(in self.alloc; "differs: question:{asked} then,{asks} now\n")?
+        };
+        Ok(self.text.push_str(line.as_str())?)
     }
 
     /// Adds what was written.
@@ -145,6 +166,16 @@ impl Report {
         }
         Ok(())
     }
+}
+
+/// Words in quotes, with a space before each.
+fn quoted(alloc: Global, words: &[String]) -> Result<String, AllocError> {
+    let mut text = String::new(alloc);
+    for word in words {
+        let word = format!(in alloc; " {word:?}")?;
+        text.push_str(word.as_str())?;
+    }
+    Ok(text)
 }
 
 /// The number and the digest of bytes, as words.

@@ -1,6 +1,7 @@
 //! Certificates: what a run of the program wrote, and from what, as a text that is kept and compared with another run.
 #![tactic(auto)]
 
+pub mod asked;
 mod compare;
 mod digest;
 mod fault;

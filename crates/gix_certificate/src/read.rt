@@ -55,8 +55,10 @@ fn certificate_of(alloc: Global, value: &Value) -> Result<Certificate, Fault> {
     };
     let output = member(value, "output")?;
     Ok(Certificate {
-        words: words_of(alloc, array(value, "words")?)?,
+        words: texts_of(alloc, value, "words")?,
+        lines: texts_of(alloc, value, "lines")?,
         revisions: revisions_of(alloc, array(value, "revisions")?)?,
+        question: texts_of(alloc, value, "question")?,
         output: Lines {
             sha256: digest(output, "sha256")?,
             bytes: number(output, "bytes")?,
@@ -68,15 +70,16 @@ fn certificate_of(alloc: Global, value: &Value) -> Result<Certificate, Fault> {
     })
 }
 
-fn words_of(alloc: Global, values: &[Value]) -> Result<Vec<String>, Fault> {
-    let mut words = Vec::new(alloc);
-    for value in values {
-        let Some(word) = value.as_str() else {
-            return Err(Fault::Member("words"));
+/// A member that is a list of texts.
+fn texts_of(alloc: Global, value: &Value, name: &'static str) -> Result<Vec<String>, Fault> {
+    let mut texts = Vec::new(alloc);
+    for value in array(value, name)? {
+        let Some(text) = value.as_str() else {
+            return Err(Fault::Member(name));
         };
-        words.push(String::from_str(alloc, word)?)?;
+        texts.push(String::from_str(alloc, text)?)?;
     }
-    Ok(words)
+    Ok(texts)
 }
 
 fn revisions_of(alloc: Global, values: &[Value]) -> Result<Vec<Revision>, Fault> {

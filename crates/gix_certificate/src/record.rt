@@ -8,8 +8,12 @@ use std::alloc::{AllocError, Global};
 pub struct Certificate {
     /// The words behind the program's name, as they were given.
     pub words: Vec<String>,
+    /// The lines of standard input, where the words have `--stdin`.
+    pub lines: Vec<String>,
     /// What each revision was resolved to, in the order in which they were given.
     pub revisions: Vec<Revision>,
+    /// The question: the command over ids that ran, with its options, the ids and those with `^`, in order.
+    pub question: Vec<String>,
     /// What was written.
     pub output: Lines,
     /// The exit status: 0, or 3 where something isn't reported.
@@ -23,12 +27,21 @@ pub struct Certificate {
 }
 
 /// A revision, and what it was resolved to.
-#[derive(Drop, Debug)]
+#[derive(Debug)]
 pub struct Revision {
     /// The revision as it was written, without `^`. Of `A...B` it is A.
     pub word: String,
     /// What it was resolved to.
     pub meaning: Meaning,
+}
+
+impl Drop for Revision {
+    fn drop(self) {
+        let Revision {
+            word: _,
+            meaning: _,
+        } = self;
+    }
 }
 
 /// What a revision was resolved to.
@@ -86,7 +99,7 @@ pub struct Program {
 }
 
 /// A page of definitions.
-#[derive(Drop, Debug)]
+#[derive(Debug)]
 pub struct Page {
     /// Its path in the repository of the program's sources.
     pub name: String,
@@ -94,12 +107,20 @@ pub struct Page {
     pub sha256: Digest,
 }
 
+impl Drop for Page {
+    fn drop(self) {
+        let Page { name: _, sha256: _ } = self;
+    }
+}
+
 /// A call drops a certificate. Else each function that holds one would drop its parts one by one, and so would its proof.
 impl Drop for Certificate {
     fn drop(self) {
         let Certificate {
             words: _,
+            lines: _,
             revisions: _,
+            question: _,
             output: _,
             status: _,
             rows: _,

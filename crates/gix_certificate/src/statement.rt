@@ -20,7 +20,7 @@ pub const PAGES: &[(&str, &str)] = &[
     ),
     (
         "crates/gix_graph_pages/specs/GraphPages.antt",
-        "6c52804e16a414b2cf5b78896c6de157ddf9eb299b270476e2a35b1f210eb148",
+        "8fe84a7f0fb611c0596a40af3ed69ee98546d58020b20b89deaae1ca40d24176",
     ),
 ];
 

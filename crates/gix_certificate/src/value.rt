@@ -2,7 +2,7 @@
 ghost use Rattle.std.specs.Prelude.{◌≡◌, IfOk, string_bytes};
 ghost use Rattle.hex.specs.Hex.{encode_lower};
 ghost use Rattle.serde_json.specs.View.{view};
-ghost use Rattle.gix_certificate.specs.Written.{IsTextOf, array_of, certificate_data, optional_data, output_data, page_data, program_data, revision_data, text_data};
+ghost use Rattle.gix_certificate.specs.Written.{IsTextOf, IsLineOf, array_of, certificate_data, optional_data, output_data, page_data, program_data, revision_data, seal_data, text_data};
 
 use crate::digest::Digest;
 use crate::record::{Certificate, Lines, Meaning, Page, Program, Revision};
@@ -10,30 +10,50 @@ use serde_json::{Value, json};
 use std::alloc::{AllocError, Global};
 
 /// The version of the form.
-pub(crate) const VERSION: u64 = 1;
+pub(crate) const VERSION: u64 = 2;
 
 impl Certificate {
-    /// The certificate as a text: JSON in lines, with the members of each object by rising names, and a newline behind it.
+    /// The certificate as a text: JSON in lines, with the members of each object by rising names, and a newline behind it. The member
+    /// `sha256` is the digest of the same text with null in its place.
     pub fn text(&self, alloc: Global) -> Result<String, AllocError>
         ensures { IfOk result (λ text. IsTextOf self.now (string_bytes text)) }
     {
-        let mut text = certificate_value(alloc, self)?.to_string_pretty(alloc)?;
-        text.push_str("\n")?;
-        Ok(text)
+        let bare = text_with(alloc, self, None)?;
+        text_with(alloc, self, Some(Digest::of(bare.as_bytes())))
     }
 }
 
-fn certificate_value(alloc: Global, certificate: &Certificate) -> Result<Value, AllocError>
-    ensures { IfOk result (λ value. view value ≡ certificate_data certificate.now) }
+/// The text with this digest of itself, or with null in its place.
+fn text_with(
+    alloc: Global,
+    certificate: &Certificate,
+    seal: Option<Digest>,
+) -> Result<String, AllocError>
+    ensures { IfOk result (λ text. IsLineOf (certificate_data (seal_data seal) certificate.now) (string_bytes text)) }
+{
+    let mut text = certificate_value(alloc, certificate, seal)?.to_string_pretty(alloc)?;
+    text.push_str("\n")?;
+    Ok(text)
+}
+
+fn certificate_value(
+    alloc: Global,
+    certificate: &Certificate,
+    seal: Option<Digest>,
+) -> Result<Value, AllocError>
+    ensures { IfOk result (λ value. view value ≡ certificate_data (seal_data seal) certificate.now) }
 {
     // Each value is made where it is put in, so that none is held while another is made.
     json!(in alloc; {
         "certificate": VERSION,
+        "lines": words_value(alloc, certificate.lines.as_slice())?,
         "output": output_value(alloc, &certificate.output)?,
         "pages": pages_value(alloc, certificate.pages.as_slice())?,
         "program": program_value(alloc, &certificate.program)?,
+        "question": words_value(alloc, certificate.question.as_slice())?,
         "revisions": revisions_value(alloc, certificate.revisions.as_slice())?,
         "rows": certificate.rows.word(),
+        "sha256": seal_value(alloc, seal)?,
         "status": certificate.status,
         "words": words_value(alloc, certificate.words.as_slice())?
     })
@@ -45,6 +65,17 @@ fn output_value(alloc: Global, output: &Lines) -> Result<Value, AllocError>
     let sha256 = digits(alloc, output.sha256)?;
     let bytes = output.bytes;
     json!(in alloc; {"bytes": bytes, "sha256": sha256})
+}
+
+/// A digest, or null.
+fn seal_value(alloc: Global, seal: Option<Digest>) -> Result<Value, AllocError>
+    ensures { IfOk result (λ value. view value ≡ seal_data seal) }
+{
+    let Some(digest) = seal else {
+        return Ok(Value::Null);
+    };
+    let digits = digits(alloc, digest)?;
+    Value::try_from_str(alloc, digits.as_str())
 }
 
 /// A digest in hex digits.

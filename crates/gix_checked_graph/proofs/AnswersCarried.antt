@@ -10,7 +10,7 @@ use Rattle.gix_graph_pages.specs.GraphPages.{Layer, all_rows}
 use Rattle.gix_checked_graph.specs.Checked.{AreChecked, CheckedAnswers, HasAllOf}
 
 -- texts that don't differ are one
-same_list : (xs ys : List ℕ) → (xs ≢ ys → ⊥) → xs ≡ ys
+pub same_list : (xs ys : List ℕ) → (xs ≢ ys → ⊥) → xs ≡ ys
 same_list xs ys h = go (bytes_eq xs ys) (bytes_eq-Decides xs ys)
   where
     go : (b : Bool) → Decides b (xs ≡ ys) → xs ≡ ys
@@ -44,10 +44,10 @@ module _ (layers : List Layer) (checked objects read : Objects) (are : AreChecke
       back r some o (Some a) e at = e ∙ sym (stays objects read has_read r.id a e) ∙ at
 
 pub checked_answers : Carries → CheckedAnswers
-checked_answers carries layers checked objects pages words lines are had answers has_read has_checked =
-    carries answers.0 objects (all_rows layers) [] words (Some []) (Some lines) has_read.0 has_read.1
-    (λ r m. inl (text_there layers checked objects answers.0 are has_read has_checked r m))
-    (answers.2 layers are.generation had are.sound (agree layers checked objects answers.0 are has_read has_checked))
+checked_answers carries layers checked read objects pages words lines are had answers has_read has_checked =
+    carries read objects (all_rows layers) [] words (Some []) (Some lines) has_read.0 has_read.1
+    (λ r m. inl (text_there layers checked objects read are has_read has_checked r m))
+    (answers.1 layers are.generation had are.sound (agree layers checked objects read are has_read has_checked))
 
 -- ---- the object of the first if it has one, and else that of the second: these have both, unless two objects have one id
 

@@ -30,7 +30,7 @@ CheckedFiles = (files : List (List ℕ)) (passed : ℕ) → All AreBytes files �
 -- Lines that were written over pages of such files are right, without any row, of all objects that have those that the run read and those
 -- that the files were compared with.
 abbrev pub CheckedAnswers : Type 0
-CheckedAnswers = (layers : List Layer) (checked objects : Objects) (pages : List (List (Option (List ℕ)))) (words : List (List ℕ))
-    (lines : List ℕ) → AreChecked layers checked → HaveFiles pages layers → (answers : AnswersOver words pages lines)
-    → HasAllOf objects answers.0 → HasAllOf objects checked
+CheckedAnswers = (layers : List Layer) (checked read objects : Objects) (pages : List (List (Option (List ℕ)))) (words : List (List ℕ))
+    (lines : List ℕ) → AreChecked layers checked → HaveFiles pages layers → AnswersOver read words pages lines
+    → HasAllOf objects read → HasAllOf objects checked
     → InEach objects [] (λ parents time. Serves objects [] parents time (Some []) (Some lines) words)

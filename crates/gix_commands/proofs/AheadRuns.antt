@@ -23,7 +23,7 @@ module _ {Stored : ObjectId → Type 0} (objects : Objects) (rows : List GraphRo
   counted_whole old new (counted ahead behind f written) = λ i r. subst IsSome (sym (f.read agreeing i r).stored) refl
 
   -- where that is whole no commit is a fault
-  counts_well : {old : Option (List ℕ)} → AreWhole objects (one ∷ other ∷ []) → (answer : Result (Unit {0}) Fault) (new : Option (List ℕ)) → Serves Stored objects rows old (Ahead one other) answer new → EndsWell answer
+  pub counts_well : {old : Option (List ℕ)} → AreWhole objects (one ∷ other ∷ []) → (answer : Result (Unit {0}) Fault) (new : Option (List ℕ)) → Serves Stored objects rows old (Ahead one other) answer new → EndsWell answer
   counts_well whole answer new (not_counted e f) = absurd (no_fault_reached objects rows agreeing one (other ∷ []) whole e f)
   counts_well whole answer new s = tt
 

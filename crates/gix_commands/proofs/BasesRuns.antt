@@ -22,7 +22,7 @@ module _ (objects : Objects) (rows : List GraphRow) (agreeing : IsAgreeing objec
       → (bases : List ObjectId) × AreBases (parents_of objects) one others bases × AreWhole objects (one ∷ others) × Appends old new (lines_of_ids bases)
   joined_so old new some (joined bases found written) = (bases, found.bases_are agreeing, (λ i r. subst IsSome (sym (found.read agreeing some i r).stored) refl), written)
 
-  joins_well : {Stored : ObjectId → Type 0} → {old : Option (List ℕ)} → AreWhole objects (one ∷ others) → (answer : Result (Unit {0}) Fault) (new : Option (List ℕ)) → Serves Stored objects rows old (Bases one others) answer new → EndsWell answer
+  pub joins_well : {Stored : ObjectId → Type 0} → {old : Option (List ℕ)} → AreWhole objects (one ∷ others) → (answer : Result (Unit {0}) Fault) (new : Option (List ℕ)) → Serves Stored objects rows old (Bases one others) answer new → EndsWell answer
   joins_well whole answer new (not_joined e f) = absurd (no_fault_reached whole e f)
   joins_well whole answer new s = tt
 

@@ -57,7 +57,7 @@ module _ (tip : ObjectId) (ids : List ObjectId) where
     }
 
     -- where all that is reached is whole no commit is a fault
-    selects_well : {Stored : ObjectId → Type 0} → {old : Option (List ℕ)} → AreWhole objects (tip ∷ ids) → (answer : Result (Unit {0}) Fault) (new : Option (List ℕ)) → Serves Stored objects rows old (Contained tip ids) answer new → EndsWell answer
+    pub selects_well : {Stored : ObjectId → Type 0} → {old : Option (List ℕ)} → AreWhole objects (tip ∷ ids) → (answer : Result (Unit {0}) Fault) (new : Option (List ℕ)) → Serves Stored objects rows old (Contained tip ids) answer new → EndsWell answer
     selects_well whole answer new (not_selected e f) =
         absurd
         (contained_sound objects rows (tip ∷ []) ids e f

@@ -14,7 +14,7 @@ module _ (objects : Objects) (rows : List GraphRow) (agreeing : IsAgreeing objec
       → (those : List ObjectId) × AreContaining (parents_of objects) target tips those × AreWhole objects (target ∷ tips) × Appends old new (lines_of_ids those)
   reaching_so old new some (reaching those found written) = (those, found.exact agreeing, (λ i r. subst IsSome (sym (found.read agreeing some i r).stored) refl), written)
 
-  reaches_well : {Stored : ObjectId → Type 0} → {old : Option (List ℕ)} → AreWhole objects (target ∷ tips) → (answer : Result (Unit {0}) Fault) (new : Option (List ℕ)) → Serves Stored objects rows old (Containing target tips) answer new → EndsWell answer
+  pub reaches_well : {Stored : ObjectId → Type 0} → {old : Option (List ℕ)} → AreWhole objects (target ∷ tips) → (answer : Result (Unit {0}) Fault) (new : Option (List ℕ)) → Serves Stored objects rows old (Containing target tips) answer new → EndsWell answer
   reaches_well whole answer new (not_reaching e f) = absurd (no_fault_reached objects rows agreeing target tips whole e f)
   reaches_well whole answer new s = tt
 

@@ -1,6 +1,6 @@
 -- What a run of `files` writes, by the entries of trees.
 use Rattle.std.proofs.Common.{◌≡◌, ◌≢◌, ◌<◌, ℕ, List, [], ◌∷◌, length, None, arith, false, true, Option, Some, Result, Ok, Err, refl, sym, subst, ◌∙◌}
-use Rattle.gix_commands.proofs.Common.{ObjectId, Objects, Tracked, Tracks, fresh_recorder, Ending, Whole, Broken, Failed, IsUnfailed, LookUpFails, depth_answer, trees_of, LookUpFailed, only_reading, Runs, without_memory, no_command, not_read, bad_record, served}
+use Rattle.gix_commands.proofs.Common.{ObjectId, Objects, GraphRow, Tracked, Tracks, fresh_recorder, Ending, Whole, Broken, Failed, IsUnfailed, LookUpFails, depth_answer, trees_of, LookUpFailed, only_reading, Runs, without_memory, no_command, not_read, bad_record, served}
 use Rattle.gix_commands.proofs.Common.{sound_depth_succeeds, Fault, fault_of_find, fault_of_tree_walk, RecordsTree, EndsWell, IsOutside, stored, not_listed, unserved, never_faulty, request_of}
 use Rattle.gix_commands.proofs.Common.{EntryLines, Files}
 use Rattle.gix_object.specs.declared.find.existing_iter.Error.{Error as ExistingError}
@@ -89,7 +89,7 @@ module _ (objects : Objects) (shown : EntryLines) (tree : ObjectId) where
     outside (error.ObjectDecode e) recorder walk = absurd (no_other (error.ObjectDecode e) recorder walk (λ e. cc))
     outside (error.Cycle i) recorder walk = absurd (no_other (error.Cycle i) recorder walk (λ e. cc))
 
-    well : {Stored : ObjectId → Type 0} → (old : Option (List ℕ)) (answer : Result (Unit {0}) Fault) (new : Option (List ℕ)) → Serves Stored objects [] old (Files shown tree) answer new → EndsWell answer
+    pub well : {Stored : ObjectId → Type 0} {rows : List GraphRow} → (old : Option (List ℕ)) (answer : Result (Unit {0}) Fault) (new : Option (List ℕ)) → Serves Stored objects rows old (Files shown tree) answer new → EndsWell answer
     well old answer new (listed recorder walk names written) = tt
     well old answer new (not_listed recorder why walk) = outside why recorder walk
     well old answer new (misnamed {i = i} recorder walk first) = no_misnamed walk.visits i (have_names objects tree named walk.visits (unfolds recorder walk)) first

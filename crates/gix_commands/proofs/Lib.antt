@@ -37,11 +37,11 @@ mod TextNumbers
 mod OverGraphs
 mod OverStores
 mod TextLines
-mod FileNumbers
+pub mod FileNumbers
 mod FileChunks
 mod FileParents
 mod FileRows
-mod FileHeads
+pub mod FileHeads
 pub mod FileLayers
 pub mod FileOrder
 mod SameNumbers
@@ -72,8 +72,9 @@ pub mod ReadableTexts
 pub mod ReachedIsRead
 pub mod RowsAsTexts
 pub mod NamedOnes
-mod Promised
+pub mod Promised
 mod PromisedRuns
 mod ServedPromises
+mod StoredWell
 -- What a walk gave and which bases were found is all that the statement means by these.
 pub mod DrawnShown

@@ -1,13 +1,12 @@
 -- What a run over a store may answer.
-use Rattle.std.proofs.Common.{◌≡◌, ◌≢◌, ℕ, List, Option, Result, Ok, Err, sym, subst, ◌∙◌}
-use Rattle.gix_commands.proofs.Common.{Objects, GraphRow, Fault, fault_of_disagreement, never_faulty, Request, request_of}
+use Rattle.std.proofs.Common.{◌≡◌, ◌≢◌, ℕ, List, Option, Result, Err, sym, subst, ◌∙◌}
+use Rattle.gix_commands.proofs.Common.{Objects, GraphRow, Fault, fault_of_disagreement, never_faulty, Request}
 use Rattle.gix_graph_check.specs.Sound.{AreSound}
 use Rattle.gix_graph_check.specs.declared.Disagreement.{Disagreement}
 use Rattle.gix_graph_check.specs.declared.Disagreement.TheVariants as disagreement
 use Rattle.gix_graph_store.specs.StoredRows.{StoredDisagrees}
 use Rattle.gix_words.specs.declared.fault.Fault.TheVariants as fault
-use Rattle.gix_commands.specs.StoredRuns.{FailsToAgree, RunsStored, unsound, disagrees, no_memory, without_memory, no_command, not_agreed}
-use Rattle.gix_commands.proofs.MemoryFaults.{failed_so}
+use Rattle.gix_commands.specs.StoredRuns.{FailsToAgree, RunsStored, unsound, disagrees, no_memory, not_agreed}
 use Rattle.gix_commands.proofs.RunFacts.{err_same}
 
 -- what is stored isn't as the rows say
@@ -21,15 +20,9 @@ fails_known (unsound i u) = λ e. cc
 fails_known (disagrees i s d) = λ e. cc
 fails_known no_memory = λ e. cc
 
-module _ (words : List (List ℕ)) (objects : Objects) (rows : List GraphRow) (old : Option (List ℕ)) where
-  -- the words were no command
-  pub stored_words : (result : Result (Unit {0}) Fault) (e : Fault) → result ≡ Err e → (e ≢ fault.Memory → request_of words ≡ Err e) → RunsStored words objects rows old result old
-  stored_words result e same h = failed_so (λ r. RunsStored words objects rows old r old) without_memory result e same (λ other. no_command (h other))
-
-  module _ (request : Request) (t : request_of words ≡ Ok request) where
-    -- the rows can't be used
-    pub stored_unagreed : (result : Result (Unit {0}) Fault) (e : Fault) → result ≡ Err e → FailsToAgree rows objects e → RunsStored words objects rows old result old
-    stored_unagreed result e same h = subst (λ (r : Result (Unit {0}) Fault). RunsStored words objects rows old r old) (sym same) (not_agreed request t h)
+-- the rows can't be used
+pub stored_unagreed : (request : Request) (objects : Objects) (rows : List GraphRow) (old : Option (List ℕ)) (result : Result (Unit {0}) Fault) (e : Fault) → result ≡ Err e → FailsToAgree rows objects e → RunsStored request objects rows old result old
+stored_unagreed request objects rows old result e same h = subst (λ (r : Result (Unit {0}) Fault). RunsStored request objects rows old r old) (sym same) (not_agreed h)
 
 pub unagreed_sound : {rows : List GraphRow} {objects : Objects} (result : Result (Unit {0}) Fault) (e : Fault) → result ≡ Err e → FailsToAgree rows objects e → result ≢ Err fault.Internal
 unagreed_sound result e same h = λ internal. fails_known h (err_same (sym same ∙ internal))

@@ -1,6 +1,6 @@
 -- What is read of objects, by what they are.
 use Rattle.std.proofs.Common.{is_lt, ◌≡◌, ℕ, Bool, true, false, cond, ◌&&◌, T, List, [], ◌∷◌, map, Option, Some, None, Ok, Contains, option_map, IsSome, refl, sym, ap, ap₂, subst, ◌∙◌}
-use Rattle.gix_commands.proofs.Common.{get, ObjectId, id_cmp, is_same, kind_of, same_is, Object, Objects, GraphRow, IsAgreeing, RowAgrees, commit_at, commit_of_kind, commit_of_object, parents_in, read_commit, Commit, scan_is, AreWhole}
+use Rattle.gix_commands.proofs.Common.{get, ObjectId, id_cmp, is_same, kind_of, same_is, Object, Objects, GraphRow, IsAgreeing, RowAgrees, commit_at, commit_of_kind, commit_of_object, parents_in, parents_of, read_commit, Commit, scan_is, AreWhole}
 use Rattle.gix_commands.proofs.Common.{entries_at, items_of_kind, items_of_object, LookUpFails, trees_of, never_faulty, Items, Visit}
 use Rattle.std.specs.FinMap as map_of
 use Rattle.std.specs.List.{AllByRecursion}
@@ -137,6 +137,9 @@ module _ (all_lines : Bool) (objects : Objects) where
 
   pub readable_whole : (ids : List ObjectId) → AreWhole objects ids → AreWhole (readable all_lines objects) ids
   readable_whole ids = subst (λ (f : ObjectId → Option Commit). (i : ObjectId) → Reaches (λ j. parents_in (f j)) ids i → IsSome (f i)) (λ k i. sym (commit_same i) k)
+
+  pub reaches_back : (ids : List ObjectId) (i : ObjectId) → Reaches (parents_of (readable all_lines objects)) ids i → Reaches (parents_of objects) ids i
+  reaches_back ids i = subst (λ (f : ObjectId → Option Commit). Reaches (λ j. parents_in (f j)) ids i) (λ k j. commit_same j k)
 
   fails_back : (i : ObjectId) (why : ExistingError) → LookUpFails (readable all_lines objects) (never_faulty (readable all_lines objects)) i why → LookUpFails objects (never_faulty objects) i why
   fails_back i existing.Store f = f

@@ -88,12 +88,11 @@ no_faults rows sound row c = no_fault_in rows row.generation row.parents (All-co
 abbrev pub AreStored : Objects → List GraphRow → page.Objects → List Row → Type 0
 AreStored stored graph objects rows = (objects ≡ page_objects stored) × AreRows graph rows
 
-pub stored_promises : {words : List (List ℕ)} {objects : Objects} {rows : List GraphRow} {old new : Option (List ℕ)} {answer : Result (Unit {0}) Fault} → AreGraphRows rows → RunsStored words objects rows old answer new
+pub stored_promises : (words : List (List ℕ)) {request : Request} {objects : Objects} {rows : List GraphRow} {old new : Option (List ℕ)} {answer : Result (Unit {0}) Fault} → request_of words ≡ Ok request → AreGraphRows rows → RunsStored request objects rows old answer new
     → Promises fault.Write words (AreStored objects rows) old answer new
-stored_promises graph store.without_memory = inl refl
-stored_promises graph (store.no_command t) = inl refl
-stored_promises graph (store.not_agreed request t f) = inl refl
-stored_promises {words} {objects} {rows} {old} {new} {answer} graph (store.served request t sound agree s) =
+stored_promises words t graph store.without_memory = inl refl
+stored_promises words t graph (store.not_agreed f) = inl refl
+stored_promises words {request} {objects} {rows} {old} {new} {answer} t graph (store.served sound agree s) =
     served_sorted words request t rows objects graph sound agree (AreStored objects rows) old answer new s (refl, (no_faults rows sound, refl))
 
 -- rows that were read from files, as these have them
@@ -105,12 +104,11 @@ served_from words objects AreGiven {layers} {rows} {old} {new} {answer} from req
     from.chain.rows from.chain.accepted.2 from.chain.accepted.3 from.chain.same (given (page_rows from.chain.rows) (chain_layers layers rows from.bytes from.chain sound))
 
 -- what is stored, and the rows of files
-pub stored_from : {words layers : List (List ℕ)} {objects : Objects} {rows : List GraphRow} {old new : Option (List ℕ)} {answer : Result (Unit {0}) Fault} → AreReadFrom layers rows → RunsStored words objects rows old answer new
+pub stored_from : (words layers : List (List ℕ)) {request : Request} {objects : Objects} {rows : List GraphRow} {old new : Option (List ℕ)} {answer : Result (Unit {0}) Fault} → request_of words ≡ Ok request → AreReadFrom layers rows → RunsStored request objects rows old answer new
     → Promises fault.Write words (λ given those. (given ≡ page_objects objects) × AreLayers [] layers [] those) old answer new
-stored_from from store.without_memory = inl refl
-stored_from from (store.no_command t) = inl refl
-stored_from from (store.not_agreed request t f) = inl refl
-stored_from {words} {layers} {objects} from (store.served request t sound agree s) =
+stored_from words layers t from store.without_memory = inl refl
+stored_from words layers t from (store.not_agreed f) = inl refl
+stored_from words layers {request} {objects} t from (store.served sound agree s) =
     served_from words objects (λ given those. (given ≡ page_objects objects) × AreLayers [] layers [] those) from request t sound agree s (λ those are. (refl, are))
 
 -- the objects of records, and the rows of files

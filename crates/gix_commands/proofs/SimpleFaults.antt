@@ -88,23 +88,23 @@ module _ (objects : Objects) (tips hiders : List ObjectId) (whole : AreWhole obj
   -- what follows of an answer
   abbrev IsGood : Option (Result Info Error) → Walk → Type 0
   IsGood None new = Unit {0}
-  IsGood (Some (Ok info)) new = Stands new × ((i : ObjectId) → Contains info.parent_ids.items i → IsMet i)
+  IsGood (Some (Ok info)) new = Stands new × ((i : ObjectId) → Contains info.parent_ids.items i → IsMet i) × IsMet info.id
   IsGood (Some (Err e)) new = fault_of_walk e ≢ fault.Internal → IsOutside (fault_of_walk e)
 
   texted : (w : Walk) (text : List ℕ) (i : ObjectId) → Stands w → Stands (record w { text = text; current = Some i })
   texted w text i s = record { store = s.store; rows = s.rows; behind = s.behind; met = s.met }
 
   concluded : {i : ObjectId} {ps : List ObjectId} {generation : Option ℕ} {time : Option ℤ} {text : List ℕ} {read : Option DecodeError} {w : Walk} {how : Treated} {answer : Result Info Error} {new : Walk}
-      → Concludes objects_of never_faulty accepts_all i ps generation time text read w how answer new → read ≡ None → ((j : ObjectId) → Contains ps j → IsMet j) → Stands w → IsGood (Some answer) new
-  concluded {i} {text = text} {w = w} (given f is) e m s = (texted w text i s, λ j c. m j (subst (λ xs. Contains xs j) is.same_parents c))
-  concluded (broken f) e m s = let n : None ≡ Some _ = sym e ∙ f in cc
-  concluded store_fails e m s = λ ne. absurd (ne refl)
-  concluded no_memory e m s = λ ne. tt
+      → Concludes objects_of never_faulty accepts_all i ps generation time text read w how answer new → read ≡ None → ((j : ObjectId) → Contains ps j → IsMet j) → Stands w → IsMet i → IsGood (Some answer) new
+  concluded {i} {text = text} {w = w} (given f is) e m s own = (texted w text i s, (λ j c. m j (subst (λ xs. Contains xs j) is.same_parents c)), subst IsMet (sym is.same_id) own)
+  concluded (broken f) e m s own = let n : None ≡ Some _ = sym e ∙ f in cc
+  concluded store_fails e m s own = λ ne. absurd (ne refl)
+  concluded no_memory e m s own = λ ne. tt
 
   taken : {w : Walk} {p : Pending} {answer : Result Info Error} {new : Walk} → Takes objects_of never_faulty accepts_all w p answer new → Stands w → IsMet p.id → IsGood (Some answer) new
   taken {w} {p} (by_row {row = row} {ids = ids} r e t c) s m =
       let met : (i : ObjectId) → Contains (by_mode w.parents ids) i → IsMet i = λ i n. step m (subst (λ xs. Contains xs i) (row_parents objects w.rows s.rows p.id row ids r e) (walked_within w.parents ids i n)) in
-      concluded c refl met (all_treated t s met)
+      concluded c refl met (all_treated t s met) m
   taken {w} {p} (by_store {bytes = bytes} u e t c) s m =
       let reads : ReadsWhole objects p.id = met_whole p.id m in
       let text : read_commit (kind_of p.id) bytes ≡ Some reads.commit = sym (ap (commit_of_object p.id) e) ∙ ap (λ o. commit_at o p.id) s.store ∙ reads.stored in
@@ -112,7 +112,7 @@ module _ (objects : Objects) (tips hiders : List ObjectId) (whole : AreWhole obj
       let named : reads.commit.parents ≡ parents_of objects p.id = sym (ap parents_in reads.stored) in
       let left : Stands (unrowed w p.id) = record { store = s.store; rows = left_agree w.rows _ s.rows (kept_either w.rows (row_of w.rows p.id)); behind = s.behind; met = s.met } in
       let met : (i : ObjectId) → Contains (scanned w.parents (commit_items (kind_of p.id) bytes)).0 i → IsMet i = λ i n. step m (subst (λ xs. Contains xs i) named (walked_within w.parents reads.commit.parents i (subst (λ xs. Contains xs i) (ap (λ x. x.0) scan) n))) in
-      concluded c (ap (λ x. x.1) scan) met (all_treated t left met)
+      concluded c (ap (λ x. x.1) scan) met (all_treated t left met) m
   taken {w} {p} (not_found {e = e} u f) s m = absurd (no_find p.id e (met_whole p.id m) (subst (λ o. IsExistingFault o (never_faulty o) p.id object.Commit e) s.store f))
   taken (no_memory r) s m = λ ne. tt
 
@@ -174,11 +174,11 @@ module _ (objects : Objects) (tips hiders : List ObjectId) (whole : AreWhole obj
   none_lost rows agreeing ms by walk starts infos at h info c = all_there objects rows info.parent_ids.items (λ i n. met_whole i (named_met infos walk at h (begins rows agreeing ms by walk starts) info c i n))
 
   -- a walk that was started so
-  pub drawn_well : {Has : ObjectId → Type 0} → ((i : ObjectId) → Has i) → (rows : List GraphRow) → IsAgreeing objects rows → (ms : Parents) (by : Sorting) (walk : Walk) → StartsFrom objects rows ms by tips hiders walk → (infos : List Info) (answer : Result (Unit {0}) Fault) → Ends Answers IsWalkFault Has walk infos answer → EndsWell answer
+  pub drawn_well : {Has : ObjectId → Type 0} → ((i : ObjectId) → IsMet i → Has i) → (rows : List GraphRow) → IsAgreeing objects rows → (ms : Parents) (by : Sorting) (walk : Walk) → StartsFrom objects rows ms by tips hiders walk → (infos : List Info) (answer : Result (Unit {0}) Fault) → Ends Answers IsWalkFault Has walk infos answer → EndsWell answer
   drawn_well each rows agreeing ms by walk starts infos answer (finished new h) = tt
   drawn_well each rows agreeing ms by walk starts infos answer (failed e f new h is) = subst IsOutside (sym is) (called h.2 (drawn infos walk h.0 h.1 (begins rows agreeing ms by walk starts)) (next_sound h.2))
   drawn_well each rows agreeing ms by walk starts infos answer (cut_short info new h) = tt
-  drawn_well each rows agreeing ms by walk starts infos answer (unstored info new h lacks) = absurd (lacks (each info.id))
+  drawn_well each rows agreeing ms by walk starts infos answer (unstored info new h lacks) = absurd (lacks (each info.id (called h.2 (drawn infos walk h.0 h.1 (begins rows agreeing ms by walk starts))).2))
 
   pub started_well : (by : Sorting) (e : Error) → FailsAtStart objects by tips e → IsOutside (fault_of_walk e)
   started_well by e f = go e f.fails.fault
@@ -198,20 +198,20 @@ module _ (objects : Objects) (tips hiders : List ObjectId) (whole : AreWhole obj
       go (error.HiddenGraph x) h = absurd h
       go error.Memory h = tt
 
-module _ (Stored : ObjectId → Type 0) (objects : Objects) (rows : List GraphRow) (each : (i : ObjectId) → Stored i) (agreeing : IsAgreeing objects rows) (old : Option (List ℕ)) where
-  pub well : (ms : Parents) (by : Sorting) (shown : Shown) (tips hiders : List ObjectId) → AreWhole objects (tips ++ hiders) → (answer : Result (Unit {0}) Fault) (new : Option (List ℕ)) → Serves Stored objects rows old (Commits (Simple ms by) shown tips hiders) answer new → EndsWell answer
-  well ms by shown tips hiders whole answer new (walked walk infos starts ends have parents written) = go shown.limit answer ends
+module _ (Stored : ObjectId → Type 0) (objects : Objects) (rows : List GraphRow) (agreeing : IsAgreeing objects rows) (old : Option (List ℕ)) where
+  pub well : (ms : Parents) (by : Sorting) (shown : Shown) (tips hiders : List ObjectId) → AreWhole objects (tips ++ hiders) → ((i : ObjectId) → Reaches (parents_of objects) tips i → HasText Stored shown i) → (answer : Result (Unit {0}) Fault) (new : Option (List ℕ)) → Serves Stored objects rows old (Commits (Simple ms by) shown tips hiders) answer new → EndsWell answer
+  well ms by shown tips hiders whole texts answer new (walked walk infos starts ends have parents written) = go shown.limit answer ends
     where
       go : (limit : Option ℕ) (answer : Result (Unit {0}) Fault) → EndsBy Answers IsWalkFault (HasText Stored shown) (kept_in objects shown) limit walk infos answer → EndsWell answer
-      go None answer ends = drawn_well objects tips hiders whole (λ i e. each i) rows agreeing ms by walk starts infos answer ends
+      go None answer ends = drawn_well objects tips hiders whole texts rows agreeing ms by walk starts infos answer ends
       go (Some n) answer (enough at h e) = tt
-      go (Some n) answer (before ends less) = drawn_well objects tips hiders whole (λ i e. each i) rows agreeing ms by walk starts infos answer ends
-  well ms by shown tips hiders whole answer new (run.lost walk at infos {why = why} other starts h less l have written) =
+      go (Some n) answer (before ends less) = drawn_well objects tips hiders whole texts rows agreeing ms by walk starts infos answer ends
+  well ms by shown tips hiders whole texts answer new (run.lost walk at infos {why = why} other starts h less l have written) =
       let last : Contains infos l.last = subst (λ xs. Contains xs l.last) (sym l.place) (Contains-append_right l.before (l.last ∷ []) l.last (Contains-here l.last [])) in
       failed_so EndsWell tt (Err why) why refl (λ not_memory. let no : None ≡ Some why = sym (none_lost objects tips hiders whole rows agreeing ms by walk starts infos at h l.last last) ∙ l.lacks not_memory in cc)
-  well ms by shown tips hiders whole answer new (not_walked e f) = started_well objects tips hiders whole by e f
-  well ms by shown tips hiders whole answer new s = tt
+  well ms by shown tips hiders whole texts answer new (not_walked e f) = started_well objects tips hiders whole by e f
+  well ms by shown tips hiders whole texts answer new s = tt
 
 pub simple_succeeds : SimpleSucceeds
 simple_succeeds words input records ms by shown tips hiders answer old new asked are whole =
-    ends_whole words input records (Commits (Simple ms by) shown tips hiders) (tips ++ hiders) answer old new asked are whole (λ Stored objects rows each agreeing all. well Stored objects rows each agreeing old ms by shown tips hiders all)
+    ends_whole words input records (Commits (Simple ms by) shown tips hiders) (tips ++ hiders) answer old new asked are whole (λ Stored objects rows each agreeing all. well Stored objects rows agreeing old ms by shown tips hiders all (λ i r e. each i))

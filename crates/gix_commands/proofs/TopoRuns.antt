@@ -1,6 +1,6 @@
 -- What a run of `topo` or `date` writes, by what commits reach.
 use Rattle.std.proofs.Common.{◌≡◌, ℕ, List, [], ◌∷◌, ◌++◌, map, filter, true, Option, Some, None, Result, Ok, Err, Contains, IsSome, refl, sym, ap, subst, ⊎_elim, ◌∙◌}
-use Rattle.gix_commands.proofs.Common.{kept_in, Shown, EndsBy, Yields, Contains-append_left, Contains-append_right, ObjectId, IsExistingFault, id_cmp, Objects, GraphRow, Info, Parents, Commit, commit_at}
+use Rattle.gix_commands.proofs.Common.{kept_in, Shown, EndsBy, Yields, YieldsThen, Contains-append_left, Contains-append_right, ObjectId, IsExistingFault, id_cmp, Objects, GraphRow, Info, Parents, Commit, commit_at}
 use Rattle.gix_commands.proofs.Common.{parents_in, parents_of, text_next, step, walked_within, no_member, Contains-cons_cases, TopoPlan, IsCommitRead, IsReached, IsFault, IsFirstReady, IsNextReady, IsAgreeing, Fault, Topo}
 use Rattle.gix_commands.proofs.Common.{fault_of_topo_walk, AreWhole, TopoSucceeds, EndsWell, IsOutside, walked_down, not_built, IsBuiltFrom}
 use Rattle.gix_commands.proofs.Common.{plan_from, Ends, finished, cut_short, enough, before, objects_of, never_faulty, accepts_all, Commits, whole_from, reach_more}
@@ -100,25 +100,29 @@ module _ (objects : Objects) (rows : List GraphRow) (agree : IsAgreeing objects 
   outside Q error.Memory h = tt
 
   module _ (walk : Walk) (built : IsBuiltFrom objects rows m by tips ends (Ok walk)) where
-    drawn_outside : {Has : ObjectId → Type 0} → ((i : ObjectId) → Has i) → (infos : List Info) (answer : Result (Unit {0}) Fault) → Ends Answers IsWalkFault Has walk infos answer → EndsWell answer
+    drawn_outside : {Has : ObjectId → Type 0} → ((infos : List Info) (info : Info) (new : Walk) → YieldsThen Answers walk (all_given infos) (Some (Ok info)) new → Has info.id) → (infos : List Info) (answer : Result (Unit {0}) Fault) → Ends Answers IsWalkFault Has walk infos answer → EndsWell answer
     drawn_outside each infos answer (finished new h) = tt
     drawn_outside each infos answer (fell e f new h is) =
         let says : (taken : set.FinSet id_cmp) × (c : ObjectId) × IsFault objects_of never_faulty (plan_from objects rows m by tips ends) (IsNextReady objects_of (plan_from objects rows m by tips ends) taken c) e =
         subst (λ plan. (taken : set.FinSet id_cmp) × (c : ObjectId) × IsFault objects_of never_faulty plan (IsNextReady objects_of plan taken c) e) (yields_plan walk h.0 (all_given infos) h.1 ∙ built.0.plan) (next_says h.2) in
         subst IsOutside (sym is) (outside (IsNextReady objects_of (plan_from objects rows m by tips ends) says.0 says.1) e says.2)
     drawn_outside each infos answer (cut_short info new h) = tt
-    drawn_outside each infos answer (unstored info new h lacks) = absurd (lacks (each info.id))
+    drawn_outside each infos answer (unstored info new h lacks) = absurd (lacks (each infos info new h))
 
-  module _ (Stored : ObjectId → Type 0) (each : (i : ObjectId) → Stored i) (old : Option (List ℕ)) where
-    pub well : (shown : Shown) (answer : Result (Unit {0}) Fault) (new : Option (List ℕ)) → Serves Stored objects rows old (Commits (Topo m by) shown tips ends) answer new → EndsWell answer
-    well shown answer new (walked_down walk infos built drawn have written) = go shown.limit answer drawn
+  module _ (Stored : ObjectId → Type 0) (old : Option (List ℕ)) where
+    -- where each commit that is given has a text, if there is a format
+    abbrev pub GiveTexts : Shown → Type 0
+    GiveTexts shown = (walk : Walk) → IsBuiltFrom objects rows m by tips ends (Ok walk) → (infos : List Info) (info : Info) (new : Walk) → YieldsThen Answers walk (all_given infos) (Some (Ok info)) new → HasText Stored shown info.id
+
+    pub well : (shown : Shown) → GiveTexts shown → (answer : Result (Unit {0}) Fault) (new : Option (List ℕ)) → Serves Stored objects rows old (Commits (Topo m by) shown tips ends) answer new → EndsWell answer
+    well shown texts answer new (walked_down walk infos built drawn have written) = go shown.limit answer drawn
       where
         go : (limit : Option ℕ) (answer : Result (Unit {0}) Fault) → EndsBy Answers IsWalkFault (HasText Stored shown) (kept_in objects shown) limit walk infos answer → EndsWell answer
-        go None answer drawn = drawn_outside walk built (λ i e. each i) infos answer drawn
+        go None answer drawn = drawn_outside walk built (texts walk built) infos answer drawn
         go (Some n) answer (enough at h e) = tt
-        go (Some n) answer (before drawn less) = drawn_outside walk built (λ i e. each i) infos answer drawn
-    well shown answer new (not_built e h) = outside (IsFirstReady objects_of (plan_from objects rows m by tips ends)) e h.1
-    well shown answer new s = tt
+        go (Some n) answer (before drawn less) = drawn_outside walk built (texts walk built) infos answer drawn
+    well shown texts answer new (not_built e h) = outside (IsFirstReady objects_of (plan_from objects rows m by tips ends)) e h.1
+    well shown texts answer new s = tt
 
 pub named_whole : (objects : Objects) (c i : ObjectId) → Contains (parents_of objects c) i → IsSome (commit_at objects c)
 named_whole objects c i n = go (commit_at objects c) n
@@ -134,4 +138,4 @@ module _ (objects : Objects) (m : Parents) (by : Sorting) (tips ends : List Obje
 
 pub topo_succeeds : TopoSucceeds
 topo_succeeds words input records m by shown tips ends answer old new asked are whole =
-    ends_whole words input records (Commits (Topo m by) shown tips ends) (tips ++ ends) answer old new asked are whole (λ Stored objects rows each agreeing all. well objects rows agreeing m by tips ends all Stored each old shown)
+    ends_whole words input records (Commits (Topo m by) shown tips ends) (tips ++ ends) answer old new asked are whole (λ Stored objects rows each agreeing all. well objects rows agreeing m by tips ends all Stored old shown (λ walk built infos info new h e. each info.id))

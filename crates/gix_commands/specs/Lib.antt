@@ -6,9 +6,11 @@ pub mod Opening
 pub mod Files
 pub mod Ahead
 pub mod Readable
+pub mod PageObjects
 pub mod Pages
 pub mod Run
 pub mod StoredRuns
 pub mod Histories
 pub mod Listings
+pub mod Answerable
 pub mod Output

@@ -1,29 +1,19 @@
--- The objects of a store and the rows of a commit-graph, as the page of what a run promises has them.
+-- The rows of a commit-graph, as the page of what a run promises has them, and what a command reads of objects.
 use Rattle.std.specs.Prelude.{◌≡◌, ◌≢◌, ℕ, List, [], map, Contains, Some, None, codes}
-use Rattle.std.specs.FinMap.{get}
-use Rattle.std.specs.Option.{option_map}
 use Rattle.gix_commitgraph.specs.declared.ParentPlace.TheVariants.{Fault}
 use Rattle.gix_commitgraph.specs.Rows.{GraphRow}
 use Rattle.gix_graph_check.specs.HeadsReach.{ids_of_places}
 use Rattle.gix_hash.specs.Id.{kind_of}
 use Rattle.gix_hash.specs.declared.ObjectId.{ObjectId}
 use Rattle.gix_object.specs.CommitItems.{commit_items}
-use Rattle.gix_object.specs.Object.{Object, Objects}
-use Rattle.gix_records.specs.Records.{kind_word}
 use Rattle.gix_revwalk.specs.Texts.{scanned}
 use Rattle.gix_revwalk.specs.declared.Parents.TheVariants as mode
 use Rattle.gix_simple.specs.declared.Sorting.{Sorting}
 use Rattle.gix_statement.specs.WholeStatement as page
+pub use Rattle.gix_commands.specs.PageObjects.{as_page, page_objects}
 use Rattle.gix_words.specs.Words.{Commits, Request}
 use Rattle.gix_words.specs.declared.words.Order.TheVariants.{Simple}
 use Rattle.gix_words.specs.declared.words.Shown.{Shown}
-
--- an object, with the word of its kind
-abbrev pub as_page : Object → page.Object
-as_page o = record { kind = kind_word o.kind; bytes = o.bytes }
-
-abbrev pub page_objects : Objects → page.Objects
-page_objects objects i = option_map as_page (get objects i)
 
 -- a row of these, with the ids of the rows at its places
 abbrev pub page_row : List GraphRow → GraphRow → page.Row

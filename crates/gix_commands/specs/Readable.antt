@@ -9,9 +9,9 @@ use Rattle.gix_object.specs.declared.Kind.{Kind}
 use Rattle.gix_object.specs.declared.Kind.TheVariants as kind
 use Rattle.gix_object.specs.CommitItems.{commit_items}
 use Rattle.gix_object.specs.Object.{Object, Objects}
-use Rattle.gix_revwalk.specs.declared.Parents.{Parents}
 use Rattle.gix_revwalk.specs.declared.Parents.TheVariants as mode
 use Rattle.gix_revwalk.specs.Texts.{scanned}
+pub use Rattle.gix_words.specs.Printed.{is_first}
 use Rattle.gix_words.specs.Words.{Request, Commits, Files, Ahead, Contained, Containing, Bases}
 use Rattle.gix_words.specs.declared.words.Order.TheVariants.{Simple, Topo}
 
@@ -43,10 +43,6 @@ readable_object all_lines i o = record { kind = o.kind; bytes = readable_bytes a
 -- the same objects, but for the bytes of commits that aren't a text
 unfoldable pub readable : (all_lines : Bool) → Objects → Objects
 readable all_lines objects = from_sorted (map (λ e. (e.0, readable_object all_lines e.0 e.1)) (entries objects))
-
-abbrev pub is_first : Parents → Bool
-is_first mode.All = false
-is_first mode.First = true
 
 -- Whether a command asks for all lines. By first parents alone a walk reads no line behind that of the first parent, so this is tested.
 abbrev pub reads_all_lines : Request → Bool

@@ -1,5 +1,5 @@
 -- What a run over a store may answer and write.
-use Rattle.std.specs.Prelude.{◌≡◌, ℕ, List, Option, Result, Ok, Err}
+use Rattle.std.specs.Prelude.{ℕ, List, Option, Result, Err}
 use Rattle.gix_hash.specs.declared.ObjectId.{ObjectId}
 use Rattle.gix_object.specs.Object.{Objects}
 use Rattle.gix_commitgraph.specs.Rows.{GraphRow}
@@ -9,7 +9,7 @@ use Rattle.gix_graph_store.specs.Laws.{StoredAgree}
 use Rattle.gix_graph_store.specs.StoredRows.{StoredDisagrees}
 use Rattle.gix_words.specs.declared.fault.Fault.{Fault}
 use Rattle.gix_words.specs.declared.fault.Fault.TheVariants as fault
-use Rattle.gix_words.specs.Words.{Request, request_of}
+use Rattle.gix_words.specs.Words.{Request}
 use Rattle.gix_commands.specs.Run.{ServesOver}
 use Rattle.gix_commands.specs.Walked.{never_faulty}
 
@@ -19,13 +19,11 @@ pub data FailsToAgree (rows : List GraphRow) (objects : Objects) : Fault → Typ
   disagrees : (i : ObjectId) → AreSound rows → StoredDisagrees objects (never_faulty objects) rows (Row i) → FailsToAgree rows objects (fault.Disagrees i)
   no_memory : FailsToAgree rows objects fault.Memory
 
--- Over these words, these objects and rows, and a writer that has the bytes `old`: which answers a run may give, and which bytes the writer
--- then has. Walks have the rows, and where nothing is stored at the id of a row there is the commit that the row says.
-pub data RunsStored (words : List (List ℕ)) (objects : Objects) (rows : List GraphRow) (old : Option (List ℕ)) : Result (Unit {0}) Fault → Option (List ℕ) → Type 0 where
+-- Over what is asked for, these objects and rows, and a writer that has the bytes `old`: which answers a run may give, and which bytes the
+-- writer then has. Walks have the rows, and where nothing is stored at the id of a row there is the commit that the row says.
+pub data RunsStored (request : Request) (objects : Objects) (rows : List GraphRow) (old : Option (List ℕ)) : Result (Unit {0}) Fault → Option (List ℕ) → Type 0 where
   -- memory ran out before a walk was begun
-  without_memory : RunsStored words objects rows old (Err fault.Memory) old
-  no_command : {e : Fault} → request_of words ≡ Err e → RunsStored words objects rows old (Err e) old
-  not_agreed : (request : Request) {e : Fault} → request_of words ≡ Ok request → FailsToAgree rows objects e → RunsStored words objects rows old (Err e) old
-  served : (request : Request) {answer : Result (Unit {0}) Fault} {new : Option (List ℕ)} → request_of words ≡ Ok request → AreSound rows
-      → StoredAgree rows objects → ServesOver objects rows old request answer new
-      → RunsStored words objects rows old answer new
+  without_memory : RunsStored request objects rows old (Err fault.Memory) old
+  not_agreed : {e : Fault} → FailsToAgree rows objects e → RunsStored request objects rows old (Err e) old
+  served : {answer : Result (Unit {0}) Fault} {new : Option (List ℕ)} → AreSound rows → StoredAgree rows objects
+      → ServesOver objects rows old request answer new → RunsStored request objects rows old answer new

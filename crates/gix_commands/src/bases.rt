@@ -23,15 +23,15 @@ use std::io::Write;
 pub fn write_bases<W: Write>(
     alloc: Global,
     one: ObjectId,
-    others: Vec<ObjectId>,
+    others: &[ObjectId],
     store: &MemoryStore<'_>,
     graph: Option<&Graph>,
     writer: &mut W,
 ) -> Result<(), Fault>
-    ensures { ServesOver store.now (rows_in graph.entry) (W.contents writer.old) (Bases one others.items) result (W.contents writer.new) }
+    ensures { ServesOver store.now (rows_in graph.entry) (W.contents writer.old) (Bases one others.now) result (W.contents writer.new) }
 {
     let objects = Lent::over(store, graph, Parents::All);
-    let those = merge_bases(alloc, one, others.as_slice(), &objects, graph)?;
+    let those = merge_bases(alloc, one, others, &objects, graph)?;
     let mut lines = lines_of(alloc, those.as_slice())?;
     write_out(&mut lines, writer)
 }

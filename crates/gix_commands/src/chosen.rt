@@ -1,7 +1,7 @@
 //! Which of the commits that a walk gives are written.
 ghost use Rattle.std.specs.Prelude.{◌≡◌, ◌≢◌, ◌⊎◌, ◌++◌, ◌∷◌, [], ℕ, ℤ, true, None, Some, IfOk, IfErr, MatchBool, OnOk, pos};
 ghost use Rattle.gix_commands.specs.Chosen.{HasTextIn, Passes, IsHeaderOf, commit_with, fresh_choosing, is_kept, keeps, line_in, page_line, seconds_or_zero};
-ghost use Rattle.gix_commands.specs.Pages.{page_objects};
+ghost use Rattle.gix_commands.specs.PageObjects.{page_objects};
 ghost use Rattle.gix_statement.specs.WholeStatement as page;
 ghost use Rattle.gix_statement.specs.WholeStatement.{commit_line, text_in};
 ghost use Rattle.gix_revwalk.specs.Commits.{time_of};

@@ -18,7 +18,7 @@ use gix_revwalk::{Parents, Unfiltered};
 use gix_simple::{Simple, Sorting};
 use gix_topo::{Builder, Topo};
 use gix_words::Fault;
-use std::alloc::Global;
+use std::alloc::{AllocError, Global};
 use std::marker::Model;
 
 /// A store that several walks read, one after another, and that has a commit for each row of a commit-graph beside its objects, if there
@@ -81,6 +81,21 @@ pub struct Ends {
     pub tips: Vec<ObjectId>,
     /// What these reach isn't given.
     pub hidden: Vec<ObjectId>,
+}
+
+impl Ends {
+    /// A copy of these ids.
+    ///
+    /// # Errors
+    /// `AllocError` when out of memory.
+    pub fn of(alloc: Global, tips: &[ObjectId], hidden: &[ObjectId]) -> Result<Ends, AllocError>
+        ensures { IfOk result (λ ends. (ends.tips.items ≡ tips.now) × (ends.hidden.items ≡ hidden.now)) }
+    {
+        Ok(Ends {
+            tips: Vec::from_slice(alloc, tips)?,
+            hidden: Vec::from_slice(alloc, hidden)?,
+        })
+    }
 }
 
 /// A walk in this order between these ends, through these parents, over a store and rows.

@@ -23,16 +23,16 @@ use std::io::Write;
 pub fn write_containing<W: Write>(
     alloc: Global,
     target: ObjectId,
-    tips: Vec<ObjectId>,
+    tips: &[ObjectId],
     store: &MemoryStore<'_>,
     graph: Option<&Graph>,
     writer: &mut W,
 ) -> Result<(), Fault>
     ensures { ServesOver store.now (rows_in graph.entry) (W.contents writer.old)
-        (Containing target tips.items) result (W.contents writer.new) }
+        (Containing target tips.now) result (W.contents writer.new) }
 {
     let objects = Lent::over(store, graph, Parents::All);
-    let those = containing(alloc, target, tips.as_slice(), &objects, graph)?;
+    let those = containing(alloc, target, tips, &objects, graph)?;
     let mut lines = lines_of(alloc, those.as_slice())?;
     write_out(&mut lines, writer)
 }

@@ -26,15 +26,15 @@ use std::io::Write;
 pub fn write_contained<W: Write>(
     alloc: Global,
     tip: ObjectId,
-    ids: Vec<ObjectId>,
+    ids: &[ObjectId],
     store: &MemoryStore<'_>,
     graph: Option<&Graph>,
     writer: &mut W,
 ) -> Result<(), Fault>
-    ensures { ServesOver store.now (rows_in graph.entry) (W.contents writer.old) (Contained tip ids.items) result (W.contents writer.new) }
+    ensures { ServesOver store.now (rows_in graph.entry) (W.contents writer.old) (Contained tip ids.now) result (W.contents writer.new) }
 {
     let objects = Lent::over(store, graph, Parents::All);
-    let those = contained(alloc, &[tip], ids.as_slice(), &objects, graph)?;
+    let those = contained(alloc, &[tip], ids, &objects, graph)?;
     let mut lines = lines_of(alloc, those.as_slice())?;
     write_out(&mut lines, writer)
 }

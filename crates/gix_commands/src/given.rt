@@ -35,7 +35,7 @@ pub fn run_in<W: Write>(
         (W.contents writer.new) }
 {
     let command = read_command(alloc, words)?;
-    serve_records(alloc, keys, command, records, writer)
+    serve_records(alloc, keys, &command, records, writer)
 }
 
 /// Writes what a command asks for over the records that the bytes are.
@@ -45,11 +45,11 @@ pub fn run_in<W: Write>(
 pub(crate) fn serve_records<W: Write>(
     alloc: Global,
     keys: Keys,
-    command: Command,
+    command: &Command,
     records: &[u8],
     writer: &mut W,
 ) -> Result<(), Fault>
-    ensures runs { (words : List (List ℕ)) → request_of words ≡ Ok (request_of_command command)
+    ensures runs { (words : List (List ℕ)) → request_of words ≡ Ok (request_of_command command.now)
         → Runs words (Some records.now) (W.contents writer.old) result (W.contents writer.new) }
     ensures given { result ≢ Err Fault.Read }
 {

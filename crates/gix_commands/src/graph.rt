@@ -37,7 +37,7 @@ fn read_lent(alloc: Global, layers: &[Vec<u8>]) -> Result<Graph, Fault>
 }
 
 /// Reads the layers of a commit-graph, lowest first, as rows, and drops the layers. A run over these rows is one over these layers: see the
-/// clause `whole` of [`run_named`](crate::run_named).
+/// clause `whole` of [`answer`](crate::answer).
 ///
 /// # Errors
 /// `Graph` where the layers are no commit-graph, and `Memory`.

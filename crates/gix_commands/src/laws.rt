@@ -1,5 +1,6 @@
 //! What a run of the program writes, as laws over the definitions: functions that do nothing, and whose contracts are proved.
 
+ghost use Rattle.gix_commands.specs.Answerable.{StoredSucceeds};
 ghost use Rattle.gix_commands.specs.Histories.{AheadSucceeds, BasesSucceeds, ContainingSucceeds, ContainsSucceeds, SimpleSucceeds, TopoSucceeds};
 ghost use Rattle.gix_commands.specs.Listings.{FilesReportEntries, FilesReportNames, FilesSucceeds};
 
@@ -49,4 +50,10 @@ pub fn containing_succeeds()
 /// Where all that the ids reach are whole commits, `merge-base` fails for memory, reading or writing alone.
 pub fn bases_succeeds()
     ensures { BasesSucceeds }
+{}
+
+/// Over what is stored and over rows each of which says what is stored at its id, every command fails for memory or writing alone, where what
+/// it asks for is there as the laws above say, by an object or by a row. If lines have a format, what the tips reach has objects.
+pub fn stored_succeeds()
+    ensures { StoredSucceeds }
 {}

@@ -1,9 +1,9 @@
 //! The commands of the program: which commits some commits reach, and which files a tree holds, from a stream of a repository's objects
 //! to a line for each.
 //!
-//! [`run`] takes the words of a command, a reader of records and a writer; [`run_in`] takes records in memory in place of a reader,
-//! [`run_over`] also takes the files of a commit-graph, [`run_stored`] takes a store, and [`run_named`] objects that were compared with
-//! their ids. What they write is stated by the clause `whole` of each, and by the laws of [`laws`].
+//! [`answer`] takes a [`Command`], objects that were compared with their ids, rows, and a writer. [`run`] takes the words of a command, a
+//! reader of records and a writer; [`run_in`] takes records in memory in place of a reader, and [`run_over`] also takes the files of a
+//! commit-graph. What they write is stated by the clause `whole` of each, and by the laws of [`laws`].
 #![tactic(auto)]
 
 ghost use Rattle.std.specs.Prelude.{◌≡◌, ◌≢◌, ℕ, List, [], map, Some, Err, string_bytes};
@@ -54,7 +54,7 @@ use output::write_commits;
 pub use over::run_over;
 use std::alloc::Global;
 use std::io::{Read, Write};
-pub use stored::{run_named, run_stored};
+pub use stored::answer;
 
 /// Runs the command that the words are over the records that the reader gives. The words are tested first, then the input is read
 /// whole, then the walk runs.
@@ -107,19 +107,19 @@ pub fn run<R: Read, W: Write>(
 {
     let command = read_command(alloc, words)?;
     let input = gix_records::read_to_end(alloc, reader, gix_records::READS)?;
-    serve_records(alloc, keys, command, input.as_slice(), writer)
+    serve_records(alloc, keys, &command, input.as_slice(), writer)
 }
 
 /// Writes what a command asks for.
 fn serve<W: Write>(
     alloc: Global,
-    command: Command,
+    command: &Command,
     store: &MemoryStore<'_>,
     graph: Option<&Graph>,
     writer: &mut W,
 ) -> Result<(), Fault>
     ensures { ServesOver store.now (rows_in graph.entry) (W.contents writer.old)
-        (request_of_command command) result (W.contents writer.new) }
+        (request_of_command command.now) result (W.contents writer.new) }
 {
     match command {
         Command::Commits {
@@ -128,16 +128,25 @@ fn serve<W: Write>(
             tips,
             hidden,
         } => {
-            let ends = Ends { tips, hidden };
-            serve_commits(alloc, Listing { order, shown, ends }, store, graph, writer)
+            let ends = Ends::of(alloc, tips.as_slice(), hidden.as_slice())?;
+            let listing = Listing {
+                order: *order,
+                shown: *shown,
+                ends,
+            };
+            serve_commits(alloc, listing, store, graph, writer)
         }
-        Command::Files { shown, tree } => write_files(alloc, shown, tree, store, graph, writer),
-        Command::Ahead { one, other } => write_ahead(alloc, one, other, store, graph, writer),
-        Command::Contained { tip, ids } => write_contained(alloc, tip, ids, store, graph, writer),
+        Command::Files { shown, tree } => write_files(alloc, *shown, *tree, store, graph, writer),
+        Command::Ahead { one, other } => write_ahead(alloc, *one, *other, store, graph, writer),
+        Command::Contained { tip, ids } => {
+            write_contained(alloc, *tip, ids.as_slice(), store, graph, writer)
+        }
         Command::Containing { target, tips } => {
-            write_containing(alloc, target, tips, store, graph, writer)
+            write_containing(alloc, *target, tips.as_slice(), store, graph, writer)
         }
-        Command::Bases { one, others } => write_bases(alloc, one, others, store, graph, writer),
+        Command::Bases { one, others } => {
+            write_bases(alloc, *one, others.as_slice(), store, graph, writer)
+        }
     }
 }
 

@@ -7,20 +7,20 @@ use gix_commitgraph::Graph;
 use gix_hash::ObjectId;
 use gix_records::NamedObjects;
 use gix_revwalk::{Info, Parents};
-use gix_words::{Command, Fault, Format, Order, Shown, read_command};
+use gix_words::{Command, Fault, Format, Order, Shown};
 use std::alloc::{AllocError, Global};
 
-/// The ids of the commits that the list goes through which the words ask for, up to its end or its first fault: each that is written, and
+/// The ids of the commits that the list goes through which a command asks for, up to its end or its first fault: each that is written, and
 /// each that is passed over before the last of these. None for another command.
 ///
 /// A list with a format needs the texts of these commits, which no row has. So whoever has rows reads these commits, and then runs the
 /// list. Nothing is promised of the ids: if one isn't among them whose text is needed, the run says that it is missing.
 ///
 /// # Errors
-/// Those of the words, and of a walk that can't begin. `Memory`.
+/// Those of a walk that can't begin. `Memory`.
 pub fn listed_ids(
     alloc: Global,
-    words: &[String],
+    command: &Command,
     objects: &NamedObjects,
     graph: Option<&Graph>,
 ) -> Result<Vec<ObjectId>, Fault> {
@@ -29,14 +29,14 @@ pub fn listed_ids(
         shown,
         tips,
         hidden,
-    } = read_command(alloc, words)?
+    } = command
     else {
         return Ok(Vec::new(alloc));
     };
-    let shown = without_format(shown);
-    let ends = Ends { tips, hidden };
+    let shown = without_format(*shown);
+    let ends = Ends::of(alloc, tips.as_slice(), hidden.as_slice())?;
     let store = objects.store();
-    match order {
+    match *order {
         Order::Simple { parents, sorting } => {
             let walk = walk_from(alloc, parents, sorting, ends, store, graph)?;
             drawn(

@@ -57,5 +57,5 @@ pub fn run_over<R: Read, W: Write>(
     let input = gix_records::read_to_end(alloc, reader, gix_records::READS)?;
     let store = gix_records::records_in(alloc, keys, input.as_slice())?;
     check_store(alloc, &graph, &store)?;
-    serve(alloc, command, &store, Some(&graph), writer)
+    serve(alloc, &command, &store, Some(&graph), writer)
 }

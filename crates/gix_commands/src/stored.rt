@@ -1,6 +1,6 @@
-//! A run over a store and rows that are there.
+//! The answer to a question that is a value, over objects and rows that are there.
 
-ghost use Rattle.std.specs.Prelude.{◌≡◌, ◌≢◌, ℕ, List, [], map, None, Err, string_bytes, OnOk, IfErr};
+ghost use Rattle.std.specs.Prelude.{◌≡◌, ◌≢◌, ℕ, List, [], None, Ok, Err, OnOk, IfErr};
 ghost use Rattle.gix_commitgraph.specs.Packed.{AreGraphRows};
 ghost use Rattle.gix_graph_check.specs.Sound.{AreSound};
 ghost use Rattle.gix_graph_store.specs.Laws.{StoredAgree};
@@ -10,9 +10,11 @@ ghost use Rattle.gix_revwalk.specs.Agreeing.{IsAgreeing, rows_in};
 ghost use Rattle.gix_statement.specs.CommitGraph.{AreLayers};
 ghost use Rattle.gix_statement.specs.WholeStatement.{AreNamed, Objects, Promises, Row};
 ghost use Rattle.gix_commands.specs.Opening.{AreReadFrom};
-ghost use Rattle.gix_commands.specs.Pages.{page_objects, AreRows};
+ghost use Rattle.gix_commands.specs.PageObjects.{page_objects};
+ghost use Rattle.gix_commands.specs.Pages.{AreRows};
 ghost use Rattle.gix_commands.specs.StoredRuns.{FailsToAgree, RunsStored};
 ghost use Rattle.gix_commands.specs.Walked.{never_faulty};
+ghost use Rattle.gix_words.specs.Words.{request_of, request_of_command};
 
 use crate::serve;
 use gix_commitgraph::Graph;
@@ -20,69 +22,51 @@ use gix_graph_check::{Disagreement, first_unsound};
 use gix_graph_store::{agree_at, check_stored};
 use gix_object::memory::MemoryStore;
 use gix_records::NamedObjects;
-use gix_words::{Fault, read_command};
+use gix_words::{Command, Fault};
 use std::alloc::Global;
 use std::io::Write;
 
 /// How many rows there are for each object where objects are few: a row costs less than an object, which is searched for among the rows.
 const FEW: usize = 4;
 
-/// Runs the command that the words are, as [`run`](crate::run) does, over a store, and over the rows of a commit-graph where there is one.
-/// Only commits that have no row need to be in the store, and with `--oneline` or `--format` also those that are listed, since no row has a
-/// text.
+/// Writes what a command asks for, as [`run`](crate::run) does, over objects that were compared with their ids, as those of a repository, and
+/// over the rows of a commit-graph where there is one. Only commits that have no row need to be among the objects, and with a format also
+/// those that are listed, since no row has a text.
 ///
-/// The words are tested first, then the rows, then the store is compared with them, then the walk runs.
-///
-/// # Errors
-/// Those of [`run_over`](crate::run_over), but never `Read`, `Record` and `Graph`.
-pub fn run_stored<W: Write>(
-    alloc: Global,
-    words: &[String],
-    store: &MemoryStore<'_>,
-    graph: Option<&Graph>,
-    writer: &mut W,
-) -> Result<(), Fault>
-    ensures runs { RunsStored (map string_bytes words.now) store.now (rows_in graph.entry) (W.contents writer.old) result
-        (W.contents writer.new) }
-    ensures sound { result ≢ Err Fault.Internal }
-    // What was written, from lists of bytes up: it is right of what is stored and of the rows, whatever else there is.
-    ensures whole { Promises Fault.Write (map string_bytes words.now)
-        (λ (objects : Objects) (rows : List Row). (objects ≡ page_objects store.now) × AreRows (rows_in graph.entry) rows)
-        (W.contents writer.old) result (W.contents writer.new) }
-{
-    let command = read_command(alloc, words)?;
-    check_rows(alloc, store, graph)?;
-    serve(alloc, command, store, graph, writer)
-}
-
-/// Runs the command that the words are, as [`run_stored`] does, over objects that were compared with their ids, as those of a repository.
+/// The rows are tested first, then the objects are compared with them, then the walk runs. What the lines are is said of any words that ask
+/// for the command, from lists of bytes up.
 ///
 /// # Errors
-/// Those of [`run_stored`].
-pub fn run_named<W: Write>(
+/// Those of [`run_over`](crate::run_over), but never `Usage`, `Id`, `Read`, `Record` and `Graph`.
+pub fn answer<W: Write>(
     alloc: Global,
-    words: &[String],
+    command: &Command,
     objects: &NamedObjects,
     graph: Option<&Graph>,
     writer: &mut W,
 ) -> Result<(), Fault>
-    ensures runs { RunsStored (map string_bytes words.now) objects.now (rows_in graph.entry) (W.contents writer.old) result
+    ensures runs { RunsStored (request_of_command command.now) objects.now (rows_in graph.entry) (W.contents writer.old) result
         (W.contents writer.new) }
     ensures sound { result ≢ Err Fault.Internal }
-    // What was written, from lists of bytes up: over rows that `read_graph` gives, it is right of objects each of whose ids is the hash of its
-    // object, and of the rows in the files.
-    ensures whole { (layers : List (List ℕ)) → AreReadFrom layers (rows_in graph.entry) → Promises Fault.Write (map string_bytes words.now)
-        (λ (given : Objects) (rows : List Row). AreNamed given × AreLayers [] layers [] rows) (W.contents writer.old) result
-        (W.contents writer.new) }
+    // Over rows that `read_graph` gives, the lines are right of these objects, each of whose ids is the hash of its object, and of the rows
+    // in the files.
+    ensures whole { (words layers : List (List ℕ)) → request_of words ≡ Ok (request_of_command command.now)
+        → AreReadFrom layers (rows_in graph.entry) → Promises Fault.Write words
+        (λ (given : Objects) (rows : List Row). AreNamed given × (given ≡ page_objects objects.now) × AreLayers [] layers [] rows)
+        (W.contents writer.old) result (W.contents writer.new) }
     // The same without a commit-graph.
-    ensures named { graph.entry ≡ None → Promises Fault.Write (map string_bytes words.now)
-        (λ (given : Objects) (rows : List Row). AreNamed given × (rows ≡ [])) (W.contents writer.old) result (W.contents writer.new) }
+    ensures named { (words : List (List ℕ)) → request_of words ≡ Ok (request_of_command command.now) → graph.entry ≡ None
+        → Promises Fault.Write words
+        (λ (given : Objects) (rows : List Row). AreNamed given × (given ≡ page_objects objects.now) × (rows ≡ [])) (W.contents writer.old)
+        result (W.contents writer.new) }
     // And over any rows.
-    ensures over { Promises Fault.Write (map string_bytes words.now)
+    ensures over { (words : List (List ℕ)) → request_of words ≡ Ok (request_of_command command.now) → Promises Fault.Write words
         (λ (given : Objects) (rows : List Row). AreNamed given × (given ≡ page_objects objects.now) × AreRows (rows_in graph.entry) rows)
         (W.contents writer.old) result (W.contents writer.new) }
 {
-    run_stored(alloc, words, objects.store(), graph, writer)
+    let store = objects.store();
+    check_rows(alloc, store, graph)?;
+    serve(alloc, command, store, graph, writer)
 }
 
 /// Tests that the rows, if there are any, can be used together with the store.

@@ -6,10 +6,19 @@ use std::alloc::AllocError;
 use std::sync::Arc;
 
 /// Bytes that don't change. Copies share them, but where there was no memory for the count of their owners each copy has its own.
-#[derive(Debug, Drop)]
+#[derive(Debug)]
 pub(super) enum Bytes {
     Shared(Arc<Vec<u8>>),
     Own(Vec<u8>),
+}
+
+impl Drop for Bytes {
+    fn drop(self) {
+        match self {
+            Bytes::Shared(_) => {}
+            Bytes::Own(_) => {}
+        }
+    }
 }
 
 impl Bytes {

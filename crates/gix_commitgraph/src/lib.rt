@@ -49,7 +49,7 @@ impl MadeWith<Global> for ParentPlace {
 pub type ParentPlaces = SmallVec<ParentPlace, 2>;
 
 /// What a commit-graph says of a commit.
-#[derive(Debug, Drop)]
+#[derive(Debug)]
 pub struct Row {
     /// The commit's id. No two rows of a graph have the same id.
     pub id: ObjectId,
@@ -62,6 +62,18 @@ pub struct Row {
     pub generation: u32,
     /// The committer's seconds since 1970-01-01 00:00 UTC.
     pub time: i64,
+}
+
+impl Drop for Row {
+    fn drop(self) {
+        let Row {
+            id: _,
+            tree: _,
+            parents: _,
+            generation: _,
+            time: _,
+        } = self;
+    }
 }
 
 /// Where packed bytes are not as they should be.
@@ -167,10 +179,19 @@ pub const GENERATION_NUMBER_INFINITY: u32 = 0xFFFF_FFFF;
 ///     Graph::new(alloc, rows)
 /// }
 /// ```
-#[derive(Debug, Drop)]
+#[derive(Debug)]
 pub struct Graph {
     packed: Bytes,
     layout: Layout,
+}
+
+impl Drop for Graph {
+    fn drop(self) {
+        let Graph {
+            packed: _,
+            layout: _,
+        } = self;
+    }
 }
 
 impl Model for Graph {

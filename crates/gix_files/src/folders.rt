@@ -33,21 +33,6 @@ pub fn is_folder<R: Files>(rt: &R, path: &str) -> Result<bool, Damage> {
     }
 }
 
-/// Whether there is a file of this name, where a symbolic link is followed.
-///
-/// # Errors
-///
-/// `Memory`.
-pub fn is_file<R: Files>(rt: &R, path: &str) -> Result<bool, Damage> {
-    match fs::metadata(rt, path) {
-        Ok(about) => Ok(about.is_file()),
-        Err(error) => match error.kind() {
-            ErrorKind::OutOfMemory => Err(Damage::Memory),
-            _ => Ok(false),
-        },
-    }
-}
-
 /// What there is of a name.
 #[derive(Clone, Copy, PartialEq, Eq, Debug)]
 pub enum Entry {
@@ -116,6 +101,10 @@ pub fn real_folder<R: Files + AllocGlobal>(rt: &R, path: &str) -> Result<Option<
         Err(error) => {
             return match error.kind() {
                 ErrorKind::OutOfMemory => Err(Damage::Memory),
+                // A path that the system refuses has the number of an error.
+                ErrorKind::InvalidFilename if error.raw_os_error().is_none() => {
+                    Err(Damage::NotText)
+                }
                 _ => Ok(None),
             };
         }
@@ -124,37 +113,4 @@ pub fn real_folder<R: Files + AllocGlobal>(rt: &R, path: &str) -> Result<Option<
         Some(text) => Ok(Some(String::from_str(rt.alloc(), text)?)),
         None => Err(Damage::NotText),
     }
-}
-
-/// The names of a folder's entries, in the order in which the system says them. None where there is no folder.
-///
-/// # Errors
-///
-/// `NotText` where a name isn't UTF-8. `TooManyEntries` where there are more than `most`. `Unreadable`, `Memory`.
-pub fn names<R: Files + AllocGlobal + Clone + Drop>(
-    rt: &R,
-    path: &str,
-    most: usize,
-) -> Result<Option<Vec<String>>, Damage> {
-    let entries = match fs::read_dir(rt, path) {
-        Ok(entries) => entries,
-        Err(error) => return absent(error.kind()),
-    };
-    let mut names = Vec::new(rt.alloc());
-    for entry in entries {
-        match entry {
-            Ok(entry) => {
-                if names.len() >= most {
-                    return Err(Damage::TooManyEntries);
-                }
-                names.push(String::from_str(rt.alloc(), entry.file_name())?)?;
-            }
-            Err(error) => match error.kind() {
-                ErrorKind::InvalidFilename => return Err(Damage::NotText),
-                ErrorKind::OutOfMemory => return Err(Damage::Memory),
-                _ => return Err(Damage::Unreadable),
-            },
-        }
-    }
-    Ok(Some(names))
 }

@@ -3,12 +3,15 @@
 
 ghost use Rattle.std.specs.Prelude.{◌≡◌, ◌+◌, ◌≤◌, ◌<◌, length, IfOk};
 
+mod bytes;
 mod damage;
 mod folders;
+mod host;
 
+pub use bytes::{About, ByteFiles, found_at, link_bytes, names, read_start};
 pub use damage::Damage;
 use damage::absent;
-pub use folders::{Entry, entry_of, is_file, is_folder, is_there, link_text, names, real_folder};
+pub use folders::{Entry, entry_of, is_folder, is_there, link_text, real_folder};
 use std::fs::{self, Files};
 use std::io::ErrorKind;
 use std::os::unix::fs::FileExt;

@@ -28,7 +28,6 @@ const MOST_COPIES: usize = 64;
 
 /// The objects that some ids lead to, as far as they were read. Each is under the id that it has. More can be read at any time, and what was
 /// read stays.
-#[derive(Drop)]
 pub struct Gathering {
     objects: NamedObjects,
     /// The ids that no file has.
@@ -41,6 +40,20 @@ pub struct Gathering {
     border: IdSet,
     /// The bytes of the object that is read.
     object: Vec<u8>,
+}
+
+impl Drop for Gathering {
+    fn drop(self) {
+        let Gathering {
+            objects: _,
+            absent: _,
+            reading: _,
+            waiting: _,
+            through: _,
+            border: _,
+            object: _,
+        } = self;
+    }
 }
 
 impl Model for Gathering {
@@ -153,7 +166,8 @@ impl Gathering {
     where
         R: Files + AllocGlobal + Clone + Drop,
         R::File: FileExt,
-        ensures { IsWithin self.old self.new }
+        ensures within { IsWithin self.old self.new }
+        ensures none { IfOk result (λ is_new. OnFalse is_new (self.new ≡ self.old)) }
     {
         let mut is_new = false;
         for id in ids {
@@ -169,7 +183,8 @@ impl Gathering {
     where
         R: Files + AllocGlobal + Clone + Drop,
         R::File: FileExt,
-        ensures { IsWithin self.old self.new }
+        ensures within { IsWithin self.old self.new }
+        ensures none { IfOk result (λ is_new. OnFalse is_new (self.new ≡ self.old)) }
     {
         if self.is_known(&id) {
             return Ok(false);
@@ -183,7 +198,8 @@ impl Gathering {
         R: Files + AllocGlobal + Clone + Drop,
         R::File: FileExt,
         requires { map.get self.old id ≡ None }
-        ensures { IsWithin self.old self.new }
+        ensures within { IsWithin self.old self.new }
+        ensures none { IfOk result (λ is_new. OnFalse is_new (self.new ≡ self.old)) }
     {
         let Some(kind) = read_named(odb, &id, &mut self.object)? else {
             self.absent.insert(id)?;
@@ -300,7 +316,16 @@ impl Gathering {
         ensures exact { result ≡ self }
         ensures named { AreNamed result }
     {
-        self.objects
+        let Gathering {
+            objects,
+            absent: _,
+            reading: _,
+            waiting: _,
+            through: _,
+            border: _,
+            object: _,
+        } = self;
+        objects
     }
 }
 

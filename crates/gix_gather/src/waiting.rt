@@ -15,7 +15,6 @@ pub enum Order {
 }
 
 /// Ids that wait. An id may be there several times.
-#[derive(Drop)]
 pub(crate) struct Waiting {
     order: Order,
     /// The ids that come first, in this order.
@@ -24,6 +23,17 @@ pub(crate) struct Waiting {
     by_time: BinaryHeap<(i64, u64, ObjectId)>,
     /// The number of the last commit.
     number: u64,
+}
+
+impl Drop for Waiting {
+    fn drop(self) {
+        let Waiting {
+            order: _,
+            first: _,
+            by_time: _,
+            number: _,
+        } = self;
+    }
 }
 
 impl Waiting {

@@ -21,16 +21,11 @@ module _ (file entry letters : List ℕ) (k : ℕ) (four : length letters ≡ 4)
 
   pub chunk_is : starts_with nat_eq entry letters ≡ true → k < number_at 6 1 file → ((j : ℕ) → j < k → bytes_at (8 + 12 * j) 4 file ≢ letters)
       → (from to len : ℕ) → from ≡ number_at 4 8 entry → to ≡ number_at 16 8 entry → len ≡ to - from
-      → (bytes : List ℕ) → IsChunk file letters bytes → bytes ≡ bytes_at from len file
-  chunk_is e few before from to len begin end long bytes (j, least, called, behind, same) =
-      let name : bytes_at (8 + 12 * k) 4 file ≡ letters = name_is ∙ begins entry letters e four in
-      let found : j ≡ k = ⊎_elim
-      (λ l. absurd (before j l called))
-      (λ l. ⊎_elim (λ m. absurd (behind k m name)) (λ m. omega (arith, l, m)) (below k j))
-      (below j k) in
-      let a : number_at (12 + 12 * j) 8 file ≡ from = ap (λ n. number_at (12 + 12 * n) 8 file) found ∙ from_is ∙ sym begin in
-      let b : number_at (24 + 12 * j) 8 file ≡ to = ap (λ n. number_at (24 + 12 * n) 8 file) found ∙ to_is ∙ sym end in
-      same ∙ (λ i. bytes_at (a i) (b i - a i) file) ∙ ap (λ n. bytes_at from n file) (sym long)
+      → IsChunk file letters (bytes_at from len file)
+  chunk_is e few before from to len begin end long =
+      let a : from ≡ number_at (12 + 12 * k) 8 file = begin ∙ sym from_is in
+      let b : to ≡ number_at (24 + 12 * k) 8 file = end ∙ sym to_is in
+      (k, few, name_is ∙ begins entry letters e four, before, ap (λ n. bytes_at from n file) long ∙ (λ i. bytes_at (a i) (b i - a i) file))
 
 -- one entry more has other letters
 pub none_before : (file letters : List ℕ) (k : ℕ) → ((j : ℕ) → j < k → bytes_at (8 + 12 * j) 4 file ≢ letters) → bytes_at (8 + 12 * k) 4 file ≢ letters → (j : ℕ) → j < k + 1 → bytes_at (8 + 12 * j) 4 file ≢ letters

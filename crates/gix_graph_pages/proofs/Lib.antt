@@ -6,6 +6,8 @@ pub mod PageBytes
 pub mod ChunkFound
 -- The rows of a file whose pages were read, by its bytes.
 pub mod ReadRows
+-- A file names those below it.
+pub mod BelowNamed
 -- Where no row has an id.
 pub mod IdsBetween
 -- The parents of a graph's row, and those of the file's.

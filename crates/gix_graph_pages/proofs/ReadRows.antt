@@ -24,7 +24,7 @@ use Rattle.gix_graph_pages.proofs.Takes.{part_of, number_of, within}
 abbrev pub IsWidth : ℕ → ℕ → Type 0
 IsWidth n w = ((n ≡ 1) × (w ≡ 20)) ⊎ ((n ≡ 2) × (w ≡ 32))
 
-width_said : (n w : ℕ) → IsWidth n w → (if n == 1 then 20 else 32) ≡ w
+pub width_said : (n w : ℕ) → IsWidth n w → (if n == 1 then 20 else 32) ≡ w
 width_said n w (inl h) = ap (λ m. if m == 1 then 20 else 32) h.0 ∙ sym h.1
 width_said n w (inr h) = ap (λ m. if m == 1 then 20 else 32) h.0 ∙ sym h.1
 

@@ -149,7 +149,7 @@ top = record { file = top_file; rows = second_row ∷ [] }
 abbrev pub pages : List (List (Option (List ℕ)))
 pages = (Some base_file ∷ []) ∷ (Some top_file ∷ []) ∷ []
 
-whole_page : (file : List ℕ) (own : List (Option (List ℕ))) → bytes_at 0 (length file) file ≡ file → Some file ∷ [] ≡ own → HavePages file own
+pub whole_page : (file : List ℕ) (own : List (Option (List ℕ))) → bytes_at 0 (length file) file ≡ file → Some file ∷ [] ≡ own → HavePages file own
 whole_page file own whole e zero bytes at =
     let same : file ≡ bytes = same_Some file bytes (same_Some (Some file) (Some bytes) (ap (λ those. slice_get those 0) e ∙ at)) in
     subst (λ x. bytes_at 0 (length x) file ≡ x) same whole

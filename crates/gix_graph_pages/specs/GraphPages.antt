@@ -45,9 +45,10 @@ pub record HaveFiles (pages : List (List (Option (List ℕ)))) (layers : List La
   pub count : length layers ≡ length pages
   pub has : (k : ℕ) (layer : Layer) → slice_get layers k ≡ Some layer → IsFileOf pages k layer.file
 
--- THE STATEMENT: of lines that were written over these pages, and over objects of a repository.
-abbrev pub AnswersOver : (words : List (List ℕ)) → (pages : List (List (Option (List ℕ)))) → (lines : List ℕ) → Type 0
-AnswersOver words pages lines = (objects : Objects) × AreNamed objects
+-- THE STATEMENT: of lines that were written over these objects of a repository and over these pages. If no such graph has these pages, nothing
+-- is promised: so NamedBelow says what the files are in any case, and a law of gix_checked_graph that then such a graph has them.
+abbrev pub AnswersOver : Objects → (words : List (List ℕ)) → (pages : List (List (Option (List ℕ)))) → (lines : List ℕ) → Type 0
+AnswersOver objects words pages lines = AreNamed objects
     × ((layers : List Layer) (generation : ObjectId → ℕ) → HaveFiles pages layers → AreSoundLayers layers generation
     → Agree objects (all_rows layers)
     → InEach objects (all_rows layers) (λ parents time. Serves objects (all_rows layers) parents time (Some []) (Some lines) words))

@@ -1,6 +1,8 @@
 -- What the bytes of pages say of the rows of their files.
-use Rattle.std.specs.Prelude.{◌≡◌, ◌≢◌, ◌⊎◌, ℕ, ◌+◌, ◌*◌, ◌≤◌, ◌<◌, codes, List, [], ◌∷◌, length, take, map, slice_get, Option, Some, IfSome, Ok, Err, All, Contains}
+use Rattle.std.specs.Prelude.{◌≡◌, ◌≢◌, ◌⊎◌, ℕ, ◌+◌, ◌*◌, ◌≤◌, ◌<◌, codes, List, [], ◌∷◌, ◌++◌, length, take, map, slice_get, Option, Some, None, IfSome, Ok, Err, All, Contains}
 use Rattle.std.specs.Option.{option_map}
+use Rattle.gix_hash.specs.declared.Kind.{Kind}
+use Rattle.gix_hash.specs.declared.Kind.TheVariants as kind
 use Rattle.gix_hash.specs.declared.ObjectId.{ObjectId}
 use Rattle.gix_hash.specs.Id.{id_len}
 use Rattle.gix_commitgraph.specs.Parents.{Answer}
@@ -9,7 +11,9 @@ use Rattle.gix_commitgraph.specs.declared.Position.{Position}
 use Rattle.gix_graph_check.specs.HeadsReach.{ids_of_places}
 use Rattle.gix_statement.specs.WholeStatement.{Row}
 use Rattle.gix_statement.specs.CommitGraph.{AreFurther, AreParents, IsChunk, bytes_at, number_at}
-use Rattle.gix_graph_pages.specs.GraphPages.{AreSoundLayers, HaveFiles, Layer, all_rows, width_of}
+use Rattle.gix_graph_pages.specs.GraphPages.{AreSoundLayers, HaveFiles, IsFileOf, Layer, all_rows, width_of}
+use Rattle.gix_graph_pages.specs.NamedBelow.{end_of_chunks}
+use Rattle.gix_graph_pages.specs.declared.layout.Chunk.{Chunk}
 use Rattle.gix_graph_pages.specs.declared.layout.Layout.{Layout}
 use Rattle.gix_graph_pages.specs.declared.rows.FileRow.{FileRow}
 
@@ -38,6 +42,45 @@ pub record SaysLayout (pages : Pages) (layout : Layout) : Type 0 where
       → bytes ≡ bytes_at layout.data ((id_len layout.kind + 16) * layout.rows) layer.file)
   pub further : IfSome layout.edges (λ chunk. InEachLayer pages layout.layer (λ layers layer generation. (bytes : List ℕ)
       → IsChunk layer.file (codes "EDGE") bytes → bytes ≡ bytes_at chunk.from chunk.len layer.file))
+
+-- how the head of a file says the kind of its ids
+abbrev pub version : Kind → ℕ
+version kind.Sha1 = 1
+version kind.Sha256 = 2
+
+-- a file begins as a layout says, and has its chunk BASE there
+pub record BeginsAs (layout : Layout) (file : List ℕ) : Type 0 where
+  pub begins : bytes_at 0 5 file ≡ codes "CGPH" ++ 1 ∷ []
+  pub kind : number_at 5 1 file ≡ version layout.kind
+  pub number : number_at 7 1 file ≡ layout.layer
+  pub base : IfSome layout.below (λ chunk. IsChunk file (codes "BASE") (bytes_at chunk.from chunk.len file))
+
+-- so does each file that has these pages
+abbrev pub HasHead : Pages → Layout → Type 0
+HasHead pages layout = (file : List ℕ) → IsFileOf pages layout.layer file → BeginsAs layout file
+
+-- a chunk has so many hashes; if there is no chunk, there are none
+abbrev pub NamesSoMany : Option Chunk → (width count : ℕ) → Type 0
+NamesSoMany None width count = count ≡ 0
+NamesSoMany (Some chunk) width count = chunk.len ≡ width * count
+
+-- where the chunk BASE has the hash of this number
+abbrev pub IsPlaceOfHash : Layout → (lower place : ℕ) → Type 0
+IsPlaceOfHash layout lower place = (chunk : Chunk) × (layout.below ≡ Some chunk) × (place ≡ chunk.from + id_len layout.kind * lower)
+
+-- there the file of a layout has the hash with which the file of another one ends, and both have ids of one kind
+pub record NamesHash (pages : Pages) (layout lower : Layout) : Type 0 where
+  pub kinds : lower.kind ≡ layout.kind
+  pub place : ℕ
+  pub at : IsPlaceOfHash layout lower.layer place
+  pub named : List ℕ
+  pub long : length named ≡ id_len layout.kind
+  pub here : (file : List ℕ) → IsFileOf pages layout.layer file → bytes_at place (id_len layout.kind) file ≡ named
+  pub own : (file : List ℕ) → IsFileOf pages lower.layer file → bytes_at (end_of_chunks file) (id_len layout.kind) file ≡ named
+
+-- it has those of each of these
+abbrev pub NamesEach : Pages → Layout → List Layout → Type 0
+NamesEach pages layout below = (k : ℕ) (lower : Layout) → slice_get below k ≡ Some lower → NamesHash pages layout lower
 
 -- where the rows of a layer are, in its file and among the rows of all layers
 pub record IsLayoutOf (pages : Pages) (layout : Layout) : Type 0 where

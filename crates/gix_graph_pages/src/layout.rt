@@ -3,7 +3,8 @@ ghost use Rattle.std.specs.Prelude.{◌≡◌, ◌+◌, ◌-◌, ◌*◌, ◌<�
 ghost use Rattle.gix_hash.specs.Id.{id_len};
 ghost use Rattle.gix_statement.specs.CommitGraph.{IsChunk, bytes_at, number_at};
 ghost use Rattle.gix_graph_pages.specs.GraphPages.{IsFileOf};
-ghost use Rattle.gix_graph_pages.specs.PagedRows.{AreLayouts, InEachLayer, SaysLayout};
+ghost use Rattle.gix_graph_pages.specs.NamedBelow.{AreNamedBelow, end_of_chunks};
+ghost use Rattle.gix_graph_pages.specs.PagedRows.{AreLayouts, HasHead, InEachLayer, IsPlaceOfHash, NamesEach, NamesHash, NamesSoMany, SaysLayout};
 
 use crate::pages::Pages;
 use gix_files::Damage;
@@ -58,7 +59,7 @@ pub(crate) fn long_at(bytes: &[u8], at: usize) -> u64
 fn chunk_of<F: Drop>(pages: &Pages<F>, layer: usize, count: u8, letters: &[u8]) -> Option<Chunk>
     requires { length letters.now ≡ 4 }
     ensures { IfSome result (λ chunk. (file : List ℕ) → IsFileOf pages.now layer file → count ≡ number_at 6 1 file
-        → (bytes : List ℕ) → IsChunk file letters.now bytes → bytes ≡ bytes_at chunk.from chunk.len file) }
+        → IsChunk file letters.now (bytes_at chunk.from chunk.len file)) }
 {
     for number in 0..count {
         // The letters, where the chunk begins, and behind four others where it ends.
@@ -75,7 +76,9 @@ fn chunk_of<F: Drop>(pages: &Pages<F>, layer: usize, count: u8, letters: &[u8]) 
 /// The layout that the first page of the file of this number says, if the files below have so many rows. None if it wasn't read, or isn't the
 /// beginning of such a file of git's.
 fn layout_of<F: Drop>(pages: &Pages<F>, layer: usize, start: u32) -> Option<Layout>
-    ensures { IfSome result (λ layout. (layout.layer ≡ layer) × (layout.start ≡ start) × SaysLayout pages.now layout) }
+    ensures says { IfSome result (λ layout. (layout.layer ≡ layer) × (layout.start ≡ start) × SaysLayout pages.now layout) }
+    // The signature, the version, the kind of its hash and how many files are below, as the file has them, and its chunk BASE.
+    ensures head { IfSome result (HasHead pages.now) }
 {
     let head = pages.bytes(layer, 0, 8)?;
     // The version, and how many layers are below.
@@ -135,41 +138,77 @@ fn has_all<F: Drop>(pages: &Pages<F>, layout: &Layout) -> bool
 }
 
 /// Where a file names the hash of the file of this number, which is below it. None if it names none.
-fn place_of_hash(layout: &Layout, lower: usize) -> Option<u64> {
+fn place_of_hash(layout: &Layout, lower: usize) -> Option<u64>
+    ensures { IfSome result (IsPlaceOfHash layout.now lower) }
+{
     let width = layout.kind.len_in_bytes() as u64;
     let before = width.checked_mul(lower as u64)?;
     layout.below?.from.checked_add(before)
 }
 
-/// Where the hash is with which a file ends.
-fn place_of_own_hash<F: Drop>(pages: &Pages<F>, layout: &Layout) -> u64 {
-    let width = layout.kind.len_in_bytes() as u64;
-    pages.len_of(layout.layer).saturating_sub(width)
+/// Where the hash is with which a file ends: where its last chunk ends, as its first page says. None if that page doesn't have it.
+fn place_of_own_hash<F: Drop>(pages: &Pages<F>, layout: &Layout) -> Option<u64>
+    ensures { IfSome result (λ place. (file : List ℕ) → IsFileOf pages.now layout.now.layer file → place ≡ end_of_chunks file) }
+{
+    let count = pages.bytes(layout.layer, 6, 1)?[0];
+    let entry = pages.bytes(layout.layer, 12 + 12 * count as u64, 8)?;
+    Some(long_at(entry, 0))
 }
 
 /// Whether a file names as many hashes as there are files below it.
-fn names_all(layout: &Layout) -> bool {
+fn names_all(layout: &Layout) -> bool
+    ensures { IsTrue result → NamesSoMany layout.now.below (id_len layout.now.kind) layout.now.layer }
+{
     let width = layout.kind.len_in_bytes() as u64;
     match layout.below {
-        Some(chunk) => width.checked_mul(layout.layer as u64) == Some(chunk.len),
+        Some(chunk) => match width.checked_mul(layout.layer as u64) {
+            Some(len) => len == chunk.len,
+            None => false,
+        },
         None => layout.layer == 0,
     }
 }
 
 /// Whether a file names the hash with which another one ends, whose ids are of its kind.
-fn names<F: Drop>(pages: &Pages<F>, layout: &Layout, lower: &Layout) -> bool {
-    if lower.kind != layout.kind {
+fn names<F: Drop>(pages: &Pages<F>, layout: &Layout, lower: &Layout) -> bool
+    ensures { IsTrue result → NamesHash pages.now layout.now lower.now }
+{
+    if !is_kind(lower.kind, layout.kind) {
         return false;
     }
     let width = layout.kind.len_in_bytes();
     let Some(place) = place_of_hash(layout, lower.layer) else {
         return false;
     };
-    let own = pages.bytes(lower.layer, place_of_own_hash(pages, lower), width);
-    match pages.bytes(layout.layer, place, width) {
-        Some(named) => own == Some(named),
+    let Some(own_place) = place_of_own_hash(pages, lower) else {
+        return false;
+    };
+    let Some(named) = pages.bytes(layout.layer, place, width) else {
+        return false;
+    };
+    match pages.bytes(lower.layer, own_place, width) {
+        Some(own) => own == named,
         None => false,
     }
+}
+
+/// Whether a kind of ids is another one.
+fn is_kind(one: Kind, other: Kind) -> bool
+    ensures { IsTrue result → one ≡ other }
+{
+    one == other
+}
+
+/// Whether a file names the hash of each of these files.
+fn names_each<F: Drop>(pages: &Pages<F>, layout: &Layout, below: &[Layout]) -> bool
+    ensures { IsTrue result → NamesEach pages.now layout.now below.now }
+{
+    for lower in below {
+        if !names(pages, layout, lower) {
+            return false;
+        }
+    }
+    true
 }
 
 /// The layouts of all files, lowest first. None if one of the pages that it needs wasn't read, or if a file isn't one of git's that has those
@@ -182,7 +221,9 @@ pub fn layouts_of<F: Drop>(
     alloc: Global,
     pages: &Pages<F>,
 ) -> Result<Option<Vec<Layout>>, AllocError>
-    ensures { IfOk result (λ found. IfSome found (λ layouts. AreLayouts pages.now layouts.items)) }
+    ensures layouts { IfOk result (λ found. IfSome found (λ layouts. AreLayouts pages.now layouts.items)) }
+    // Each file begins as git's do, and names those below it.
+    ensures named { IfOk result (λ found. IfSome found (λ layouts. AreNamedBelow pages.now)) }
 {
     let mut layouts = Vec::new(alloc);
     let mut start = 0u32;
@@ -190,9 +231,10 @@ pub fn layouts_of<F: Drop>(
         let Some(layout) = layout_of(pages, layer, start) else {
             return Ok(None);
         };
-        let is_next = names_all(&layout)
-            && layouts.iter().all(|lower| names(pages, &layout, lower));
-        if !is_next || !has_all(pages, &layout) {
+        if !names_all(&layout)
+            || !names_each(pages, &layout, layouts.as_slice())
+            || !has_all(pages, &layout)
+        {
             return Ok(None);
         }
         let Some(next) = start.checked_add(layout.rows) else {
@@ -218,8 +260,10 @@ pub fn load_layouts<F: FileExt + Drop>(pages: &mut Pages<F>) -> Result<(), Damag
         if let Some(place) = place_of_last(&layout) {
             pages.load(layer, place)?;
         }
-        if layer + 1 < pages.count() {
-            pages.load(layer, place_of_own_hash(pages, &layout))?;
+        if layer + 1 < pages.count()
+            && let Some(place) = place_of_own_hash(pages, &layout)
+        {
+            pages.load(layer, place)?;
         }
         for lower in 0..layer {
             if let Some(place) = place_of_hash(&layout, lower) {

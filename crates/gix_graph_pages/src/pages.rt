@@ -16,15 +16,23 @@ const LEN: usize = 4096 + 64;
 const MOST: usize = 1 << 14;
 
 /// The files of a commit-graph, lowest first, and the pages of them that were read. The model of it is what these have.
-#[derive(Drop)]
 pub struct Pages<F: Drop> {
     alloc: Global,
     files: Vec<F>,
-    /// How many bytes each file has.
-    lens: Vec<u64>,
     pages: Vec<Vec<Option<Vec<u8>>>>,
     /// How many pages were read.
     read: usize,
+}
+
+impl<F: Drop> Drop for Pages<F> {
+    fn drop(self) {
+        let Pages {
+            alloc: _,
+            files: _,
+            pages: _,
+            read: _,
+        } = self;
+    }
 }
 
 impl<F: Drop> Model for Pages<F> {
@@ -42,7 +50,6 @@ impl<F: FileExt + Drop> Pages<F> {
         Pages {
             alloc,
             files: Vec::new(alloc),
-            lens: Vec::new(alloc),
             pages: Vec::new(alloc),
             read: 0,
         }
@@ -59,7 +66,6 @@ impl<F: FileExt + Drop> Pages<F> {
             pages.push(None)?;
         }
         self.pages.push(pages)?;
-        self.lens.push(len)?;
         self.files.push(file)?;
         Ok(())
     }
@@ -98,11 +104,6 @@ impl<F: Drop> Pages<F> {
     /// The files, lowest first.
     pub fn files(&self) -> &[F] {
         self.files.as_slice()
-    }
-
-    /// How many bytes the file of this number has, and 0 if there is none.
-    pub(crate) fn len_of(&self, layer: usize) -> u64 {
-        self.lens.as_slice().get(layer).copied().unwrap_or(0)
     }
 
     /// How many files there are.

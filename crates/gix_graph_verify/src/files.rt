@@ -11,13 +11,21 @@ use gix_graph_file::{graph_of_chain, has_its_hash};
 use std::alloc::{AllocError, Global};
 
 /// What was found of files.
-#[derive(Drop)]
 pub struct Report {
     /// How many commits have a row.
     pub rows: u32,
     /// What is wrong: of each file its hash, lowest first, and then one thing for each row, in rising order of ids. At most
     /// [`MOST_DIFFERENCES`](crate::MOST_DIFFERENCES).
     pub differences: Vec<Difference>,
+}
+
+impl Drop for Report {
+    fn drop(self) {
+        let Report {
+            rows: _,
+            differences: _,
+        } = self;
+    }
 }
 
 /// The lowest of the files, so many.

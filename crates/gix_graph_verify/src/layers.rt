@@ -23,7 +23,7 @@ pub struct Layer {
 }
 
 /// Why a file isn't read. Its path is written in quotes, so that the text is one line.
-#[derive(Drop, Debug, Error)]
+#[derive(Debug, Error)]
 pub enum LayerFault {
     /// There is no file of this path, or the system didn't open or read it.
     #[error("{0:?}: it can't be read")]
@@ -34,6 +34,16 @@ pub enum LayerFault {
     /// Memory ran out.
     #[error("out of memory")]
     Memory,
+}
+
+impl Drop for LayerFault {
+    fn drop(self) {
+        match self {
+            LayerFault::Unreadable(_) => {}
+            LayerFault::TooLarge(_) => {}
+            LayerFault::Memory => {}
+        }
+    }
 }
 
 impl From<AllocError> for LayerFault {

@@ -1,8 +1,9 @@
 //! Files by their paths.
 use crate::NamedFile;
 use crate::names::Names;
-use crate::opened::{Opened, unsupported};
-use crate::paths::{file_of, files_in, trimmed};
+use crate::opened::{Opened, put, unsupported};
+use crate::paths::{file_of, files_in, part_behind, trimmed};
+use gix_files::{About, ByteFiles, Entry};
 use std::alloc::{Alloc, Allocator, Global};
 use std::fs::{Files, Metadata, OpenOptions};
 use std::io::{self, Error, ErrorKind};
@@ -48,7 +49,7 @@ impl<'a> Files for Mapped<'a> {
 
     fn open_file(&self, how: &OpenOptions, path: &str) -> io::Result<Opened<'a>> {
         how.check()?;
-        let path = trimmed(path);
+        let path = trimmed(path.as_bytes());
         match file_of(self.files, path) {
             Some(file) => Ok(Opened {
                 bytes: file.bytes,
@@ -60,7 +61,7 @@ impl<'a> Files for Mapped<'a> {
     }
 
     fn open_dir(&self, path: &str) -> io::Result<Names<'a>> {
-        let path = trimmed(path);
+        let path = trimmed(path.as_bytes());
         if !self.has_folder(path) {
             return Err(not_found());
         }
@@ -72,7 +73,7 @@ impl<'a> Files for Mapped<'a> {
     }
 
     fn metadata(&self, path: &str) -> io::Result<Metadata> {
-        let path = trimmed(path);
+        let path = trimmed(path.as_bytes());
         match file_of(self.files, path) {
             Some(file) => Ok(Metadata::of_file(file.bytes.len() as u64)),
             None if self.has_folder(path) => Ok(Metadata::of_dir()),
@@ -114,5 +115,56 @@ impl<'a> Files for Mapped<'a> {
         let mut real = String::from_str(alloc, "/")?;
         real.push_str(path.trim_matches('/'))?;
         Ok(PathBuf::from(real))
+    }
+}
+
+impl<'a> ByteFiles for Mapped<'a> {
+    fn look(&self, path: &[u8], _follows: bool) -> io::Result<About> {
+        let path = trimmed(path);
+        match file_of(self.files, path) {
+            Some(file) => Ok(About {
+                entry: Entry::File,
+                len: file.bytes.len() as u64,
+            }),
+            None if self.has_folder(path) => Ok(About {
+                entry: Entry::Folder,
+                len: 0,
+            }),
+            None => Err(not_found()),
+        }
+    }
+
+    fn read_start(&self, path: &[u8], buffer: &mut [u8]) -> io::Result<usize> {
+        match file_of(self.files, trimmed(path)) {
+            Some(file) => Ok(put(file.bytes, buffer)),
+            None => Err(not_found()),
+        }
+    }
+
+    /// No file is a link.
+    fn read_link_bytes(&self, _path: &[u8], _buffer: &mut [u8]) -> io::Result<usize> {
+        Err(unsupported())
+    }
+
+    fn add_names(&self, path: &[u8], names: &mut Vec<u8>) -> io::Result<()> {
+        let path = trimmed(path);
+        if !self.has_folder(path) {
+            return Err(not_found());
+        }
+        let front = if path.is_empty() {
+            0
+        } else {
+            path.len().saturating_add(1)
+        };
+        let mut last: &[u8] = &[];
+        for file in files_in(self.files, path) {
+            let name = part_behind(file.name, front);
+            if !name.is_empty() && name != last {
+                names.extend_from_slice(name)?;
+                names.push(0)?;
+                last = name;
+            }
+        }
+        Ok(())
     }
 }

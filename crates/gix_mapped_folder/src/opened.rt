@@ -20,7 +20,7 @@ pub(crate) fn unsupported() -> Error {
 }
 
 /// Puts bytes at the front of a room, as many as it has room for. How many.
-fn put(bytes: &[u8], room: &mut [u8]) -> usize
+pub(crate) fn put(bytes: &[u8], room: &mut [u8]) -> usize
     ensures length { length room.new ≡ length room.old }
     ensures bound { result ≤ length room.old }
 {

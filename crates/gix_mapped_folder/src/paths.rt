@@ -3,8 +3,15 @@ use crate::NamedFile;
 use std::cmp::Ordering;
 
 /// A path without the slashes at its ends. The folder itself has none left.
-pub(crate) fn trimmed(path: &str) -> &[u8] {
-    path.trim_matches('/').as_bytes()
+pub(crate) fn trimmed(path: &[u8]) -> &[u8] {
+    let mut left = path;
+    for _ in 0..path.len() {
+        match left {
+            [b'/', inner @ ..] | [inner @ .., b'/'] => left = inner,
+            _ => break,
+        }
+    }
+    left
 }
 
 /// The file of a path, the first where there are several.

@@ -1,3 +1,4 @@
 mod WordFacts
 mod WithoutMemory
 mod WholeAnswers
+mod NoTip

@@ -26,7 +26,5 @@ numbered e = λ h. omega arith
 
 pub trouble_numbered : (t : Trouble) → (of_trouble t).number ≤ 1 → ⊥
 trouble_numbered (trouble.Command e) = numbered e
-trouble_numbered trouble.Repository = λ h. omega arith
-trouble_numbered (trouble.Revision n) = λ h. omega arith
-trouble_numbered trouble.Objects = λ h. omega arith
-trouble_numbered (trouble.Hash i) = λ h. omega arith
+trouble_numbered (trouble.Steps n e) = numbered e
+trouble_numbered t = λ h. omega arith

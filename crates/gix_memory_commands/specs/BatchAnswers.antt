@@ -1,35 +1,20 @@
--- What a call for a batch of commits answers, and what it leaves in the slices.
-use Rattle.std.specs.Prelude.{◌≡◌, ℕ, nat_eq, List, map, Some, if◌then◌else◌}
+-- What a call for a batch of commits over records answers.
+use Rattle.std.specs.Prelude.{◌≡◌, ℕ, List, map, Some}
 use Rattle.std.specs.Str.Lossy.{utf8_lossy}
 use Rattle.gix_statement.specs.WholeStatement.{AreFed}
 use Rattle.gix_batches.specs.declared.commit.Batch.{Batch}
 use Rattle.gix_batches.specs.declared.commit.Commit.{Commit}
 use Rattle.gix_batches.specs.declared.commit.CommitId.{CommitId}
-use Rattle.gix_batches.specs.declared.commit.Ending.{Ending}
-use Rattle.gix_batches.specs.declared.commit.Ending.TheVariants.{Ended, More, Small, Failed}
-use Rattle.gix_batches.specs.Batches.{Fails, IfFailed, Promises}
+use Rattle.gix_batches.specs.Failing.{Fails, IfFailed}
 use Rattle.gix_memory_commands.specs.declared.answer.Answer.{Answer}
-use Rattle.gix_memory_commands.specs.Answers.{of_fault, of_place}
-use Rattle.gix_memory_commands.specs.Room.{of_length}
+use Rattle.gix_memory_commands.specs.BatchSlices.{PromisesBatch, of_batch}
 use Rattle.gix_memory_commands.specs.WordsOf.{words_of}
 
--- there is no room behind so many commits: for none of them, with the room for parents that is needed
-abbrev pub of_full : (commits needed : ℕ) → Answer
-of_full commits needed = if nat_eq commits 0 then of_place 1 needed else of_length 17 commits
-
-abbrev pub of_ending : (commits : ℕ) → Ending → Answer
-of_ending commits Ended = of_length 0 commits
-of_ending commits More = of_full commits 0
-of_ending commits (Small needed) = of_full commits needed
-of_ending commits (Failed e) = record (of_fault e) { length = commits }
-
-abbrev pub of_batch : Batch → Answer
-of_batch batch = of_ending batch.commits batch.ending
-
--- over a text of words, the bytes of records and the slices that a caller has: which answers a call may give, and what the slices then hold
+-- over a text of words, the bytes of records and the slices that a caller has: which answers a call may give, what the slices then hold, and
+-- why it fails
 pub record AnswersBatch (words records : List ℕ) (skip : ℕ) (old new : List Commit) (before after : List CommitId) (answer : Answer)
     : Type 0 where
   pub batch : Batch
-  pub promises : Promises (map utf8_lossy (words_of words)) (AreFed (Some records)) skip old new before after batch
+  pub promises : PromisesBatch words (AreFed (Some records)) skip old new before after batch
   pub fails : IfFailed (Fails (map utf8_lossy (words_of words)) records) batch.ending
   pub is : answer ≡ of_batch batch

@@ -1,9 +1,10 @@
 -- What a caller finds in its room: the lines that the page promises, where they fit.
-use Rattle.std.specs.Prelude.{◌≡◌, ◌≢◌, ◌≤◌, ℕ, nat_le, List, [], ◌++◌, map, length, drop, replicate, Some, Ok, if◌then◌else◌}
+use Rattle.std.specs.Prelude.{◌≡◌, ◌≢◌, ◌≤◌, ◌⊎◌, ℕ, nat_le, List, [], ◌++◌, map, length, drop, replicate, Some, Ok, if◌then◌else◌}
 use Rattle.std.specs.Str.Lossy.{utf8_lossy}
 use Rattle.gix_statement.specs.WholeStatement.{AreFed, AreNamed, Objects, Promises, Row}
 use Rattle.gix_words.specs.declared.fault.Fault.TheVariants as fault
 use Rattle.gix_memory_commands.specs.declared.answer.Answer.{Answer}
+use Rattle.gix_memory_commands.specs.Nothing.{LinesOfNone}
 use Rattle.gix_memory_commands.specs.WordsOf.{words_of}
 
 -- an answer that names nothing
@@ -36,7 +37,7 @@ PromisesOf AreGiven words lines =
 abbrev pub PromisesOver : (words records lines : List ℕ) → Type 0
 PromisesOver words records = PromisesOf (AreFed (Some records)) words
 
--- over a repository, each of whose ids is the hash of its object
+-- over a repository: some objects, each of whose ids is its hash; that they are those in its files is what the readers do, only tested
 abbrev pub PromisesNamed : (words lines : List ℕ) → Type 0
 PromisesNamed = PromisesOf AreNamed
 
@@ -50,5 +51,6 @@ IsWholeOf IsPromised room answer new =
 abbrev pub IsWhole : (words records room : List ℕ) → Answer → List ℕ → Type 0
 IsWhole words records = IsWholeOf (PromisesOver words records)
 
+-- over a repository; or the words name no tip, since each set in them is empty, and so there is no line, or the number 0
 abbrev pub IsWholeNamed : (words room : List ℕ) → Answer → List ℕ → Type 0
-IsWholeNamed words = IsWholeOf (PromisesNamed words)
+IsWholeNamed words = IsWholeOf (λ lines. PromisesNamed words lines ⊎ LinesOfNone words lines)

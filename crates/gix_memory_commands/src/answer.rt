@@ -1,8 +1,8 @@
 //! What a call answers.
 ghost use Rattle.std.specs.Prelude.{◌≡◌};
 ghost use Rattle.gix_memory_commands.specs.Answers.{of_fault, of_id, of_place, text_of};
-ghost use Rattle.gix_memory_commands.specs.BatchAnswers.{of_batch, of_full};
-ghost use Rattle.gix_memory_commands.specs.FolderAnswers.{of_trouble};
+ghost use Rattle.gix_memory_commands.specs.BatchSlices.{of_batch, of_full};
+ghost use Rattle.gix_memory_commands.specs.FolderAnswers.{of_both, of_trouble};
 ghost use Rattle.gix_memory_commands.specs.Room.{of_length, too_small, well};
 
 use crate::trouble::Trouble;
@@ -16,16 +16,17 @@ use gix_hash::ObjectId;
 pub struct Answer {
     /// 0 where all went well, 1 where the room was too small, or the number of the fault: 2 `Usage`, 3 `Id`, 4 `Record`, 5 `Missing`,
     /// 6 `WrongKind`, 7 `Broken`, 8 `Cycle`, 9 `Memory`, 10 `Read`, 11 `Write`, 12 `Internal`, 13 `Graph`, 14 `Row`, 15 `Disagrees`,
-    /// 16 `Name`. Those from 10 to 15 never come. 17 where a batch of commits is full, and there may be more. Over a repository 18 where the
-    /// files are none, 19 where a revision stands for nothing, 20 where a file of objects is damaged, and 21 where an object is stored for
-    /// the id of another.
+    /// 16 `Name`, 22 `Entries`. Those from 10 to 15 never come. 17 where a batch of commits is full, and there may be more. Those of a
+    /// [`Trouble`] are 18 `Repository`, 19 `Revision`, 20 `Objects`, 21 `Hash`, 23 `NoCommit`, 24 `Form`, 25 `Ambiguous`, 26 `Upstream`,
+    /// 27 `Parent`, 28 `Entry`, 29 `Tags`, 30 `Ref`, 31 `Config`, 32 `Format`, 33 `Extension`, 34 `Reftable`, 35 `PackedRef`, 36 `Shallow`
+    /// and 37 `File`; `Steps` has that of its fault.
     pub number: u32,
     /// How many bytes of `id` are an id: 20 or 32 where the fault names an object, otherwise 0.
     pub id_length: u32,
     /// How many bytes were put into the room, or, where it was too small, how many there are. 0 at a fault. Of a batch, how many commits.
     pub length: usize,
-    /// The number of the word, of the record or of the revision that the fault names, from 1; or of a batch in which not one commit fits the room for
-    /// parents that the next one needs; otherwise 0.
+    /// The number of the word, of the record, of the revision or of the line that the fault names, from 1; or of a batch in which not one commit
+    /// fits the room for parents that the next one needs; otherwise 0.
     pub place: usize,
     /// The id of the object that the fault names, and zeros behind it.
     pub id: [u8; 32],
@@ -80,6 +81,25 @@ impl Answer {
             Trouble::Revision(place) => Answer::of_place(19, place),
             Trouble::Objects => Answer::of_length(20, 0),
             Trouble::Hash(id) => Answer::of_id(21, id),
+            Trouble::NoCommit => Answer::of_length(23, 0),
+            Trouble::Form(place) => Answer::of_place(24, place),
+            Trouble::Ambiguous(place) => Answer::of_place(25, place),
+            Trouble::Upstream(place) => Answer::of_place(26, place),
+            Trouble::Parent(place, id) => Answer::of_both(27, place, id),
+            Trouble::Entry(place, id) => Answer::of_both(28, place, id),
+            Trouble::Tags(place) => Answer::of_place(29, place),
+            Trouble::Steps(place, fault) => Answer {
+                place,
+                ..Answer::of_fault(fault)
+            },
+            Trouble::Ref(place) => Answer::of_place(30, place),
+            Trouble::Config(line) => Answer::of_place(31, line),
+            Trouble::Format => Answer::of_length(32, 0),
+            Trouble::Extension => Answer::of_length(33, 0),
+            Trouble::Reftable => Answer::of_length(34, 0),
+            Trouble::PackedRef(line) => Answer::of_place(35, line),
+            Trouble::Shallow(line) => Answer::of_place(36, line),
+            Trouble::File => Answer::of_length(37, 0),
         }
     }
 
@@ -122,7 +142,7 @@ impl Answer {
         }
     }
 
-    /// An answer that names a word or a record, or a room.
+    /// An answer that names a word, a record, a revision or a line, or a room.
     fn of_place(number: u32, place: usize) -> Answer
         ensures { result ≡ of_place number place }
     {
@@ -132,6 +152,16 @@ impl Answer {
             length: 0,
             place,
             id: [0; 32],
+        }
+    }
+
+    /// The answer of a fault that names a revision and an object.
+    fn of_both(number: u32, place: usize, named: ObjectId) -> Answer
+        ensures { result ≡ of_both number place named }
+    {
+        Answer {
+            place,
+            ..Answer::of_id(number, named)
         }
     }
 
@@ -190,6 +220,21 @@ pub fn text_of(number: u32) -> &'static str
         20 => "damaged files of objects",
         21 => "another object than the id's",
         22 => "too many entries",
+        23 => "no commit yet",
+        24 => "revision of a form not taken",
+        25 => "ambiguous revision",
+        26 => "no upstream",
+        27 => "no such parent",
+        28 => "no such entry",
+        29 => "too many tags",
+        30 => "broken ref",
+        31 => "bad config line",
+        32 => "unknown format of repository",
+        33 => "unknown extension",
+        34 => "refs in a reftable",
+        35 => "bad packed ref",
+        36 => "bad line of shallow",
+        37 => "damaged file of repository",
         _ => "unknown fault",
     }
 }

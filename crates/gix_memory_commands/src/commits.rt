@@ -1,5 +1,6 @@
 //! Commits in batches.
 ghost use Rattle.gix_memory_commands.specs.BatchAnswers.{AnswersBatch};
+ghost use Rattle.gix_memory_commands.specs.BatchSlices.{IsBatch};
 
 use crate::answer::Answer;
 use crate::words::words_of;
@@ -24,7 +25,9 @@ pub fn commits_over_bytes(
     commits: &mut [Commit],
     parents: &mut [CommitId],
 ) -> Answer
-    ensures { AnswersBatch words.now records.now skip commits.old commits.new parents.old parents.new result }
+    ensures answers { AnswersBatch words.now records.now skip commits.old commits.new parents.old parents.new result }
+    // What the slices hold, from lists of bytes up.
+    ensures whole { IsBatch words.now records.now skip commits.old commits.new parents.old parents.new result }
 {
     match words_of(alloc, words) {
         Ok(words) => {

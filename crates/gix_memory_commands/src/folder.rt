@@ -1,10 +1,13 @@
 //! The commands over a repository whose files are in memory.
 ghost use Rattle.std.specs.Prelude.{◌≡◌, IfOk, IfErr};
-ghost use Rattle.gix_memory_commands.specs.FolderAnswers.{AnswersFolder, GivesFolder, IsWholeText};
+ghost use Rattle.gix_statement.specs.WholeStatement.{AreNamed};
+ghost use Rattle.gix_memory_commands.specs.BatchSlices.{PromisesBatch};
+ghost use Rattle.gix_memory_commands.specs.FolderAnswers.{AnswersFolder, IsWholeText};
 ghost use Rattle.gix_memory_commands.specs.Room.{IsWholeNamed, PromisesNamed};
 
 use crate::answer::Answer;
 use crate::list::batch;
+use crate::none::{check_none, lines_of_none};
 use crate::put_lines;
 use crate::trouble::Trouble;
 use crate::words::words_of;
@@ -26,6 +29,8 @@ const TOP: &str = "/";
 /// of [`run_over_bytes`](crate::run_over_bytes), with ids. The files are those of the repository's folder, in any order, each by its path
 /// below it; of several of one path the first counts. As many objects are read as the command needs, and each is compared with its id.
 ///
+/// Words that name no tip, as [`resolve_in_folder`] gives them where each set is empty, have no line, or with `--count` the number 0.
+///
 /// # Errors
 /// The number of the fault. The room is as it was.
 pub fn run_over_folder(
@@ -39,6 +44,10 @@ pub fn run_over_folder(
 {
     match folder_lines(alloc, words, files) {
         Ok(lines) => put_lines(lines.as_slice(), room),
+        Err(Trouble::Command(Fault::Usage)) => match lines_of_none(alloc, words) {
+            Ok(lines) => put_lines(lines.as_bytes(), room),
+            Err(fault) => Answer::of_fault(fault),
+        },
         Err(trouble) => Answer::of_trouble(trouble),
     }
 }
@@ -56,16 +65,21 @@ pub fn commits_over_folder(
     commits: &mut [Commit],
     parents: &mut [CommitId],
 ) -> Answer
-    ensures { AnswersFolder words.now skip commits.old commits.new parents.old parents.new result }
+    ensures whole { AnswersFolder words.now skip commits.old commits.new parents.old parents.new result }
 {
     match folder_batch(alloc, words, files, skip, commits, parents) {
         Ok(batch) => Answer::of_batch(batch),
+        Err(Trouble::Command(Fault::Usage)) => match check_none(alloc, words) {
+            Ok(()) => Answer::well(0),
+            Err(fault) => Answer::of_fault(fault),
+        },
         Err(trouble) => Answer::of_trouble(trouble),
     }
 }
 
 /// Puts the words of a command at the front of the room in which each revision is replaced by the ids that it stands for, with a newline
-/// between two words. The words may have revisions as the program takes them: `main~2`, `^v1.0`, `A..B`, `A...B`, `--all`.
+/// between two words. The words may have revisions as the program takes them: `main~2`, `^v1.0`, `A..B`, `A...B`, `--all`. A set of refs may be
+/// empty, and then stands for no id.
 ///
 /// # Errors
 /// The number of the fault. The room is as it was.
@@ -95,7 +109,7 @@ fn folder_lines(alloc: Global, words: &[u8], files: &[NamedFile<'_>]) -> Result<
     let mut part = Part::of_command(alloc, Keys::KNOWN, &command, None)?;
     let odb = &mut repository.odb;
     let mut silent = Silent;
-    let answered = answer(&words, &mut part, odb, None, &mut silent)?;
+    let answered = answer(&command, &mut part, odb, None, &mut silent)?;
     match answered.ended {
         Ok(()) => Ok(answered.lines),
         Err(Fault::Write) => Err(Trouble::Command(Fault::Memory)),
@@ -112,7 +126,7 @@ fn folder_batch(
     commits: &mut [Commit],
     parents: &mut [CommitId],
 ) -> Result<Batch, Trouble>
-    ensures gives { IfOk result (GivesFolder words.now skip commits.old commits.new parents.old parents.new) }
+    ensures gives { IfOk result (PromisesBatch words.now AreNamed skip commits.old commits.new parents.old parents.new) }
     ensures commits_stay { IfErr result (λ e. commits.new ≡ commits.old) }
     ensures parents_stay { IfErr result (λ e. parents.new ≡ parents.old) }
 {
@@ -124,7 +138,7 @@ fn folder_batch(
     let most = commits.len().saturating_add(skip as usize);
     let mut part = Part::of_command(alloc, Keys::KNOWN, &command, Some(most))?;
     let odb = &mut repository.odb;
-    let given = batch(&words, &mut part, odb, skip, commits, parents)?;
+    let given = batch(&command, &mut part, odb, skip, commits, parents)?;
     Ok(given)
 }
 
@@ -140,9 +154,6 @@ fn folder_words(alloc: Global, words: &[u8], files: &[NamedFile<'_>]) -> Result<
     let folder = Mapped::new(alloc, sorted.as_slice());
     let mut repository = Repository::open(&folder, TOP)?;
     let mut chosen = choose(alloc, &mut repository, &question, &[])?;
-    if chosen.tips.is_empty() {
-        return Err(Trouble::Revision(0));
-    }
     if question.name != Name::Ahead {
         chosen.exclude_read(alloc, Keys::KNOWN, &mut repository.odb)?;
     }

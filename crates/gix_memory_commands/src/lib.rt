@@ -17,6 +17,7 @@ mod answer;
 mod commits;
 mod folder;
 mod list;
+mod none;
 mod trouble;
 mod words;
 

@@ -69,11 +69,20 @@ fn extend(
 ///     Ok(store)
 /// }
 /// ```
-#[derive(Drop)]
 pub struct MemoryStore<'a> {
     objects: IdMap<Stored>,
     bytes: CowSlice<'a, u8, Global>,
     alloc: Global,
+}
+
+impl<'a> Drop for MemoryStore<'a> {
+    fn drop(self) {
+        let MemoryStore {
+            objects: _,
+            bytes: _,
+            alloc: _,
+        } = self;
+    }
 }
 
 impl<'a> Model for MemoryStore<'a> {

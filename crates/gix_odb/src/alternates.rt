@@ -16,7 +16,6 @@ const MOST_LEVELS: u32 = 6;
 const MOST_BYTES: u64 = 1 << 24;
 
 /// A folder of objects.
-#[derive(Drop)]
 pub(crate) struct Folder {
     /// Its path.
     pub path: String,
@@ -24,13 +23,27 @@ pub(crate) struct Folder {
     level: u32,
 }
 
+impl Drop for Folder {
+    fn drop(self) {
+        let Folder { path: _, level: _ } = self;
+    }
+}
+
 /// Folders whose objects are read.
-#[derive(Drop)]
 pub(crate) struct Borrowed {
     /// The folders, in the order in which they were met.
     pub all: Vec<Folder>,
     /// The files of alternates that nothing was read of, since they are too many levels away.
     pub too_deep: Vec<String>,
+}
+
+impl Drop for Borrowed {
+    fn drop(self) {
+        let Borrowed {
+            all: _,
+            too_deep: _,
+        } = self;
+    }
 }
 
 /// The folder and those whose objects it borrows, each once. One that isn't there, or is too many levels away, is passed over, as in git.

@@ -23,19 +23,37 @@ pub(crate) struct Place {
 }
 
 /// An object that is kept, if there is a place.
-#[derive(Drop)]
 struct Slot {
     place: Option<Place>,
     kind: Kind,
     bytes: Vec<u8>,
 }
 
+impl Drop for Slot {
+    fn drop(self) {
+        let Slot {
+            place: _,
+            kind: _,
+            bytes: _,
+        } = self;
+    }
+}
+
 /// Objects that are kept. Each place has one slot, which it shares with others.
-#[derive(Drop)]
 pub(crate) struct Bases {
     alloc: Global,
     slots: Vec<Slot>,
     kept: usize,
+}
+
+impl Drop for Bases {
+    fn drop(self) {
+        let Bases {
+            alloc: _,
+            slots: _,
+            kept: _,
+        } = self;
+    }
 }
 
 impl Bases {

@@ -40,7 +40,6 @@ const MOST_LISTINGS: u32 = 64;
 const MOST_LOOSE: u64 = (1 << 28) + (1 << 20);
 
 /// A folder of objects. Its files are opened as they are needed.
-#[derive(Drop)]
 pub struct Odb<R: Files> {
     rt: R,
     kind: gix_hash::Kind,
@@ -59,6 +58,24 @@ pub struct Odb<R: Files> {
     /// How many copies of the object are still to be passed over.
     passed: usize,
     work: Work,
+}
+
+impl<R: Files + Drop> Drop for Odb<R> {
+    fn drop(self) {
+        let Odb {
+            rt: _,
+            kind: _,
+            folders: _,
+            packs: _,
+            last: _,
+            now: _,
+            open: _,
+            indexes: _,
+            listings: _,
+            passed: _,
+            work: _,
+        } = self;
+    }
 }
 
 impl<R: Files + AllocGlobal + Clone + Drop> Odb<R>

@@ -8,12 +8,17 @@ use std::io::{self, ErrorKind};
 use std::os::unix::fs::FileExt;
 
 /// The packs of all folders, in the order in which they were met.
-#[derive(Drop)]
 pub(crate) struct Packs<F: Drop> {
     /// The packs.
     pub all: Vec<Pack<F>>,
     /// The paths of their files, up to the dot.
     stems: BTreeSet<String>,
+}
+
+impl<F: Drop> Drop for Packs<F> {
+    fn drop(self) {
+        let Packs { all: _, stems: _ } = self;
+    }
 }
 
 impl<F: FileExt + Drop> Packs<F> {

@@ -54,10 +54,15 @@ fn in_index(damage: Damage) -> Trouble {
 }
 
 /// An index, and its file.
-#[derive(Drop)]
 struct Paged<F: Drop> {
     index: Index,
     pages: Pages<F>,
+}
+
+impl<F: Drop> Drop for Paged<F> {
+    fn drop(self) {
+        let Paged { index: _, pages: _ } = self;
+    }
 }
 
 impl<F: FileExt + Drop> Paged<F> {
@@ -96,7 +101,6 @@ impl<F: FileExt + Drop> Paged<F> {
 }
 
 /// What is known of an index.
-#[derive(Drop)]
 enum State<F: Drop> {
     /// It wasn't asked for.
     Unread,
@@ -108,13 +112,33 @@ enum State<F: Drop> {
     Gone,
 }
 
+impl<F: Drop> Drop for State<F> {
+    fn drop(self) {
+        match self {
+            State::Unread => {}
+            State::Ready(_) => {}
+            State::Broken(_) => {}
+            State::Gone => {}
+        }
+    }
+}
+
 /// A pack with its index.
-#[derive(Drop)]
 pub(crate) struct Pack<F: Drop> {
     /// The path of both files, up to the dot.
     pub stem: String,
     state: State<F>,
     opened: Option<Opened<F>>,
+}
+
+impl<F: Drop> Drop for Pack<F> {
+    fn drop(self) {
+        let Pack {
+            stem: _,
+            state: _,
+            opened: _,
+        } = self;
+    }
 }
 
 /// What the stream of an entry has.

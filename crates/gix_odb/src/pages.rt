@@ -11,7 +11,6 @@ use std::os::unix::fs::FileExt;
 const PAGE: usize = 1 << 14;
 
 /// A file whose pages are read when they are asked for the first time, and kept.
-#[derive(Drop)]
 pub(crate) struct Pages<F: Drop> {
     alloc: Global,
     /// The file, unless all of it was read.
@@ -22,6 +21,18 @@ pub(crate) struct Pages<F: Drop> {
     pages: Vec<Vec<u8>>,
     /// Why a page wasn't read.
     damage: Option<Damage>,
+}
+
+impl<F: Drop> Drop for Pages<F> {
+    fn drop(self) {
+        let Pages {
+            alloc: _,
+            file: _,
+            len: _,
+            pages: _,
+            damage: _,
+        } = self;
+    }
 }
 
 impl<F: FileExt + Drop> Pages<F> {

@@ -28,9 +28,14 @@ pub(crate) fn most_of(stream: u64) -> u64 {
 }
 
 /// Room that grows and stays.
-#[derive(Drop)]
 pub(crate) struct Room {
     bytes: Vec<u8>,
+}
+
+impl Drop for Room {
+    fn drop(self) {
+        let Room { bytes: _ } = self;
+    }
 }
 
 impl Room {
@@ -57,7 +62,6 @@ struct Step {
 }
 
 /// Room for one object after the other.
-#[derive(Drop)]
 pub(crate) struct Work {
     /// Codes of blocks.
     pub inflater: Inflater,
@@ -76,6 +80,22 @@ pub(crate) struct Work {
     pub bases: Bases,
     /// How many bytes may still be inflated and copied.
     left: u64,
+}
+
+impl Drop for Work {
+    fn drop(self) {
+        let Work {
+            inflater: _,
+            stream: _,
+            room: _,
+            out: _,
+            made: _,
+            deltas: _,
+            steps: _,
+            bases: _,
+            left: _,
+        } = self;
+    }
 }
 
 impl Work {

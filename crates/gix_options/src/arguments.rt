@@ -1,10 +1,9 @@
 //! Arguments that ask something of a repository.
 ghost use Rattle.std.specs.Prelude.{◌≡◌, ◌+◌, ◌≤◌, ◌<◌, length};
 
-use crate::date::number;
 use crate::hint::{of_command, of_option};
 use crate::lines::{fault_of, misuse_of};
-use crate::options::{is_number, takes_value, text_of};
+use crate::options::{number_in, takes_value};
 use crate::{Asked, Asks, Misuse, Name, Options, Place, Question, Refs, Rows};
 use std::alloc::{AllocError, Global};
 use std::mem;
@@ -75,7 +74,7 @@ pub fn read_question(alloc: Global, place: Place, words: &[String]) -> Result<Qu
 }
 
 /// Whether an argument says where a repository is.
-fn names_place(word: &str) -> bool {
+pub(crate) fn names_place(word: &str) -> bool {
     word == "-C" || word == "--git-dir" || word.starts_with("--git-dir=")
 }
 
@@ -176,10 +175,10 @@ impl Arguments {
             return Ok(true);
         }
         let number = word.strip_prefix('-').unwrap_or_default();
-        if !is_number(number, 9) {
+        let Some(limit) = number_in(number) else {
             return Ok(false);
-        }
-        self.set("-n", number)?;
+        };
+        self.options.limit = Some(limit);
         Ok(true)
     }
 
@@ -218,31 +217,13 @@ impl Arguments {
         value: Option<&str>,
         behind: &'a [String],
     ) -> Result<&'a [String], Misuse> {
-        if let Some(value) = value {
-            self.set(option, value)?;
-            return Ok(behind);
-        }
-        match behind {
-            [value, behind @ ..] => {
-                self.set(option, value.as_str())?;
-                Ok(behind)
-            }
-            [] => {
-                self.set(option, "")?;
-                Ok(behind)
-            }
-        }
-    }
-
-    /// Takes the value of an option. A negative number of lines is no limit.
-    fn set(&mut self, option: &str, value: &str) -> Result<(), Misuse> {
-        if matches!(option, "-n" | "--max-count") && is_negative(value) {
-            self.options.limit = None;
-            return Ok(());
-        }
-        let text = text_of(self.alloc, option, value)?;
-        *self.options.place_of(option) = Some(text);
-        Ok(())
+        let (value, behind) = match (value, behind) {
+            (Some(value), behind) => (value, behind),
+            (None, [value, behind @ ..]) => (value.as_str(), behind),
+            (None, []) => ("", behind),
+        };
+        self.options.take_value(self.alloc, option, value)?;
+        Ok(behind)
     }
 
     /// Reads a word that is no option: the command, or a revision.
@@ -288,7 +269,7 @@ impl Arguments {
         self.check_options(name)?;
         self.check_number(name)?;
         if self.options.as_json {
-            self.options.take_json(self.alloc, name)?;
+            self.options.take_json(name);
         }
         match self.place.take() {
             Some(place) => Ok(Asks::Question(self.question(place, name))),
@@ -474,10 +455,10 @@ fn with_value(word: &str) -> (&str, Option<&str>) {
     }
 }
 
-/// Whether a word is a number below 0 of at most 9 digits.
-fn is_negative(word: &str) -> bool {
-    match word.strip_prefix('-') {
-        Some(digits) => is_number(digits, 9) && number(digits.as_bytes()) != Some(0),
-        None => false,
+/// Whether the word behind this one is its value.
+pub(crate) fn needs_value(word: &str) -> bool {
+    match with_value(word) {
+        (_, Some(_)) => false,
+        (option, None) => takes_value(option) || option == "-C" || option == "--git-dir",
     }
 }

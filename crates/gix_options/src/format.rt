@@ -1,21 +1,22 @@
-//! What is wrong with a format.
+//! The format that a text is, or what is wrong with it.
 use crate::Misuse;
-use std::alloc::{AllocError, Global};
+use gix_words::Format;
+use std::alloc::Global;
 
-/// The most bytes of a format.
-const MOST: usize = 128;
-
-/// Why a text is no format that a line may have: it is empty, or too long, or else its first field that isn't known.
-pub(crate) fn format_fault(alloc: Global, text: &str) -> Result<Option<Misuse>, AllocError> {
+/// The format that a text is.
+///
+/// # Errors
+/// Why it is none that a line may have: it is empty, or too long, or has a field that isn't known, of which the first is named. `Memory`.
+pub(crate) fn format_of(alloc: Global, text: &str) -> Result<Format, Misuse> {
     if text.is_empty() {
-        return Ok(Some(Misuse::NoFormat));
+        return Err(Misuse::NoFormat);
     }
-    if text.len() > MOST {
-        return Ok(Some(Misuse::LongFormat(text.len())));
+    if let Some(format) = Format::read(text.as_bytes()) {
+        return Ok(format);
     }
     match unknown_field(text) {
-        Some(field) => Ok(Some(Misuse::Field(String::from_str(alloc, field)?))),
-        None => Ok(None),
+        Some(field) => Err(Misuse::Field(String::from_str(alloc, field)?)),
+        None => Err(Misuse::LongFormat(text.len())),
     }
 }
 

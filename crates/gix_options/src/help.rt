@@ -159,6 +159,7 @@ Each object that is read is compared with its id. A damaged one is a fault, and 
 the first five commands have listed the commits before it, and nothing with --reverse and --count, and the others nothing. newest and
 oldest look whether each parent of a commit that they have met is there, except behind the last line that -n allows. files refuses a tree
 with a name that is empty or holds a slash, and without -n one of more than 268435456 entries, with those of the trees in it.
+Over records, whose ids needn't be hashes, topo and date leave out commits that are their own ancestors, and all that these reach.
 
   -C FOLDER    takes the repository of this folder, or of the nearest one above it that has one; no variable names another
   --git-dir FOLDER

@@ -7,10 +7,12 @@ mod format;
 mod help;
 mod hint;
 mod lines;
+mod list;
 mod misuse;
 mod name;
 mod options;
 mod question;
+mod words;
 
 pub use arguments::{read_arguments, read_question};
 pub use help::{COMMANDS, Command, NOTES, USAGE, VERSION, WHAT, help_of};
@@ -19,3 +21,4 @@ pub use misuse::Misuse;
 pub use name::Name;
 pub use options::{Options, Rows};
 pub use question::{Asked, Asks, Place, Question, Refs};
+pub use words::words_of;

@@ -1,8 +1,8 @@
 //! Words that are to be revisions, and lines of standard input that are.
 use crate::Misuse;
 use crate::misuse::LineFault;
+use crate::words::word_of;
 use std::alloc::{AllocError, Global};
-use std::str;
 
 /// What is wrong with a word that is to be a revision, whatever the repository has.
 pub(crate) fn fault_of(word: &str) -> Option<LineFault> {
@@ -27,7 +27,7 @@ pub(crate) fn misuse_of(alloc: Global, word: &str, fault: LineFault) -> Result<M
     })
 }
 
-/// The revisions that the lines of a text are. The last line need not end in a newline. An empty text has no line.
+/// The revisions that the lines of a text are, as words like those of [`words_of`](crate::words_of). The last line need not end in a newline. An empty text has no line.
 ///
 /// # Errors
 ///
@@ -46,13 +46,13 @@ pub fn read_lines(alloc: Global, text: &[u8]) -> Result<Vec<String>, Misuse> {
         let number = lines.len().saturating_add(1);
         let line = rest.get(..end).unwrap_or_default();
         rest = rest.get(end.saturating_add(1)..).unwrap_or_default();
-        let Ok(line) = str::from_utf8(line) else {
+        let Some(line) = word_of(alloc, line)? else {
             return Err(Misuse::Line(number, LineFault::NotText));
         };
-        if let Some(fault) = fault_of(line) {
+        if let Some(fault) = fault_of(line.as_str()) {
             return Err(Misuse::Line(number, fault));
         }
-        lines.push(String::from_str(alloc, line)?)?;
+        lines.push(line)?;
     }
     Ok(lines)
 }

@@ -1,5 +1,6 @@
 //! Why arguments are no question.
 use crate::Name;
+use gix_refs::Quoted;
 use std::alloc::{AllocError, AllocFailed};
 use thiserror::Error;
 
@@ -84,9 +85,9 @@ pub enum Misuse {
     /// Behind `--certificate` its file is missing.
     #[error("--certificate needs a file")]
     NoFile,
-    /// An argument isn't UTF-8.
-    #[error("an argument isn't UTF-8")]
-    Arguments,
+    /// This argument isn't UTF-8, and can't be a revision that begins with the name of a ref.
+    #[error("{0:?} isn't UTF-8, and only a revision by the name of a ref may be so")]
+    Arguments(Quoted),
     /// Memory ran out.
     #[error("out of memory")]
     Memory,

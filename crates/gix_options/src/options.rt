@@ -1,9 +1,10 @@
 //! The options of a question, and the values that they take.
 
 use crate::date::{number, seconds_of};
-use crate::format::format_fault;
+use crate::format::format_of;
 use crate::{Misuse, Name};
-use std::alloc::{AllocError, Global};
+use gix_words::Format;
+use std::alloc::Global;
 
 /// What a line of a list of commits says with `--json`, by `--format`: of its lines each but the last is a member of the object.
 const JSON_FORMAT: &str = "%H%n%T%n%P%n%ct%n%an%n%ae%n%s";
@@ -20,7 +21,6 @@ pub enum Rows {
 }
 
 /// What the options say.
-#[derive(Debug)]
 pub struct Options {
     /// When git's commit-graph is used.
     pub rows: Rows,
@@ -30,24 +30,24 @@ pub struct Options {
     pub is_verbose: bool,
     /// Whether only first parents are walked.
     pub by_first_parents: bool,
-    /// The digits of the least time, in seconds since 1970.
-    pub since: Option<String>,
-    /// The digits of the greatest time of a commit that is listed.
-    pub until: Option<String>,
+    /// The least time, in seconds since 1970, of at most 10 digits.
+    pub since: Option<i64>,
+    /// The greatest time of a commit that is listed, of at most 10 digits.
+    pub until: Option<i64>,
     /// Whether only commits of two parents at least are listed.
     pub merges: bool,
     /// Whether only commits of one parent at most are listed.
     pub no_merges: bool,
-    /// The digits of the number of lines that are left out first.
-    pub skip: Option<String>,
-    /// The digits of the most lines.
-    pub limit: Option<String>,
+    /// How many lines are left out first, of at most 9 digits.
+    pub skip: Option<u64>,
+    /// How many lines are written at most, of at most 9 digits.
+    pub limit: Option<u64>,
     /// Whether only the number of lines is written.
     pub counts: bool,
     /// Whether the last line comes first.
     pub is_reversed: bool,
     /// What a line says of its commit, in place of the id.
-    pub format: Option<String>,
+    pub format: Option<Format>,
     /// Whether a line begins with the committer's seconds.
     pub gives_time: bool,
     /// Whether a line has the ids of the parents.
@@ -147,16 +147,27 @@ impl Options {
         true
     }
 
-    /// The place of an option's value.
-    pub(crate) fn place_of(&mut self, option: &str) -> &mut Option<String> {
+    /// Takes an option's value.
+    pub(crate) fn take_value(
+        &mut self,
+        alloc: Global,
+        option: &str,
+        value: &str,
+    ) -> Result<(), Misuse> {
         match option {
-            "-n" | "--max-count" => &mut self.limit,
-            "--skip" => &mut self.skip,
-            "--certificate" => &mut self.certificate,
-            "--format" => &mut self.format,
-            "--since" | "--after" => &mut self.since,
-            _ => &mut self.until,
+            // A number of lines below 0 is no limit.
+            "-n" | "--max-count" if is_negative(value) => self.limit = None,
+            "-n" | "--max-count" => self.limit = Some(number_in(value).ok_or(Misuse::Limit)?),
+            "--skip" => self.skip = Some(number_in(value).ok_or(Misuse::Skip)?),
+            "--certificate" if value.is_empty() => return Err(Misuse::NoFile),
+            "--certificate" => self.certificate = Some(String::from_str(alloc, value)?),
+            "--format" => self.format = Some(format_of(alloc, value)?),
+            "--since" => self.since = Some(seconds_behind("--since", value)?),
+            "--after" => self.since = Some(seconds_behind("--after", value)?),
+            "--until" => self.until = Some(seconds_behind("--until", value)?),
+            _ => self.until = Some(seconds_behind("--before", value)?),
         }
+        Ok(())
     }
 
     /// An option that goes with lists of commits alone, if there is one.
@@ -210,49 +221,22 @@ impl Options {
     }
 
     /// Has the lines of a command say what their objects have, each up to a byte 0, which no text that a format writes has, and no path.
-    pub(crate) fn take_json(&mut self, alloc: Global, name: Name) -> Result<(), AllocError> {
+    pub(crate) fn take_json(&mut self, name: Name) {
         if name.is_list() && !self.counts {
-            self.format = Some(String::from_str(alloc, JSON_FORMAT)?);
+            self.format = Format::read(JSON_FORMAT.as_bytes());
             self.ends_in_zero = true;
         }
         if name == Name::Files {
             self.ends_in_zero = true;
         }
-        Ok(())
     }
 }
 
-/// What is kept of an option's value: it, or of a time the digits.
-pub(crate) fn text_of(alloc: Global, option: &str, value: &str) -> Result<String, Misuse> {
-    let is_right = match option {
-        "-n" | "--max-count" | "--skip" => is_number(value, 9),
-        "--certificate" => !value.is_empty(),
-        "--format" => match format_fault(alloc, value)? {
-            Some(misuse) => return Err(misuse),
-            None => true,
-        },
-        _ => return digits_of(alloc, option, value),
-    };
-    if is_right {
-        return Ok(String::from_str(alloc, value)?);
-    }
-    Err(match option {
-        "--skip" => Misuse::Skip,
-        "--certificate" => Misuse::NoFile,
-        _ => Misuse::Limit,
-    })
-}
-
-/// The digits of a time.
-fn digits_of(alloc: Global, option: &str, value: &str) -> Result<String, Misuse> {
-    match seconds_of(value) {
-        Some(seconds) => Ok(format!(in alloc; "{seconds}")?),
-        None => Err(Misuse::Time(match option {
-            "--since" => "--since",
-            "--after" => "--after",
-            "--until" => "--until",
-            _ => "--before",
-        })),
+/// The seconds that the value of this option says.
+fn seconds_behind(option: &'static str, value: &str) -> Result<i64, Misuse> {
+    match seconds_of(value).map(i64::try_from) {
+        Some(Ok(seconds)) => Ok(seconds),
+        _ => Err(Misuse::Time(option)),
     }
 }
 
@@ -271,7 +255,18 @@ pub(crate) fn takes_value(option: &str) -> bool {
     )
 }
 
-/// Whether a word is 1 to so many decimal digits.
-pub(crate) fn is_number(word: &str, most: usize) -> bool {
-    !word.is_empty() && word.len() <= most && number(word.as_bytes()).is_some()
+/// The number that 1 to 9 decimal digits write.
+pub(crate) fn number_in(word: &str) -> Option<u64> {
+    if word.is_empty() || word.len() > 9 {
+        return None;
+    }
+    number(word.as_bytes())
+}
+
+/// Whether a word is a number below 0 of at most 9 digits.
+fn is_negative(word: &str) -> bool {
+    match word.strip_prefix('-') {
+        Some(digits) => number_in(digits).is_some_and(|number| number > 0),
+        None => false,
+    }
 }

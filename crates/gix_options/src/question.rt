@@ -40,7 +40,6 @@ pub enum Asked {
 }
 
 /// What is asked of a repository.
-#[derive(Debug)]
 pub struct Question {
     /// Where it is.
     pub place: Place,

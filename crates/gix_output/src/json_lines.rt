@@ -10,7 +10,6 @@ use std::alloc::{AllocError, Global};
 use std::io::{self, ErrorKind, Write};
 
 /// A writer that takes lines of a shape, and writes each as JSON once it has ended.
-#[derive(Drop)]
 pub struct JsonLines<W: Drop> {
     alloc: Global,
     writer: W,
@@ -21,6 +20,19 @@ pub struct JsonLines<W: Drop> {
     line: Vec<u8>,
     /// Whether memory ran out for a line.
     pub ran_out: bool,
+}
+
+impl<W: Drop> Drop for JsonLines<W> {
+    fn drop(self) {
+        let JsonLines {
+            alloc: _,
+            writer: _,
+            shape: _,
+            end: _,
+            line: _,
+            ran_out: _,
+        } = self;
+    }
 }
 
 impl<W: Write + Drop> JsonLines<W> {

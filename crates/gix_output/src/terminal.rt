@@ -63,12 +63,21 @@ fn last_or(before: u8, bytes: &[u8]) -> u8
 }
 
 /// A writer to a terminal, for which [`add_quoted`] quotes what is written.
-#[derive(Drop)]
 pub struct Quoting<W: Drop> {
     alloc: Global,
     writer: W,
     /// The last byte that was taken.
     last: u8,
+}
+
+impl<W: Drop> Drop for Quoting<W> {
+    fn drop(self) {
+        let Quoting {
+            alloc: _,
+            writer: _,
+            last: _,
+        } = self;
+    }
 }
 
 impl<W: Write + Drop> Quoting<W> {

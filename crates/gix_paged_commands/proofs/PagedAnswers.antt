@@ -39,7 +39,7 @@ use Rattle.gix_commands.proofs.DrawnShown.{base_found, shown_given}
 use Rattle.gix_commands.proofs.RowsAsTexts.{from_map}
 use Rattle.gix_commands.proofs.SameDescents.{name_down}
 use Rattle.gix_commands.proofs.SameWords.{are_words, AreWordsOf, IsNameOf, IsOptionOf}
-use Rattle.gix_paged_commands.specs.Decided.{FirstAbove, DecidesWords, DecidesRequest, DrawsAbove}
+use Rattle.gix_paged_commands.specs.Decided.{FirstAbove, DecidesRequest, DrawsAbove}
 use Rattle.gix_paged_commands.proofs.CutHistory.{Below, is_cut, is_history, known, not_below, there_on}
 use Rattle.gix_paged_commands.proofs.FirstDrawn.{begun_down}
 
@@ -251,8 +251,8 @@ module _ (words : List (List ℕ)) (stored : Objects) (pages : Pages) (graph : L
       )
   bases_above request are d n one others is tips = absurd (omega (arith, n))
 
-  decided : DecidesWords Above every graph words → IsDecided Low so_far time words
-  decided (request, is_asked, d) = record {
+  decided : (request : Request) → request_of words ≡ Ok request → DecidesRequest Above every graph request → IsDecided Low so_far time words
+  decided request is_asked d = record {
     lists = λ is named chooses follows. listed_above request are d is named chooses follows;
     ahead = λ is s t. ahead_above request are d (is_of 1 (codes "ahead") is_ahead _ is) is s t;
     contains = λ tip ids is tips. contained_above request are d (is_of 2 (codes "contains") is_contained _ is) tip ids is tips;
@@ -266,27 +266,26 @@ module _ (words : List (List ℕ)) (stored : Objects) (pages : Pages) (graph : L
       is_of : (n : ℕ) (name : List ℕ) → ((rest : List (List ℕ)) → IsOf n (request_of (name ∷ rest))) → (rest : List (List ℕ)) → words ≡ name ∷ rest → number_of request ≡ n
       is_of n name each rest is = subst (IsOf n) (ap request_of (sym is) ∙ is_asked) (each rest)
 
-  right : (lines : List ℕ) → DecidesWords Above every graph words → Serves (page_objects stored) (page_rows graph) so_far time (Some []) (Some lines) words
+  right : (lines : List ℕ) (request : Request) → request_of words ≡ Ok request → DecidesRequest Above every graph request → Serves (page_objects stored) (page_rows graph) so_far time (Some []) (Some lines) words
       → Serves (page_objects stored) rows parents time (Some []) (Some lines) words
-  right lines d s = serves_cut (page_objects stored) rows (page_rows graph)
+  right lines request asked d s = serves_cut (page_objects stored) rows (page_rows graph)
       (there_on pages graph least graph_rows part layers generation read (page_objects stored) consistent agree parents time history)
       Low parents so_far time (is_cut pages graph least graph_rows part layers generation read (page_objects stored) consistent agree parents time history)
-      (Some []) (Some lines) words (decided d) s
+      (Some []) (Some lines) words (decided request asked d) s
 
-pub answers_over : (words : List (List ℕ)) (stored : Objects) (pages : Pages) (graph : List GraphRow) (least : ℕ) (lines : List ℕ)
+pub answers_over : (words : List (List ℕ)) (request : Request) → request_of words ≡ Ok request → (stored : Objects) (pages : Pages) (graph : List GraphRow) (least : ℕ) (lines : List ℕ)
     → AreGraphRows graph → ArePart pages graph least
-    → RunsStored words stored graph (Some []) (Ok tt) (Some lines)
+    → RunsStored request stored graph (Some []) (Ok tt) (Some lines)
     → Promises fault.Write words (λ given rows. AreNamed given × (given ≡ page_objects stored) × AreRows graph rows) (Some []) (Ok tt) (Some lines)
-    → DecidesWords (IsAbove pages graph least) (readable false (with_rows graph stored)) graph words
-    → AnswersOver words pages lines
-answers_over words stored pages graph least lines graph_rows part (served request is sound stored_agree s) (given, told, (named, same, (whole, told_is)), agree, each) d =
+    → DecidesRequest (IsAbove pages graph least) (readable false (with_rows graph stored)) graph request
+    → AnswersOver (page_objects stored) words pages lines
+answers_over words request asked stored pages graph least lines graph_rows part (served sound stored_agree s) (given, told, (named, same, (whole, told_is)), agree, each) d =
     let agreed : Agree (page_objects stored) (page_rows graph) = subst (λ (T : Type 0). T) (λ k. Agree (same k) (told_is k)) agree in
     let serve : InEach (page_objects stored) (page_rows graph) (λ parents time. Serves (page_objects stored) (page_rows graph) parents time (Some []) (Some lines) words) =
     subst (λ (T : Type 0). T) (λ k. InEach (same k) (told_is k) (λ parents time. Serves (same k) (told_is k) parents time (Some []) (Some lines) words)) each in (
-      page_objects stored,
       subst AreNamed same named,
       λ layers generation files sound_layers consistent parents time history.
           let read : ArePaged pages layers generation = record { files = files; sound = sound_layers } in
-          right words stored pages graph least graph_rows part sound stored_agree agreed layers generation read consistent parents time history lines d
+          right words stored pages graph least graph_rows part sound stored_agree agreed layers generation read consistent parents time history lines request asked d
           (serve (known graph least parents) time (is_history pages graph least graph_rows part layers generation read (page_objects stored) consistent agreed parents time history)),
     )

@@ -18,7 +18,7 @@ use Rattle.gix_words.specs.declared.words.Merges.TheVariants as merges
 use Rattle.gix_words.specs.declared.words.Order.{Order}
 use Rattle.gix_words.specs.declared.words.Order.TheVariants.{Simple, Topo}
 use Rattle.gix_words.specs.declared.words.Shown.{Shown}
-use Rattle.gix_words.specs.Words.{Ahead, Bases, Commits, Contained, Containing, Files, Request, request_of}
+use Rattle.gix_words.specs.Words.{Ahead, Bases, Commits, Contained, Containing, Files, Request}
 
 abbrev pub AreAllAbove : (Above : ObjectId → Type 0) → List ObjectId → Type 0
 AreAllAbove Above ids = (i : ObjectId) → Contains ids i → Above i
@@ -83,6 +83,3 @@ module _ (Above : ObjectId → Type 0) (objects : Objects) (rows : List GraphRow
   DecidesRequest (Contained tip ids) = AreAllAbove Above ids
   DecidesRequest (Containing target tips) = Above target
   DecidesRequest (Bases one others) = DrawsAbove (one ∷ []) others × AreBasesAbove one others
-
-  abbrev pub DecidesWords : (words : List (List ℕ)) → Type 0
-  DecidesWords words = (request : Request) × (request_of words ≡ Ok request) × DecidesRequest request

@@ -2,7 +2,7 @@
 use crate::decided::limit_of;
 use gix_hash::ObjectId;
 use gix_words::{Command, Order};
-use std::alloc::{AllocError, Global};
+use std::slice::from_ref;
 
 /// What one side reaches.
 pub(crate) const ONE: u8 = 1;
@@ -39,81 +39,70 @@ impl Until {
 }
 
 /// What is asked of a history.
-#[derive(Drop)]
-pub(crate) struct Asking {
+#[derive(Clone, Copy)]
+pub(crate) struct Asking<'a> {
     /// The ids to begin with.
-    pub one: Vec<ObjectId>,
+    pub one: &'a [ObjectId],
     /// Those of the other side.
-    pub other: Vec<ObjectId>,
+    pub other: &'a [ObjectId],
     /// Those that are asked about, if `until` is [`Until::Down`].
-    pub about: Vec<ObjectId>,
+    pub about: &'a [ObjectId],
     pub until: Until,
     /// How many rows are gone through, if `until` is [`Until::Count`].
     pub count: u64,
 }
 
-impl Asking {
+impl<'a> Asking<'a> {
     /// What a command asks. None if it lists all that its tips reach, or no commits.
-    ///
-    /// # Errors
-    ///
-    /// `AllocError` when out of memory.
-    pub fn of(alloc: Global, command: Command) -> Result<Option<Asking>, AllocError> {
-        let asking = match command {
+    pub fn of(command: &'a Command) -> Option<Asking<'a>> {
+        let nothing = Asking {
+            one: &[],
+            other: &[],
+            about: &[],
+            until: Until::Down,
+            count: 0,
+        };
+        Some(match command {
             Command::Commits { tips, hidden, .. } if !hidden.is_empty() => Asking {
-                one: tips,
-                other: hidden,
-                about: Vec::new(alloc),
+                one: tips.as_slice(),
+                other: hidden.as_slice(),
                 until: Until::Hidden,
-                count: 0,
+                ..nothing
             },
             Command::Commits {
                 order: Order::Topo { .. },
                 shown,
                 tips,
-                hidden,
-            } => {
-                let Some(count) = limit_of(&shown) else {
-                    return Ok(None);
-                };
-                Asking {
-                    one: tips,
-                    other: hidden,
-                    about: Vec::new(alloc),
-                    until: Until::Count,
-                    count,
-                }
-            }
+                ..
+            } => Asking {
+                one: tips.as_slice(),
+                until: Until::Count,
+                count: limit_of(shown)?,
+                ..nothing
+            },
             Command::Ahead { one, other } => Asking {
-                one: vec![in alloc; one]?,
-                other: vec![in alloc; other]?,
-                about: Vec::new(alloc),
+                one: from_ref(one),
+                other: from_ref(other),
                 until: Until::Both,
-                count: 0,
+                ..nothing
             },
             Command::Contained { tip, ids } => Asking {
-                one: vec![in alloc; tip]?,
-                other: Vec::new(alloc),
-                about: ids,
-                until: Until::Down,
-                count: 0,
+                one: from_ref(tip),
+                about: ids.as_slice(),
+                ..nothing
             },
             Command::Containing { target, tips } => Asking {
-                one: tips,
-                other: Vec::new(alloc),
-                about: vec![in alloc; target]?,
-                until: Until::Down,
-                count: 0,
+                one: tips.as_slice(),
+                about: from_ref(target),
+                ..nothing
             },
             Command::Bases { one, others } => Asking {
-                one: vec![in alloc; one]?,
-                other: others,
-                about: Vec::new(alloc),
+                one: from_ref(one),
+                other: others.as_slice(),
                 until: Until::Bases,
-                count: 0,
+                ..nothing
             },
-            _ => return Ok(None),
-        };
-        Ok(Some(asking))
+            Command::Commits { .. } | Command::Files { .. } => return None,
+        })
     }
 }

@@ -1,10 +1,11 @@
 //! Whether an answer hangs on rows that weren't read.
-ghost use Rattle.std.specs.Prelude.{◌≡◌, ◌+◌, ℕ, None, Some, [], ◌∷◌, IfOk, IfSome, IsTrue, false, map, string_bytes};
+ghost use Rattle.std.specs.Prelude.{◌≡◌, ◌+◌, ℕ, None, Some, [], ◌∷◌, IfOk, IfSome, IsTrue, false};
 ghost use Rattle.std.specs.Iterator.{IsFinite};
 ghost use Rattle.gix_commands.specs.Readable.{readable};
 ghost use Rattle.gix_graph_pages.specs.PagedRows.{AreLayouts, IsAbove};
 ghost use Rattle.gix_graph_store.specs.WithRows.{with_rows};
-ghost use Rattle.gix_paged_commands.specs.Decided.{AreAllAbove, AreBasesAbove, BeginsBy, DecidesWords, DrawsAbove, GivesAbove, GivesFirst};
+ghost use Rattle.gix_words.specs.Words.{request_of_command};
+ghost use Rattle.gix_paged_commands.specs.Decided.{AreAllAbove, AreBasesAbove, BeginsBy, DecidesRequest, DrawsAbove, GivesAbove, GivesFirst};
 
 use gix_commands::commits::{Ends, Lent, topo_walk_from, walk_from};
 use gix_commitgraph::Graph;
@@ -14,16 +15,26 @@ use gix_merge_base::merge_bases;
 use gix_object::memory::MemoryStore;
 use gix_revwalk::{Info, Parents};
 use gix_simple::Sorting;
-use gix_words::{Command, Fault, Merges, Order, Shown, read_command};
-use std::alloc::{AllocError, Global};
+use gix_words::{Command, Fault, Merges, Order, Shown};
+use std::alloc::Global;
 
 /// Rows of the files of a commit-graph, of which those of a lesser generation than `least` have no parents.
-#[derive(Drop)]
 pub(crate) struct Line<'a, F: Drop> {
     pub pages: &'a Pages<F>,
     pub layouts: &'a [Layout],
     pub graph: &'a Graph,
     pub least: u32,
+}
+
+impl<'a, F: Drop> Drop for Line<'a, F> {
+    fn drop(self) {
+        let Line {
+            pages: _,
+            layouts: _,
+            graph: _,
+            least: _,
+        } = self;
+    }
 }
 
 /// Whether a commit has a row above the line, or none in the files.
@@ -139,10 +150,7 @@ fn begins_above<F: Drop>(
     if tips.is_empty() || !are_all_above(line, tips) {
         return Ok(false);
     }
-    let ends = Ends {
-        tips: Vec::from_slice(alloc, tips)?,
-        hidden: Vec::from_slice(alloc, hidden)?,
-    };
+    let ends = Ends::of(alloc, tips, hidden)?;
     let walk = topo_walk_from(alloc, Parents::All, sorting, ends, store, Some(line.graph))?;
     gives_first_above(line, walk, count)
 }
@@ -162,10 +170,7 @@ fn are_above<F: Drop>(
     if tips.is_empty() || hidden.is_empty() {
         return Ok(false);
     }
-    let ends = Ends {
-        tips: Vec::from_slice(alloc, tips)?,
-        hidden: Vec::from_slice(alloc, hidden)?,
-    };
+    let ends = Ends::of(alloc, tips, hidden)?;
     let order = Sorting::BreadthFirst;
     let walk = walk_from(alloc, Parents::All, order, ends, store, Some(line.graph))?;
     gives_above(line, walk)
@@ -188,18 +193,18 @@ fn are_bases_above<F: Drop>(
     Ok(are_all_above(line, bases.as_slice()))
 }
 
-/// Whether what the words ask for doesn't hang on what is below the line: what is listed or counted is above, and so is what is asked about.
+/// Whether what a command asks for doesn't hang on what is below the line: what is listed or counted is above, and so is what is asked about.
 pub(crate) fn is_decided<F: Drop>(
     alloc: Global,
     line: &Line<'_, F>,
-    words: &[String],
+    command: &Command,
     store: &MemoryStore<'_>,
 ) -> Result<bool, Fault>
     requires { AreLayouts line.now.pages.now line.now.layouts.now }
-    ensures { IfOk result (λ is. IsTrue is → DecidesWords (IsAbove line.now.pages.now line.now.graph.now line.now.least)
-        (readable false (with_rows line.now.graph.now store.now)) line.now.graph.now (map string_bytes words.now)) }
+    ensures { IfOk result (λ is. IsTrue is → DecidesRequest (IsAbove line.now.pages.now line.now.graph.now line.now.least)
+        (readable false (with_rows line.now.graph.now store.now)) line.now.graph.now (request_of_command command.now)) }
 {
-    match read_command(alloc, words)? {
+    match command {
         Command::Commits {
             order,
             shown,
@@ -209,21 +214,21 @@ pub(crate) fn is_decided<F: Drop>(
             if are_above(alloc, line, tips.as_slice(), hidden.as_slice(), store)? {
                 return Ok(true);
             }
-            let list = (order, shown);
+            let list = (*order, *shown);
             begins_above(alloc, line, list, tips.as_slice(), hidden.as_slice(), store)
         }
         Command::Files { .. } => Ok(false),
         Command::Ahead { one, other } => {
-            let is_ahead_above = are_above(alloc, line, &[one], &[other], store)?;
-            Ok(is_ahead_above && are_above(alloc, line, &[other], &[one], store)?)
+            let is_ahead_above = are_above(alloc, line, &[*one], &[*other], store)?;
+            Ok(is_ahead_above && are_above(alloc, line, &[*other], &[*one], store)?)
         }
         Command::Contained { ids, .. } => Ok(are_all_above(line, ids.as_slice())),
-        Command::Containing { target, .. } => Ok(is_one_above(line, &target)),
+        Command::Containing { target, .. } => Ok(is_one_above(line, target)),
         Command::Bases { one, others } => {
-            if !are_above(alloc, line, &[one], others.as_slice(), store)? {
+            if !are_above(alloc, line, &[*one], others.as_slice(), store)? {
                 return Ok(false);
             }
-            are_bases_above(alloc, line, one, others.as_slice(), store)
+            are_bases_above(alloc, line, *one, others.as_slice(), store)
         }
     }
 }

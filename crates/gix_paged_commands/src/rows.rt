@@ -6,14 +6,13 @@ use gix_files::Damage;
 use gix_graph_pages::{Layout, Pages, layouts_of, load_layouts};
 use gix_hash::Keys;
 use gix_odb::Odb;
-use gix_words::read_command;
+use gix_words::Command;
 use std::alloc::{AllocError, Global};
 use std::collections::BTreeMap;
 use std::fs::Files;
 use std::os::unix::fs::FileExt;
 
 /// Some rows of the files of a commit-graph.
-#[derive(Drop)]
 pub struct Rows {
     /// The rows. Those of a lesser generation than `least` have no parents.
     pub graph: Graph,
@@ -25,8 +24,19 @@ pub struct Rows {
     pub may_grow: bool,
 }
 
+impl Drop for Rows {
+    fn drop(self) {
+        let Rows {
+            graph: _,
+            numbers: _,
+            least: _,
+            may_grow: _,
+        } = self;
+    }
+}
+
 /// Reads the rows that the answer to a command needs, from the highest generation down. None if it may need more than a small part of them, if
-/// the words are no command that needs few, or if a file or an object isn't as it should be: then all rows may be enough.
+/// the command isn't one that needs few, or if a file or an object isn't as it should be: then all rows may be enough.
 ///
 /// A list of `topo` or `date` with a limit begins with as many rows as it has lines, times a number: if these don't show the list, more may.
 ///
@@ -36,7 +46,7 @@ pub struct Rows {
 pub fn choose<R, F>(
     alloc: Global,
     keys: Keys,
-    words: &[String],
+    command: &Command,
     pages: &mut Pages<F>,
     odb: &mut Odb<R>,
     times: u64,
@@ -46,10 +56,7 @@ where
     R::File: FileExt,
     F: FileExt + Drop,
 {
-    let Ok(command) = read_command(alloc, words) else {
-        return Ok(None);
-    };
-    let Some(asking) = Asking::of(alloc, command)? else {
+    let Some(asking) = Asking::of(command) else {
         return Ok(None);
     };
     match load_layouts(pages) {
@@ -64,7 +71,7 @@ where
     let count = asking.count.saturating_mul(times);
     let scout = Scout::new(alloc, keys, layouts, asking.until, count);
     let may_grow = asking.until == Until::Count;
-    let chosen = match scout.find(pages, odb, &asking) {
+    let chosen = match scout.find(pages, odb, asking) {
         Ok(found) => rows_of(alloc, pages, layouts, &found, may_grow),
         Err(stop) => Err(stop),
     };

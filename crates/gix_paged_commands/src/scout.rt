@@ -67,7 +67,6 @@ struct Met {
 }
 
 /// Rows that are met by generation, from the highest down.
-#[derive(Drop)]
 pub(crate) struct Scout<'a> {
     alloc: Global,
     layouts: &'a [Layout],
@@ -89,13 +88,36 @@ pub(crate) struct Scout<'a> {
     new: IdMap<u8>,
 }
 
+impl<'a> Drop for Scout<'a> {
+    fn drop(self) {
+        let Scout {
+            alloc: _,
+            layouts: _,
+            until: _,
+            met: _,
+            waiting: _,
+            open: _,
+            done: _,
+            named: _,
+            count: _,
+            asked: _,
+            new: _,
+        } = self;
+    }
+}
+
 /// Rows of the files: those of a question, and their parents.
-#[derive(Drop)]
 pub(crate) struct Found {
     /// Their numbers and what they say, by rising id.
     pub rows: Vec<(u32, FileRow)>,
     /// The generation below which their parents aren't among them.
     pub least: u32,
+}
+
+impl Drop for Found {
+    fn drop(self) {
+        let Found { rows: _, least: _ } = self;
+    }
 }
 
 impl<'a> Scout<'a> {
@@ -127,21 +149,21 @@ impl<'a> Scout<'a> {
         mut self,
         pages: &mut Pages<F>,
         odb: &mut Odb<R>,
-        asking: &Asking,
+        asking: Asking<'_>,
     ) -> Result<Found, Stop>
     where
         R: Files + AllocGlobal + Clone + Drop,
         R::File: FileExt,
         F: FileExt + Drop,
     {
-        self.meet_ids(pages, odb, asking.about.as_slice(), 0)?;
+        self.meet_ids(pages, odb, asking.about, 0)?;
         let mut asked = u32::MAX;
         for met in self.met.values() {
             asked = asked.min(met.row.generation);
         }
         self.asked = asked;
-        self.meet_ids(pages, odb, asking.one.as_slice(), ONE)?;
-        self.meet_ids(pages, odb, asking.other.as_slice(), OTHER)?;
+        self.meet_ids(pages, odb, asking.one, ONE)?;
+        self.meet_ids(pages, odb, asking.other, OTHER)?;
         let least = self.go_down(pages)?;
         let mut rows = Vec::new(self.alloc);
         for (number, met) in self.met.iter() {

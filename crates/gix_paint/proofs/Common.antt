@@ -12,8 +12,8 @@ pub use Rattle.gix_revwalk.specs.Commits.{commit_of_object, HasTime, parents_in,
 pub use Rattle.gix_revwalk.specs.Ids.{ids_of, new_ids}
 pub use Rattle.gix_revwalk.specs.RowParents.{ids_at}
 pub use Rattle.gix_hash.proofs.Ids.Membership.{among-append, among_from, Contains-cons_cases, Contains-here, Contains-there, id_apart, id_total, no_member, same_is, same_itself}
-pub use Rattle.gix_paint.specs.Inside.Painter.{AllMarks, Becomes, covers, frontier_without, generation_told, hidden_of, hides, is_hidden, is_of_frontier, is_turn, IsQueued, IsSettled, IsTidy, IsWaiting}
-pub use Rattle.gix_paint.specs.Inside.Painter.{mark_of, Meets, Pops, reads, room, shows, skips, stays, Takes, TreatsEntry, WaitsWithRow}
+pub use Rattle.gix_paint.specs.Inside.Painter.{AddsMark, AllMarks, Becomes, bits_at, bits_of, covers, frontier_without, generation_told, hidden_of, hides, is_hidden, is_of_frontier, is_turn, IsQueued, IsSettled, IsTidy, IsWaiting}
+pub use Rattle.gix_paint.specs.Inside.Painter.{mark_of, Meets, Pops, reads, room, shows, side_at, side_by, skips, stays, Takes, TreatsEntry, WaitsWithRow}
 pub use Rattle.gix_paint.specs.Reading.{by_row, by_store, drops, IsPassed, ReadFails, Reads, ReadsParents}
 pub use Rattle.gix_revwalk.specs.Reading.{rows_used}
 pub use Rattle.gix_paint.specs.Inside.Queue.{AreAllTold, is_told, AreAllBelow, IsNoneAbove, QueueEntry}

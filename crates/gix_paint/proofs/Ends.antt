@@ -1,7 +1,7 @@
 -- Painting ends: each turn leaves less room for entries.
 use Rattle.std.proofs.Common.{Bool, ◌≡◌, ◌≤◌, suc, List, [], ◌++◌, map, length, true, is_some, Option, Some, None, Contains, flat_map, refl, sym, ap, subst, ⊎_elim, ◌∙◌, arith}
 use Rattle.std.proofs.lemmas.Bool.{or_left, or_right}
-use Rattle.gix_paint.proofs.Common.{length_permutation, ObjectId, is_among, Object, Objects, GraphRow, QueueEntry, Painter, parents_of, commit_of_object, is_hidden, Reads, ReadsParents, by_row, by_store, drops}
+use Rattle.gix_paint.proofs.Common.{length_permutation, ObjectId, is_among, Object, Objects, GraphRow, QueueEntry, Painter, parents_of, commit_of_object, is_hidden, mark_of, side_at, Reads, ReadsParents, by_row, by_store, drops}
 use Rattle.gix_paint.proofs.Common.{Takes, Pops, room, new_ids, among-append, among_from, no_member}
 use Rattle.std.specs.FinMap as map_of
 use Rattle.gix_paint.proofs.Invariant.{reads_parents, IsSafe}
@@ -31,7 +31,7 @@ module _ {F : Type 0} (objects : F → Objects) (store : F) (rows : List GraphRo
 
   room_takes : {mid : Painter F} (ids : List ObjectId) → Takes v top mid → suc (room ids mid) ≡ room ids w
   room_takes {mid} ids takes =
-      let met : length (new_ids (λ i. is_some (map_of.get mid.marks i)) ids) ≡ length (new_ids (λ i. is_some (map_of.get w.marks i)) ids) = ap (λ m. length (new_ids (λ i. is_some (map_of.get m i)) ids)) (takes.marks_stay ∙ pops.marks) in
+      let met : length (new_ids (λ i. is_some (mark_of mid i)) ids) ≡ length (new_ids (λ i. is_some (mark_of w i)) ids) = ap (λ m. length (new_ids (λ i. is_some (side_at m i)) ids)) (takes.marks_stay ∙ pops.marks) in
       let hidden : length (new_ids (is_hidden mid.marks) ids) ≡ length (new_ids (is_hidden w.marks) ids) = ap (λ m. length (new_ids (is_hidden m) ids)) (takes.marks_stay ∙ pops.marks) in
       let left : length mid.queue ≡ length v.queue = ap length takes.queue_stays in
       let one : suc (length v.queue) ≡ length w.queue = length_permutation _ _ pops.queue in

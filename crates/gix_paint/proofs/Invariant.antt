@@ -2,7 +2,7 @@
 use Rattle.std.proofs.Common.{◌≡◌, ◌≢◌, ◌⊎◌, List, [], true, if◌then◌else◌, ◌&&◌, Option, Some, None, Contains, IsSome, refl, sym, ap, subst, inl, inr, ⊎_elim, ◌∙◌, arith}
 use Rattle.std.specs.FinMap as map_of
 use Rattle.std.specs.FinSet as set
-use Rattle.gix_paint.proofs.Common.{ObjectId, id_cmp, Objects, GraphRow, row_of, Side, Painter, QueueEntry, parents_of, parents_in, IsHistory, DropsBy, AllMarks, hides, is_hidden, mark_of, Becomes}
+use Rattle.gix_paint.proofs.Common.{ObjectId, id_cmp, Objects, GraphRow, row_of, Side, Painter, QueueEntry, parents_of, parents_in, IsHistory, DropsBy, AllMarks, bits_of, hides, is_hidden, mark_of, side_by, Becomes}
 use Rattle.gix_paint.proofs.Common.{stays, shows, covers, rows_used, Reads, IsQueued, IsWaiting, IsTidy, Meets, Reaches, id_total, id_apart}
 use Rattle.gix_paint.specs.declared.Side.TheVariants as side
 use Rattle.gix_revwalk.specs.Agreeing.{IsAgreeing}
@@ -18,7 +18,7 @@ contains-hidden marks i =
     ∙ (grind arith)
 
 pub hidden-empty : (marks : AllMarks) → marks ≡ map_of.empty → hidden_of marks ≡ set.empty
-hidden-empty marks e = set.same_set id_total id_apart _ _ (λ i. contains-hidden marks i ∙ ap (λ m. is_hidden m i) e ∙ ap hides (map_of.get-empty id_cmp i) ∙ sym (set.contains-empty id_cmp i))
+hidden-empty marks e = set.same_set id_total id_apart _ _ (λ i. contains-hidden marks i ∙ ap (λ m. is_hidden m i) e ∙ ap (λ marks. hides (side_by (bits_of marks))) (map_of.get-empty id_cmp i) ∙ sym (set.contains-empty id_cmp i))
 
 pub reads_parents : (objects : Objects) (i : ObjectId) (ids : List ObjectId) → Reads objects i ids → ids ≡ parents_of objects i
 reads_parents objects i ids r = r.2 ∙ sym (ap parents_in r.1)

@@ -6,6 +6,8 @@ pub mod Search
 pub mod Reading
 -- What is put into the queue, and what comes first of it.
 pub mod Waits
+-- What one more mark makes of an id.
+pub mod OneMoreMark
 -- Meeting the ids of a list one by one meets all of them.
 pub mod Meets
 -- What holds while hidden tips are painted.

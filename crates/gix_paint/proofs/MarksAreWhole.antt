@@ -1,7 +1,7 @@
 -- Where painting begins and ends: the marks are whole.
 use Rattle.std.proofs.Common.{◌≡◌, ◌≢◌, ◌⊎◌, ◌<◌, ◌≤◌, ℕ, List, [], ◌∷◌, ◌++◌, Bool, true, false, ◌&&◌, Option, Some, None, Contains, IsSome, is_some, if◌then◌else◌, refl, sym, ap, subst, inl, inr, ⊎_elim, ◌∙◌, arith}
 use Rattle.gix_paint.proofs.Common.{Contains-append_cases, ObjectId, id_cmp, Objects, GraphRow, row_of, Side, Told, Infinite, QueueEntry, Painter, IsHistory, IsOpenBelow, IsRead, shown_commit, hidden_commit, generation_in, Paints, parents_of}
-use Rattle.gix_paint.proofs.Common.{IsAtBoundary, Reaches, start, step, hidden_of, mark_of, IsWaiting, IsSettled, is_told, Meets, no_member, Contains-here}
+use Rattle.gix_paint.proofs.Common.{IsAtBoundary, Reaches, start, step, bits_of, hidden_of, mark_of, side_at, side_by, IsWaiting, IsSettled, is_told, Meets, no_member, Contains-here}
 use Rattle.std.specs.FinMap as map_of
 use Rattle.std.specs.FinSet as set
 use Rattle.gix_paint.specs.declared.Side.TheVariants as side
@@ -39,7 +39,7 @@ module _ {F : Type 0} (objects : F → Objects) (store : F) (history : Objects) 
     safe_blank = record { same_store = blank.same_store; same_rows = blank.same_rows; queued = λ r q c. none_queued q c }
 
     unmet : (i : ObjectId) → mark_of p i ≡ None
-    unmet i = ap (λ m. map_of.get m i) blank.marks ∙ map_of.get-empty id_cmp i
+    unmet i = ap (λ m. side_at m i) blank.marks ∙ ap (λ marks. side_by (bits_of marks)) (map_of.get-empty id_cmp i)
 
     pub stands_blank : Holds p
     stands_blank = record {

@@ -1,15 +1,15 @@
 -- To meet ids one by one is to meet them all.
-use Rattle.std.proofs.Common.{◌≡◌, ◌≢◌, ◌⊎◌, ◌≤◌, ℕ, suc, List, [], ◌∷◌, ◌++◌, length, Bool, true, false, not, ◌&&◌, ◌||◌, cond, is_some, Option, Some, None, Contains, IsPermutation, refl, sym, ap, subst, inl, inr, ⊎_elim, ◌∙◌}
+use Rattle.std.proofs.Common.{◌≡◌, ◌≢◌, ◌⊎◌, ◌≤◌, ◌+◌, ℕ, suc, List, [], ◌∷◌, ◌++◌, length, Bool, true, false, not, ◌&&◌, ◌||◌, cond, is_some, Option, Some, None, Contains, IsPermutation, refl, sym, ap, subst, inl, inr, ⊎_elim, ◌∙◌}
 use Rattle.std.proofs.Common.{arith}
 use Rattle.std.proofs.lemmas.List.{nil_from_length}
-use Rattle.gix_paint.proofs.Common.{Contains-append_left, Contains-append_right, Contains-append_cases, Contains-permutation, IsPermutation-sym, length_permutation, ObjectId, is_same, is_among, Side, QueueEntry, Painter, AllMarks}
-use Rattle.gix_paint.proofs.Common.{hides, is_told, mark_of, Becomes, stays, shows, covers, rows_used, WaitsWithRow, IsQueued, IsTidy, IsWaiting, Meets, room}
-use Rattle.gix_paint.proofs.Common.{id_apart, id_total, same_is, same_itself, Contains-here, Contains-there, Contains-cons_cases, no_member}
-use Rattle.std.specs.FinMap as map_of
+use Rattle.gix_paint.proofs.Common.{Contains-append_left, Contains-append_right, Contains-append_cases, Contains-permutation, IsPermutation-sym, length_permutation, ObjectId, is_same, is_among, Side, QueueEntry, Painter, AddsMark, AllMarks}
+use Rattle.gix_paint.proofs.Common.{hides, is_told, mark_of, new_ids, side_at, Becomes, stays, shows, covers, rows_used, WaitsWithRow, IsQueued, IsTidy, IsWaiting, Meets, room}
+use Rattle.gix_paint.proofs.Common.{same_is, same_itself, Contains-here, Contains-there, Contains-cons_cases, no_member}
 use Rattle.std.specs.FinSet as set
 use Rattle.gix_paint.specs.declared.Side.TheVariants as side
 use Rattle.gix_paint.specs.declared.queue.Generation.{Generation}
 use Rattle.gix_paint.proofs.Invariant.{later, waiting_stays}
+use Rattle.gix_paint.proofs.OneMoreMark.{bit_of, knows, marked_again}
 use Rattle.gix_revwalk.proofs.NewIds.{fresh, fresh_agree, new_less}
 use Rattle.gix_hash.proofs.Lists.{only_member}
 
@@ -23,22 +23,16 @@ becomes_both part one two later (shows v m q) (covers u n r) = covers u (two n) 
 becomes_both part one two later (covers v m q) (stays g) = covers v (one m) (later (λ u. let bad : side.Visible ≡ side.Hidden = sym u ∙ v in cc) q)
 becomes_both part one two later (covers v m q) (covers u n r) = covers u (two n) r
 
--- what a side asks of a mark before it meets the id
-abbrev pub knows : Side → Option Side → Bool
-knows side.Visible o = is_some o
-knows side.Hidden o = hides o
+-- what a side knows is met, and hidden if it is the hidden side
+abbrev IsKnown : Side → Option Side → Type 0
+IsKnown on o = (o ≢ None) × (on ≡ side.Hidden → o ≡ Some side.Hidden)
 
--- to mark an id as it was marked changes nothing
-pub marked_again : (marks : AllMarks) (i : ObjectId) {mark : Side} → map_of.get marks i ≡ Some mark → map_of.insert marks i mark ≡ marks
-marked_again marks i {mark} e = map_of.same_map id_total id_apart _ marks (λ j. let now = map_of.get-insert id_total marks i mark j in let same : is_same j i ≡ true → map_of.get marks j ≡ Some mark = λ s. ap (map_of.get marks) (same_is j i s) ∙ e in grind arith)
-
--- and so does a mark that is put back
-pub put_back : (marks : AllMarks) (i : ObjectId) (other : Side) {mark : Side} → map_of.get marks i ≡ Some mark → map_of.insert (map_of.insert marks i other) i mark ≡ marks
-put_back marks i other {mark} e = map_of.same_map id_total id_apart _ marks (λ j.
-    let now = map_of.get-insert id_total (map_of.insert marks i other) i mark j in
-    let before = map_of.get-insert id_total marks i other j in
-    let same : is_same j i ≡ true → map_of.get marks j ≡ Some mark = λ s. ap (map_of.get marks) (same_is j i s) ∙ e in
-    grind arith)
+is_known : (on : Side) (o : Option Side) → knows on o ≡ true → IsKnown on o
+is_known side.Visible None e = cc
+is_known side.Visible (Some s) e = (λ n. cc, λ h. cc)
+is_known side.Hidden None e = cc
+is_known side.Hidden (Some side.Visible) e = cc
+is_known side.Hidden (Some side.Hidden) e = (λ n. cc, λ h. refl)
 
 -- an id that a side doesn't know is marked for it
 becomes_new : {met queued : Type 0} (on : Side) (o : Option Side) → knows on o ≡ false → met → queued → Becomes on met queued o (Some on)
@@ -48,26 +42,22 @@ becomes_new side.Hidden o e m q = covers refl m q
 
 module _ {F : Type 0} where
   -- what is known already isn't met anew
-  meets_same : (on : Side) (ids : List ObjectId) (p : Painter F) → ((i : ObjectId) → Contains ids i → (mark_of p i ≢ None) × (on ≡ side.Hidden → mark_of p i ≡ Some side.Hidden)) → Meets on ids p p
-  meets_same on ids p known = record {
+  meets_same : (on : Side) (ids : List ObjectId) (p : Painter F) (marks : AllMarks) → ((j : ObjectId) → side_at marks j ≡ mark_of p j) → ((i : ObjectId) → Contains ids i → IsKnown on (mark_of p i)) → Meets on ids p (record p { marks = marks })
+  meets_same on ids p marks same known = record {
     source_stays = refl;
-    marks = λ j. stays (known j);
+    marks = λ j. subst (Becomes on (Contains ids j) (IsWaiting (record p { marks = marks }) on j) (mark_of p j)) (sym (same j)) (stays (known j));
     keeps = λ q c. c;
     adds = λ q c. inl c;
     keeps_frontier = λ j c n. c;
-    tidies = λ t. t;
-    spends = λ named h. Rattle.std.proofs.Common.le_refl _;
+    tidies = λ t j c. let waits = t j c in (same j ∙ waits.0, waits.1, waits.2, waits.3, waits.4, waits.5);
+    spends = λ named h. subst (λ (mark : ObjectId → Option Side). length (new_ids (λ j. is_some (mark j)) named) + length (new_ids (λ j. hides (mark j)) named) + length p.queue ≤ room named p) (λ k j. sym (same j) k) (Rattle.std.proofs.Common.le_refl _);
   }
 
-  meets_known : (on : Side) (i : ObjectId) (p : Painter F) → (mark_of p i ≢ None) × (on ≡ side.Hidden → mark_of p i ≡ Some side.Hidden) → Meets on (i ∷ []) p p
-  meets_known on i p known = meets_same on (i ∷ []) p (λ j m. subst (λ k. (mark_of p k ≢ None) × (on ≡ side.Hidden → mark_of p k ≡ Some side.Hidden)) (only_member i j m) known)
-
-  -- and may be marked as it was
-  pub meets_again : (on : Side) (i : ObjectId) (p : Painter F) (marks : AllMarks) → marks ≡ p.marks → (mark_of p i ≢ None) × (on ≡ side.Hidden → mark_of p i ≡ Some side.Hidden) → Meets on (i ∷ []) p (record p { marks = marks })
-  meets_again on i p marks same known = subst (λ m. Meets on (i ∷ []) p (record p { marks = m })) (sym same) (meets_known on i p known)
+  pub meets_again : (on : Side) (i : ObjectId) (p : Painter F) (marks : AllMarks) → AddsMark (bit_of on) i p.marks marks → knows on (mark_of p i) ≡ true → Meets on (i ∷ []) p (record p { marks = marks })
+  meets_again on i p marks adds known = meets_same on (i ∷ []) p marks (marked_again on i p.marks marks adds known) (λ j m. subst (λ k. IsKnown on (mark_of p k)) (only_member i j m) (is_known on (mark_of p i) known))
 
   pub meets_none : (on : Side) (p : Painter F) → Meets on [] p p
-  meets_none on p = meets_same on [] p (λ j m. absurd (no_member j m))
+  meets_none on p = meets_same on [] p p.marks (λ j. refl) (λ j m. absurd (no_member j m))
 
   pub meets_then : {on : Side} (xs ys : List ObjectId) {p mid new : Painter F} → Meets on xs p mid → Meets on ys mid new → Meets on (xs ++ ys) p new
   meets_then {on} xs ys {p} {mid} {new} a b = record {
@@ -81,7 +71,7 @@ module _ {F : Type 0} where
   }
 
   -- an id is marked, and put into the queue
-  module _ (on : Side) (i : ObjectId) (p new : Painter F) (generation : Generation) (source : new.source ≡ p.source) (marks : new.marks ≡ map_of.insert p.marks i on) (queue : IsPermutation ((generation, record { id = i; side = on }) ∷ p.queue) new.queue) where
+  module _ (on : Side) (i : ObjectId) (p new : Painter F) (generation : Generation) (source : new.source ≡ p.source) (marks_now : (j : ObjectId) → mark_of new j ≡ cond (is_same j i) (Some on) (mark_of p j)) (queue : IsPermutation ((generation, record { id = i; side = on }) ∷ p.queue) new.queue) where
     other : (j : ObjectId) → is_same j i ≡ false → Contains (i ∷ []) j → ⊥
     other j e m = let t : true ≡ false = sym (same_itself i) ∙ ap (λ k. is_same k i) (only_member i j m) ∙ e in cc
 
@@ -94,25 +84,22 @@ module _ {F : Type 0} where
     there : Contains new.queue entry
     there = Contains-permutation _ _ entry queue (Contains-here entry p.queue)
 
-    marks_now : (j : ObjectId) → map_of.get new.marks j ≡ cond (is_same j i) (Some on) (map_of.get p.marks j)
-    marks_now j = ap (λ m. map_of.get m j) marks ∙ map_of.get-insert id_total p.marks i on j
-
     length_now : length new.queue ≡ suc (length p.queue)
     length_now = length_permutation _ _ queue
 
     -- how many ids of a list don't pass a test of their marks
     abbrev left : (Option Side → Bool) → AllMarks → List ObjectId → ℕ
-    left f ms named = length (fresh (λ j. f (map_of.get ms j)) named)
+    left f ms named = length (fresh (λ j. f (side_at ms j)) named)
 
     module _ (f : Option Side → Bool) (named : List ObjectId) (among : is_among i named ≡ true) where
-      left_same : f (Some on) ≡ f (map_of.get p.marks i) → left f new.marks named ≡ left f p.marks named
-      left_same e = ap length (fresh_agree _ _ named (λ j h. let now = marks_now j in let same : is_same j i ≡ true → f (map_of.get p.marks j) ≡ f (map_of.get p.marks i) = λ s. ap (λ k. f (map_of.get p.marks k)) (same_is j i s) in grind arith))
+      left_same : f (Some on) ≡ f (mark_of p i) → left f new.marks named ≡ left f p.marks named
+      left_same e = ap length (fresh_agree _ _ named (λ j h. let now = marks_now j in let same : is_same j i ≡ true → f (mark_of p j) ≡ f (mark_of p i) = λ s. ap (λ k. f (mark_of p k)) (same_is j i s) in grind arith))
 
-      left_less : f (Some on) ≡ true → f (map_of.get p.marks i) ≡ false → suc (left f new.marks named) ≡ left f p.marks named
-      left_less t e = ap (λ ids. suc (length ids)) (fresh_agree _ _ named (λ j h. let now = marks_now j in grind arith)) ∙ new_less (λ j. f (map_of.get p.marks j)) named i among e
+      left_less : f (Some on) ≡ true → f (mark_of p i) ≡ false → suc (left f new.marks named) ≡ left f p.marks named
+      left_less t e = ap (λ ids. suc (length ids)) (fresh_agree _ _ named (λ j h. let now = marks_now j in grind arith)) ∙ new_less (λ j. f (mark_of p j)) named i among e
 
     -- where the id is new to the side, it is met; a visible one that has a row is in the frontier then, and a hidden one isn't
-    pub meets_new : knows on (map_of.get p.marks i) ≡ false → IsQueued (rows_used p.source) entry
+    pub meets_new : knows on (mark_of p i) ≡ false → IsQueued (rows_used p.source) entry
         → ((j : ObjectId) → set.contains new.frontier j ≡ cond (is_same j i) (not (hides (Some on)) && (is_told generation || set.contains p.frontier i)) (set.contains p.frontier j)) → Meets on (i ∷ []) p new
     meets_new unknown known frontier = record {
       source_stays = source;
@@ -163,19 +150,19 @@ module _ {F : Type 0} where
             told false k =
                 let now = frontier j in
                 let opened = t i (grind arith) in
-                absurd (let known : knows side.Visible (map_of.get p.marks i) ≡ false = ap (λ s. knows s (map_of.get p.marks i)) (sym v) ∙ unknown in let bad : true ≡ false = sym (ap is_some opened.0) ∙ known in cc)
+                absurd (let known : knows side.Visible (mark_of p i) ≡ false = ap (λ s. knows s (mark_of p i)) (sym v) ∙ unknown in let bad : true ≡ false = sym (ap is_some opened.0) ∙ known in cc)
 
         spent : (named : List ObjectId) → is_among i named ≡ true → (s : Side) → on ≡ s → room named new ≤ room named p
         spent named e side.Visible v =
-            let fresh_here : is_some (map_of.get p.marks i) ≡ false = ap (λ s. knows s (map_of.get p.marks i)) (sym v) ∙ unknown in
+            let fresh_here : is_some (mark_of p i) ≡ false = ap (λ s. knows s (mark_of p i)) (sym v) ∙ unknown in
             let marked : suc (left is_some new.marks named) ≡ left is_some p.marks named = left_less is_some named e refl fresh_here in
             let hidden : left hides new.marks named ≡ left hides p.marks named = left_same hides named e (grind arith) in
             let longer = length_now in
             omega arith
         spent named e side.Hidden v =
-            let hidden : suc (left hides new.marks named) ≡ left hides p.marks named = left_less hides named e (ap (λ s. hides (Some s)) v) (ap (λ s. knows s (map_of.get p.marks i)) (sym v) ∙ unknown) in
-            let same : is_some (map_of.get p.marks i) ≡ true → left is_some new.marks named ≡ left is_some p.marks named = λ o. left_same is_some named e (sym o) in
-            let less : is_some (map_of.get p.marks i) ≡ false → suc (left is_some new.marks named) ≡ left is_some p.marks named = left_less is_some named e refl in
+            let hidden : suc (left hides new.marks named) ≡ left hides p.marks named = left_less hides named e (ap (λ s. hides (Some s)) v) (ap (λ s. knows s (mark_of p i)) (sym v) ∙ unknown) in
+            let same : is_some (mark_of p i) ≡ true → left is_some new.marks named ≡ left is_some p.marks named = λ o. left_same is_some named e (sym o) in
+            let less : is_some (mark_of p i) ≡ false → suc (left is_some new.marks named) ≡ left is_some p.marks named = left_less is_some named e refl in
             let longer = length_now in
             grind arith
 

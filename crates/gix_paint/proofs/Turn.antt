@@ -1,9 +1,8 @@
 -- A turn of the painting: an entry is taken, its commit is read, and its parents are met.
 use Rattle.std.proofs.Common.{◌≡◌, ◌≢◌, ◌⊎◌, List, [], Bool, true, false, not, ◌&&◌, Option, Some, None, Contains, is_some, refl, sym, ap, subst, inl, inr, ⊎_elim, ◌∙◌, arith}
-use Rattle.gix_paint.proofs.Common.{Contains-permutation, IsPermutation-sym, ObjectId, id_cmp, is_same, Objects, GraphRow, Side, QueueEntry, Painter, IsHistory, DropsBy, AllMarks, generation_told, hides, is_hidden, is_told, mark_of}
+use Rattle.gix_paint.proofs.Common.{Contains-permutation, IsPermutation-sym, ObjectId, id_cmp, is_same, Objects, GraphRow, Side, QueueEntry, Painter, IsHistory, DropsBy, AllMarks, generation_told, hides, is_hidden, is_told, mark_of, side_at}
 use Rattle.gix_paint.proofs.Common.{ReadsParents, by_row, by_store, drops, IsWaiting, IsSettled, WaitsWithRow, Takes, is_turn, is_of_frontier, frontier_without, Meets, TreatsEntry, skips, reads, Pops}
 use Rattle.gix_paint.proofs.Common.{parents_of, Reaches, step, id_total, same_is, same_itself, Contains-there, Contains-cons_cases, no_member}
-use Rattle.std.specs.FinMap as map_of
 use Rattle.std.specs.FinSet as set
 use Rattle.gix_paint.specs.declared.Side.TheVariants as side
 use Rattle.gix_paint.specs.Inside.Painter.{rows_of}
@@ -87,7 +86,7 @@ module _ {F : Type 0} (objects : F → Objects) (store : F) (history : Objects) 
         go side.Hidden on c true e = inl (record { entry = q.entry; queued = c; on_side = q.on_side; of_id = q.of_id; in_frontier = λ v. let bad : side.Visible ≡ side.Hidden = sym v ∙ on in cc })
 
     pub marks_now : (i : ObjectId) → mark_of mid i ≡ mark_of w i
-    marks_now i = ap (λ m. map_of.get m i) (takes.marks_stay ∙ pops.marks)
+    marks_now i = ap (λ m. side_at m i) (takes.marks_stay ∙ pops.marks)
 
     pub started_takes : IsStarted objects store history rows tips hidden_tips w → IsStarted objects store history rows tips hidden_tips mid
     started_takes s = record { shown = λ i c. subst (λ m. m ≢ None) (sym (marks_now i)) (s.shown i c); hidden = λ i c. marks_now i ∙ s.hidden i c }

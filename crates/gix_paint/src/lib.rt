@@ -16,6 +16,7 @@ ghost use Rattle.gix_revwalk.specs.Reading.{rows_used};
 mod queue;
 pub mod source;
 
+use bitflags::{Flag, Flags, bitflag_items};
 use gix_commitgraph::Graph;
 use gix_hash::hashtable::{IdMap, IdSet};
 use gix_hash::{Keys, ObjectId};
@@ -73,17 +74,52 @@ impl From<AllocError> for Hidden {
     }
 }
 
-/// For which tips an id is marked and its commit is read: those of the walk, or the hidden ones.
+/// For which tips a commit is read: those of the walk, or the hidden ones.
 #[derive(Clone, Copy)]
 enum Side {
     Visible,
     Hidden,
 }
 
+/// Which tips reach an id: it has the mark of each side that met it.
+#[derive(Clone, Copy)]
+struct Marks(u8);
+
+bitflag_items! {
+    impl Marks: u8 {
+        const VISIBLE = 1;
+        const HIDDEN = 2;
+    }
+}
+
+impl Flags for Marks {
+    ghost use Rattle.std.specs.Prelude.{⊤, codes, ◌∷◌, []};
+
+    type Bits = u8;
+
+    ghost exact = { ⊤ };
+
+    ghost table = { (codes "VISIBLE", 1) ∷ (codes "HIDDEN", 2) ∷ [] };
+
+    ghost set_of = { λ m. m.0 };
+
+    fn flags<'a>() -> &'a [Flag<Marks>] {
+        Marks::FLAGS
+    }
+
+    fn bits(&self) -> u8 {
+        self.0
+    }
+
+    fn from_bits_retain(bits: u8) -> Marks {
+        Marks(bits)
+    }
+}
+
 /// The ids that a painting found hidden.
 #[derive(Drop)]
 pub struct HiddenIds {
-    marks: IdMap<Side>,
+    marks: IdMap<Marks>,
 }
 
 impl Model for HiddenIds {
@@ -116,26 +152,39 @@ impl HiddenIds {
     }
 }
 
-/// Whether a mark, or None where an id wasn't met, says that a hidden tip reaches its id.
-fn hides(mark: Option<Side>) -> bool
-    ensures { result ≡ painter.hides mark }
-{
-    matches!(mark, Some(Side::Hidden))
-}
-
 /// Whether a hidden tip is known to reach the id.
-fn is_hidden(marks: &IdMap<Side>, id: &ObjectId) -> bool
+fn is_hidden(marks: &IdMap<Marks>, id: &ObjectId) -> bool
     ensures { result ≡ painter.is_hidden marks.now id.now }
 {
-    hides(marks.get(id).copied())
+    match marks.get(id) {
+        Some(marks) => marks.contains(Marks::HIDDEN),
+        None => false,
+    }
+}
+
+/// Gives an id one more mark, and returns the marks that it had.
+fn add_mark(marks: &mut IdMap<Marks>, id: ObjectId, mark: Marks) -> Result<Marks, AllocError>
+    ensures old { IfOk result (λ old. old.0 ≡ painter.bits_at marks.old id) }
+    ensures ok { OnOk result (painter.AddsMark mark.0 id marks.old marks.new) }
+{
+    match marks.insert(id, mark)? {
+        None => Ok(Marks::empty()),
+        Some(old) => {
+            let all = old.union(mark);
+            if all.bits() != mark.bits() {
+                marks.replace(&id, all);
+            }
+            Ok(old)
+        }
+    }
 }
 
 /// What was marked, and what waits to be read.
 #[derive(Drop)]
 struct Painter<'a, F> {
     source: Source<&'a F>,
-    /// Each id that was met: for hidden tips as soon as one of them was found to reach it.
-    marks: IdMap<Side>,
+    /// The marks of each id that was met.
+    marks: IdMap<Marks>,
     /// The ids that have a row, wait for visible tips, and that no hidden tip was found to reach.
     frontier: IdSet,
     queue: Queue,
@@ -157,13 +206,8 @@ impl<'a, F: Find> Painter<'a, F> {
     fn show(&mut self, id: ObjectId) -> Result<(), AllocError>
         ensures { OnOk result (Meets Side.Visible (id ∷ []) self.old self.new) }
     {
-        match self.marks.insert(id, Side::Visible)? {
-            None => {}
-            Some(Side::Visible) => return Ok(()),
-            Some(Side::Hidden) => {
-                self.marks.replace(&id, Side::Hidden);
-                return Ok(());
-            }
+        if !add_mark(&mut self.marks, id, Marks::VISIBLE)?.is_empty() {
+            return Ok(());
         }
         let generation = self.generation(&id);
         if let Generation::Told(_) = generation {
@@ -182,7 +226,7 @@ impl<'a, F: Find> Painter<'a, F> {
     fn hide(&mut self, id: ObjectId) -> Result<(), AllocError>
         ensures { OnOk result (Meets Side.Hidden (id ∷ []) self.old self.new) }
     {
-        if hides(self.marks.insert(id, Side::Hidden)?) {
+        if add_mark(&mut self.marks, id, Marks::HIDDEN)?.contains(Marks::HIDDEN) {
             return Ok(());
         }
         let generation = self.generation(&id);

@@ -4,10 +4,10 @@ use gix_hash::hashtable::IdSet;
 use gix_hash::{Keys, ObjectId};
 use gix_object::Kind;
 use gix_options::{Asked, Misuse, Name, Question, Refs};
-use gix_repository::Repository;
+use gix_repository::{ByteFiles, Repository};
 use gix_revision::{Resolved, Set, resolve, resolve_all};
+use gix_words::Command;
 use std::alloc::{AllocError, Global};
-use std::fs::Files;
 use std::os::unix::fs::FileExt;
 
 /// Two commits of which each is asked for without what both reach.
@@ -20,7 +20,6 @@ pub struct Pair {
 }
 
 /// The ids that revisions stand for, in the order in which they were given.
-#[derive(Drop)]
 pub struct Chosen {
     /// Those to begin with. The two of a pair are among them.
     pub tips: Vec<ObjectId>,
@@ -30,6 +29,17 @@ pub struct Chosen {
     pub pairs: Vec<Pair>,
     /// Each revision, and what it stands for.
     pub resolved: Vec<Resolved>,
+}
+
+impl Drop for Chosen {
+    fn drop(self) {
+        let Chosen {
+            tips: _,
+            hidden: _,
+            pairs: _,
+            resolved: _,
+        } = self;
+    }
 }
 
 /// The ids that the revisions of a question stand for. Those of [`Asked::Lines`] are `lines`.
@@ -44,7 +54,7 @@ pub fn choose<R>(
     lines: &[String],
 ) -> Result<Chosen, Fault>
 where
-    R: Files + AllocGlobal + Clone + Drop,
+    R: ByteFiles + AllocGlobal + Clone + Drop,
     R::File: FileExt,
 {
     let resolved = resolve_words(alloc, repository, question, lines)?;
@@ -63,7 +73,7 @@ pub fn resolve_words<R>(
     lines: &[String],
 ) -> Result<Vec<Resolved>, Fault>
 where
-    R: Files + AllocGlobal + Clone + Drop,
+    R: ByteFiles + AllocGlobal + Clone + Drop,
     R::File: FileExt,
 {
     let mut resolved = Vec::new(alloc);
@@ -121,13 +131,13 @@ fn fault_of<R>(
     fault: gix_revision::Fault,
 ) -> Result<Fault, Fault>
 where
-    R: Files + AllocGlobal + Clone + Drop,
+    R: ByteFiles + AllocGlobal + Clone + Drop,
     R::File: FileExt,
 {
     match fault {
         gix_revision::Fault::Memory => Ok(Fault::Memory),
         gix_revision::Fault::Unknown(word) => {
-            if repository.refs_below("refs/")?.is_empty() {
+            if repository.refs_below(b"refs/")?.is_empty() {
                 return Ok(Fault::NoCommit);
             }
             Ok(Fault::Revision(number, gix_revision::Fault::Unknown(word)))
@@ -150,7 +160,7 @@ pub fn resolve_one<R>(
     resolved: &mut Vec<Resolved>,
 ) -> Result<(), gix_revision::Fault>
 where
-    R: Files + AllocGlobal + Clone + Drop,
+    R: ByteFiles + AllocGlobal + Clone + Drop,
     R::File: FileExt,
 {
     match asked {
@@ -211,34 +221,94 @@ impl Chosen {
         Ok(ids)
     }
 
-    /// The words of a command that asks for these ids, with the options of the question. Each tip comes once. For `topo` the last tip
-    /// comes first, since of tips of one second the walk begins with the last, and git with the first. The first parents of one tip are
-    /// in one row, so `newest` lists them as `breadth` does.
+    /// The command over these ids that answers a question, with its options. Each tip of a list comes once. For `topo` the last tip comes
+    /// first, since of tips of one second the walk begins with the last, and git with the first. None where there are too few ids for a
+    /// command, or where none answers the question, as `resolve`.
+    ///
+    /// # Errors
+    ///
+    /// `AllocError` when out of memory.
+    pub fn command(
+        &self,
+        alloc: Global,
+        keys: Keys,
+        question: &Question,
+    ) -> Result<Option<Command>, AllocError> {
+        let options = &question.options;
+        let tips = self.tips.as_slice();
+        if let Some(order) = options.order(question.name) {
+            let mut tips = once(alloc, keys, tips)?;
+            if question.name == Name::Topo {
+                tips.as_mut_slice().reverse();
+            }
+            return Ok(Some(Command::Commits {
+                order,
+                shown: options.shown(),
+                tips,
+                hidden: Vec::from_slice(alloc, self.hidden.as_slice())?,
+            }));
+        }
+        let [first, others @ ..] = tips else {
+            return Ok(None);
+        };
+        Ok(match (question.name, others) {
+            (Name::Files, []) => Some(Command::Files {
+                shown: options.entry_lines(),
+                tree: *first,
+            }),
+            (Name::Ahead, [second]) => Some(Command::Ahead {
+                one: *first,
+                other: *second,
+            }),
+            // Whether the second reaches the first is whether it contains it.
+            (Name::IsAncestor, [second]) => Some(Command::Contained {
+                tip: *second,
+                ids: vec![in alloc; *first]?,
+            }),
+            (Name::Contains, [_, ..]) => Some(Command::Contained {
+                tip: *first,
+                ids: Vec::from_slice(alloc, others)?,
+            }),
+            (Name::Containing, [_, ..]) => Some(Command::Containing {
+                target: *first,
+                tips: Vec::from_slice(alloc, others)?,
+            }),
+            (Name::MergeBase, [_, ..]) => Some(Command::Bases {
+                one: *first,
+                others: Vec::from_slice(alloc, others)?,
+            }),
+            _ => None,
+        })
+    }
+
+    /// The words of the command over these ids that answers a question, or the question's name and the ids where there is none.
+    ///
+    /// # Errors
+    ///
+    /// `AllocError` when out of memory.
     pub fn words(
         &self,
         alloc: Global,
         keys: Keys,
         question: &Question,
     ) -> Result<Vec<String>, AllocError> {
-        let mut words = Vec::new(alloc);
-        // Whether the second reaches the first is whether it contains it.
-        let asks_the_second = question.name == Name::IsAncestor;
-        let name = match question.name {
-            Name::IsAncestor => Name::Contains,
-            Name::Newest if question.options.by_first_parents => Name::Breadth,
-            name => name,
-        };
-        words.push(String::from_str(alloc, name.word())?)?;
-        push_options(alloc, question, &mut words)?;
-        let mut tips = if question.name.is_list() {
-            once(alloc, keys, self.tips.as_slice())?
-        } else {
-            Vec::from_slice(alloc, self.tips.as_slice())?
-        };
-        if question.name == Name::Topo || asks_the_second {
-            tips.as_mut_slice().reverse();
+        if let Some(command) = self.command(alloc, keys, question)? {
+            return command.words(alloc);
         }
-        for id in tips.iter() {
+        let mut words = Vec::new(alloc);
+        words.push(String::from_str(alloc, question.name.word())?)?;
+        words.append(&mut self.id_words(alloc)?)?;
+        Ok(words)
+    }
+
+    /// The ids as words, those that are excluded with `^` and behind the others.
+    ///
+    /// # Errors
+    ///
+    /// `AllocError` when out of memory.
+    pub fn id_words(&self, alloc: Global) -> Result<Vec<String>, AllocError> {
+        let mut words = Vec::new(alloc);
+        for id in self.tips.iter() {
             words.push(format!(in alloc; "{id}")?)?;
         }
         for id in self.hidden.iter() {
@@ -246,57 +316,6 @@ impl Chosen {
         }
         Ok(words)
     }
-}
-
-/// Adds the words of the options, in the order in which a command takes them.
-fn push_options(
-    alloc: Global,
-    question: &Question,
-    words: &mut Vec<String>,
-) -> Result<(), AllocError> {
-    let options = &question.options;
-    let ends_in_zero = options.ends_in_zero && question.name.takes_limit();
-    push_flag(alloc, options.by_first_parents, "--first-parent", words)?;
-    push_value(alloc, "--since", &options.since, words)?;
-    push_value(alloc, "--until", &options.until, words)?;
-    push_flag(alloc, options.merges, "--merges", words)?;
-    push_flag(alloc, options.no_merges, "--no-merges", words)?;
-    push_value(alloc, "--skip", &options.skip, words)?;
-    push_value(alloc, "-n", &options.limit, words)?;
-    push_flag(alloc, options.counts, "--count", words)?;
-    push_flag(alloc, options.is_reversed, "--reverse", words)?;
-    push_value(alloc, "--format", &options.format, words)?;
-    push_flag(alloc, options.gives_time, "--timestamp", words)?;
-    push_flag(alloc, options.gives_parents, "--parents", words)?;
-    push_flag(alloc, options.gives_subject, "--oneline", words)?;
-    push_flag(alloc, ends_in_zero, "-z", words)
-}
-
-/// Adds an option if it is given.
-fn push_flag(
-    alloc: Global,
-    is_given: bool,
-    option: &str,
-    words: &mut Vec<String>,
-) -> Result<(), AllocError> {
-    if is_given {
-        words.push(String::from_str(alloc, option)?)?;
-    }
-    Ok(())
-}
-
-/// Adds an option and its value if it is given.
-fn push_value(
-    alloc: Global,
-    option: &str,
-    value: &Option<String>,
-    words: &mut Vec<String>,
-) -> Result<(), AllocError> {
-    if let Some(value) = value {
-        words.push(String::from_str(alloc, option)?)?;
-        words.push(value.clone()?)?;
-    }
-    Ok(())
 }
 
 /// Each of the ids at its first place.

@@ -1,4 +1,4 @@
-//! Questions about a repository: which ids their revisions stand for, and the words of the command over ids that answers them.
+//! Questions about a repository: which ids their revisions stand for, and the command over ids that answers them.
 //!
 //! The repository's files may be those of the system or of a folder in memory. Nothing is printed: a caller says what it wants of
 //! [`Chosen`].

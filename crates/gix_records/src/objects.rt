@@ -12,9 +12,14 @@ use std::marker::Model;
 
 /// Objects held in memory, each under the id that it has: the hash of its kind, its length and its bytes, by SHA-1 for ids of 20 bytes and
 /// by SHA-256 for ids of 32. No object is put in under another id, so no reader of the store has to compare it again.
-#[derive(Drop)]
 pub struct NamedObjects {
     store: MemoryStore<'static>,
+}
+
+impl Drop for NamedObjects {
+    fn drop(self) {
+        let NamedObjects { store: _ } = self;
+    }
 }
 
 impl Model for NamedObjects {

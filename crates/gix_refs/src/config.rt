@@ -3,7 +3,6 @@ use crate::fault::ConfigFault;
 use std::alloc::Global;
 
 /// Goes through the keys of a config.
-#[derive(Drop)]
 pub(crate) struct Keys<'a> {
     text: &'a [u8],
     rest: &'a [u8],
@@ -15,6 +14,19 @@ pub(crate) struct Keys<'a> {
     stem: usize,
     /// The key's value.
     pub value: Vec<u8>,
+}
+
+impl<'a> Drop for Keys<'a> {
+    fn drop(self) {
+        let Keys {
+            text: _,
+            rest: _,
+            is_at_end: _,
+            name: _,
+            stem: _,
+            value: _,
+        } = self;
+    }
 }
 
 impl<'a> Keys<'a> {

@@ -11,8 +11,8 @@ pub enum RefFault {
     /// It names a ref by what is no name of one.
     #[error("it names what is no name of a ref")]
     Name,
-    /// A name or a path in it isn't UTF-8.
-    #[error("a name in it is no text")]
+    /// The path in it isn't UTF-8.
+    #[error("the path in it isn't UTF-8")]
     NotText,
     /// This line of packed refs isn't an id, a space and a name, or the last line isn't ended.
     #[error("line {0} is no ref")]

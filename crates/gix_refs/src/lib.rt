@@ -10,13 +10,15 @@ mod fault;
 mod formats;
 mod names;
 mod packed;
+mod quoted;
 mod single;
 mod upstream;
 
 pub use border::shallow_ids;
 pub use fault::{ConfigFault, RefFault};
 pub use formats::{Settings, settings_of};
-pub use names::{is_name_of_any_level, is_ref_name};
+pub use names::{is_name_of_any_level, is_ref_name, name_of_text, text_of_name};
 pub use packed::{PackedRef, PackedRefs, packed_refs};
+pub use quoted::Quoted;
 pub use single::{Ref, common_dir, git_file, is_head, read_ref};
 pub use upstream::upstream_of;

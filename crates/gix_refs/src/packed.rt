@@ -5,25 +5,33 @@ ghost use Rattle.std.specs.Iterator.{at_most};
 use crate::fault::RefFault;
 use crate::names::is_name_of_any_level;
 use gix_hash::{Kind, ObjectId};
-use std::str;
 
 /// A ref of a file of packed refs.
 #[derive(Clone, Copy, PartialEq, Eq, Debug)]
 pub struct PackedRef<'a> {
     /// Its name, which is one of any level.
-    pub name: &'a str,
+    pub name: &'a [u8],
     /// Its id.
     pub id: ObjectId,
 }
 
-/// The refs of a file of packed refs, in the order of its lines. The line of a name that can't be that of a ref is the fault `Name` or
-/// `NotText`, and a line that isn't one is `Line`. The next line comes then.
-#[derive(Drop)]
+/// The refs of a file of packed refs, in the order of its lines. The line of a name that can't be that of a ref is the fault `Name`, and
+/// a line that isn't one is `Line`. The next line comes then.
 pub struct PackedRefs<'a> {
     kind: Kind,
     rest: &'a [u8],
     /// How many lines have been taken.
     line: u64,
+}
+
+impl<'a> Drop for PackedRefs<'a> {
+    fn drop(self) {
+        let PackedRefs {
+            kind: _,
+            rest: _,
+            line: _,
+        } = self;
+    }
 }
 
 /// The refs of a file of packed refs, whose ids are of this kind. Comments, and what it says that tags lead to, are passed over.
@@ -74,15 +82,10 @@ impl<'a> PackedRefs<'a> {
         if name.is_empty() {
             return Err(RefFault::Line(self.line));
         }
-        match str::from_utf8(name) {
-            Ok(name) => {
-                if is_name_of_any_level(name.as_bytes()) {
-                    Ok(PackedRef { name, id })
-                } else {
-                    Err(RefFault::Name)
-                }
-            }
-            Err(_) => Err(RefFault::NotText),
+        if is_name_of_any_level(name) {
+            Ok(PackedRef { name, id })
+        } else {
+            Err(RefFault::Name)
         }
     }
 }

@@ -10,7 +10,7 @@ pub enum Ref<'a> {
     /// It is this id.
     Id(ObjectId),
     /// It is what the ref of this name is, which is a name of any level.
-    Symbolic(&'a str),
+    Symbolic(&'a [u8]),
 }
 
 /// Reads the file of a ref: an id of this kind and white space, behind which may be anything, or `ref:`, white space and a name, and
@@ -18,18 +18,14 @@ pub enum Ref<'a> {
 ///
 /// # Errors
 ///
-/// `NoRef`, and `Name` or `NotText` where it names what can't be the name of a ref.
+/// `NoRef`, and `Name` where it names what can't be the name of a ref.
 pub fn read_ref(kind: Kind, text: &[u8]) -> Result<Ref<'_>, RefFault> {
     if let [b'r', b'e', b'f', b':', name @ ..] = text {
-        return match str::from_utf8(trimmed(name)) {
-            Ok(name) => {
-                if is_name_of_any_level(name.as_bytes()) {
-                    Ok(Ref::Symbolic(name))
-                } else {
-                    Err(RefFault::Name)
-                }
-            }
-            Err(_) => Err(RefFault::NotText),
+        let name = trimmed(name);
+        return if is_name_of_any_level(name) {
+            Ok(Ref::Symbolic(name))
+        } else {
+            Err(RefFault::Name)
         };
     }
     let Some((digits, behind)) = text.split_at_checked(kind.len_in_hex()) else {

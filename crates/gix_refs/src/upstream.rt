@@ -2,15 +2,19 @@
 use crate::config::Keys;
 use crate::fault::ConfigFault;
 use std::alloc::{AllocError, Global};
-use std::str;
 
 /// What a branch follows.
-#[derive(Drop)]
 struct Followed {
     /// The name of the remote, or `.` for the repository itself.
-    remote: String,
+    remote: Vec<u8>,
     /// The whole name that the ref has there.
-    name: String,
+    name: Vec<u8>,
+}
+
+impl Drop for Followed {
+    fn drop(self) {
+        let Followed { remote: _, name: _ } = self;
+    }
 }
 
 /// The whole name of the ref that is the upstream of a branch: of `main`, often `refs/remotes/origin/main`. It is where the first `fetch` of
@@ -23,11 +27,11 @@ struct Followed {
 pub fn upstream_of(
     alloc: Global,
     config: &[u8],
-    branch: &str,
-) -> Result<Option<String>, ConfigFault> {
+    branch: &[u8],
+) -> Result<Option<Vec<u8>>, ConfigFault> {
     match followed_by(alloc, config, branch)? {
         Some(followed) => {
-            if followed.remote.as_str() == "." {
+            if followed.remote.as_slice() == b".".as_slice() {
                 Ok(Some(followed.name.clone()?))
             } else {
                 fetched(alloc, config, &followed)
@@ -41,10 +45,10 @@ pub fn upstream_of(
 fn followed_by(
     alloc: Global,
     config: &[u8],
-    branch: &str,
+    branch: &[u8],
 ) -> Result<Option<Followed>, ConfigFault> {
-    let remote_key = format!(in alloc; "branch.{branch}.remote")?;
-    let merge_key = format!(in alloc; "branch.{branch}.merge")?;
+    let remote_key = key_of(alloc, b"branch.", branch, b".remote")?;
+    let merge_key = key_of(alloc, b"branch.", branch, b".merge")?;
     let mut remote = None;
     let mut name = None;
     let mut keys = Keys::new(alloc, config);
@@ -55,10 +59,10 @@ fn followed_by(
         if !has_value {
             continue;
         }
-        if keys.name.as_slice() == remote_key.as_bytes() {
-            remote = value_of(alloc, &keys)?;
-        } else if keys.name.as_slice() == merge_key.as_bytes() && name.is_none() {
-            name = value_of(alloc, &keys)?;
+        if keys.name.as_slice() == remote_key.as_slice() {
+            remote = Some(keys.value.clone()?);
+        } else if keys.name.as_slice() == merge_key.as_slice() && name.is_none() {
+            name = Some(keys.value.clone()?);
         }
     }
     Ok(match (remote, name) {
@@ -72,16 +76,15 @@ fn fetched(
     alloc: Global,
     config: &[u8],
     followed: &Followed,
-) -> Result<Option<String>, ConfigFault> {
-    let key = format!(in alloc; "remote.{}.fetch", followed.remote.as_str())?;
+) -> Result<Option<Vec<u8>>, ConfigFault> {
+    let key = key_of(alloc, b"remote.", followed.remote.as_slice(), b".fetch")?;
     let mut keys = Keys::new(alloc, config);
     for _ in 0..u64::MAX {
         let Some(has_value) = keys.next()? else {
             break;
         };
-        if has_value && keys.name.as_slice() == key.as_bytes() {
-            let fetch = str::from_utf8(keys.value.as_slice()).unwrap_or_default();
-            if let Some(name) = mapped(alloc, fetch, followed.name.as_str())? {
+        if has_value && keys.name.as_slice() == key.as_slice() {
+            if let Some(name) = mapped(alloc, keys.value.as_slice(), followed.name.as_slice())? {
                 return Ok(Some(name));
             }
         }
@@ -89,23 +92,27 @@ fn fetched(
     Ok(None)
 }
 
-/// The value of a key, where it is a text.
-fn value_of(alloc: Global, keys: &Keys<'_>) -> Result<Option<String>, AllocError> {
-    match str::from_utf8(keys.value.as_slice()) {
-        Ok(text) => Ok(Some(String::from_str(alloc, text)?)),
-        Err(_) => Ok(None),
-    }
+/// The name of a key.
+fn key_of(
+    alloc: Global,
+    section: &[u8],
+    subsection: &[u8],
+    key: &[u8],
+) -> Result<Vec<u8>, AllocError> {
+    let mut name = Vec::from_slice(alloc, section)?;
+    name.extend_from_slice(subsection)?;
+    name.extend_from_slice(key)?;
+    Ok(name)
 }
 
 /// What a rule as `+refs/heads/*:refs/remotes/origin/*` makes of a name, where it fits.
-fn mapped(alloc: Global, rule: &str, name: &str) -> Result<Option<String>, AllocError> {
-    let Some((from, to)) = rule.strip_prefix('+').unwrap_or(rule).split_once(':') else {
+fn mapped(alloc: Global, rule: &[u8], name: &[u8]) -> Result<Option<Vec<u8>>, AllocError> {
+    let Some((from, to)) = cut(rule.strip_prefix(b"+").unwrap_or(rule), b':') else {
         return Ok(None);
     };
-    let (Some((front, back)), Some((before, behind))) = (from.split_once('*'), to.split_once('*'))
-    else {
+    let (Some((front, back)), Some((before, behind))) = (cut(from, b'*'), cut(to, b'*')) else {
         return if from == name && !to.is_empty() {
-            Ok(Some(String::from_str(alloc, to)?))
+            Ok(Some(Vec::from_slice(alloc, to)?))
         } else {
             Ok(None)
         };
@@ -114,7 +121,16 @@ fn mapped(alloc: Global, rule: &str, name: &str) -> Result<Option<String>, Alloc
         .strip_prefix(front)
         .and_then(|rest| rest.strip_suffix(back))
     {
-        Some(part) => Ok(Some(format!(in alloc; "{before}{part}{behind}")?)),
+        Some(part) => Ok(Some(key_of(alloc, before, part, behind)?)),
         None => Ok(None),
+    }
+}
+
+/// What is before the first such byte, and what is behind it. None where there is none.
+fn cut(text: &[u8], byte: u8) -> Option<(&[u8], &[u8])> {
+    let end = text.iter().position(|other| *other == byte)?;
+    match text.split_at_checked(end) {
+        Some((before, [_, behind @ ..])) => Some((before, behind)),
+        _ => None,
     }
 }

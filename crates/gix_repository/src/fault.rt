@@ -1,5 +1,5 @@
 //! Why a repository gives no answer.
-use gix_refs::{ConfigFault, RefFault};
+use gix_refs::{ConfigFault, Quoted, RefFault};
 use std::alloc::{AllocError, AllocFailed};
 use thiserror::Error;
 
@@ -18,6 +18,9 @@ pub enum Damage {
     /// It leads to this path, where no repository is.
     #[error("no repository is at {0:?}")]
     LeadsNowhere(String),
+    /// A file of a ref has a name that isn't UTF-8, which the system's files don't take.
+    #[error("a name in it isn't UTF-8: git pack-refs --all puts such refs where they can be read")]
+    Unpacked,
     /// Folders of refs are within one another, more than 64 of them.
     #[error("folders of refs are too deep")]
     Deep,
@@ -54,7 +57,7 @@ pub enum Fault {
     #[error("{file:?}: {damage}")]
     Damaged {
         /// The path.
-        file: String,
+        file: Quoted,
         /// What is wrong with it.
         damage: Damage,
     },
@@ -62,13 +65,13 @@ pub enum Fault {
     #[error("broken ref: {file:?}: {damage}")]
     BrokenRef {
         /// The path.
-        file: String,
+        file: Quoted,
         /// What is wrong with it.
         damage: Damage,
     },
     /// The symbolic ref of this name is the sixth on its way, and git goes through five at the most.
     #[error("broken ref: too many symbolic refs lead to {0:?}")]
-    RefLoop(String),
+    RefLoop(Quoted),
     /// The objects can't be read.
     #[error(transparent)]
     Odb(gix_odb::Fault),
@@ -130,6 +133,11 @@ fn is_memory(damage: &Damage) -> bool {
 
 /// The fault of a file.
 pub(crate) fn fault_of(file: String, damage: Damage) -> Fault {
+    fault_at(Quoted::from(file), damage)
+}
+
+/// The fault of a file whose path may hold any bytes.
+pub(crate) fn fault_at(file: Quoted, damage: Damage) -> Fault {
     if is_memory(&damage) {
         return Fault::Memory;
     }
@@ -137,7 +145,7 @@ pub(crate) fn fault_of(file: String, damage: Damage) -> Fault {
 }
 
 /// The fault of the file of a ref.
-pub(crate) fn broken_ref(file: String, damage: Damage) -> Fault {
+pub(crate) fn broken_ref(file: Quoted, damage: Damage) -> Fault {
     if is_memory(&damage) {
         return Fault::Memory;
     }

@@ -12,7 +12,6 @@ pub(crate) const MOST_SMALL: u64 = 4096;
 const MOST_HEAD: u64 = 255;
 
 /// The folders of a repository.
-#[derive(Drop)]
 pub(crate) struct Folders {
     /// The one of this worktree.
     pub git: String,
@@ -20,6 +19,16 @@ pub(crate) struct Folders {
     pub common: String,
     /// Whether it was met as a folder that isn't `.git`, on the way upwards.
     pub is_bare: bool,
+}
+
+impl Drop for Folders {
+    fn drop(self) {
+        let Folders {
+            git: _,
+            common: _,
+            is_bare: _,
+        } = self;
+    }
 }
 
 /// The path of a name in a folder, or the name alone where it is a path from the root.
@@ -32,6 +41,20 @@ pub(crate) fn joined(alloc: Global, folder: &str, name: &str) -> Result<String, 
         }
     }
     path.push_str(name)?;
+    Ok(path)
+}
+
+/// The path of a name in a folder, where they may hold any bytes.
+pub(crate) fn joined_bytes(
+    alloc: Global,
+    folder: &[u8],
+    name: &[u8],
+) -> Result<Vec<u8>, AllocError> {
+    let mut path = Vec::from_slice(alloc, folder)?;
+    if !folder.ends_with(b"/") {
+        path.push(b'/')?;
+    }
+    path.extend_from_slice(name)?;
     Ok(path)
 }
 
@@ -77,11 +100,10 @@ where
         return Ok(Some(folders));
     }
     match at_folder(rt, place)? {
-        Some(folders) => Ok(Some(Folders {
-            git: folders.git,
-            common: folders.common,
-            is_bare: true,
-        })),
+        Some(mut folders) => {
+            folders.is_bare = true;
+            Ok(Some(folders))
+        }
         None => Ok(None),
     }
 }

@@ -2,6 +2,7 @@
 use crate::Repository;
 use crate::fault::{Damage, Fault, fault_of};
 use crate::folders::joined;
+use gix_files::ByteFiles;
 use gix_hash::ObjectId;
 use std::fs::Files;
 use std::os::unix::fs::FileExt;
@@ -10,7 +11,7 @@ use std::str;
 /// The most bytes of the list of the layers.
 const MOST_CHAIN: u64 = 1 << 16;
 
-impl<R: Files + AllocGlobal + Clone + Drop> Repository<R>
+impl<R: ByteFiles + AllocGlobal + Clone + Drop> Repository<R>
 where
     R::File: FileExt,
 {

@@ -15,9 +15,11 @@ pub use fault::{Damage, Fault};
 use finding::Packed;
 pub use finding::{Ambiguous, ShortRef};
 use folders::{Folders, joined};
+pub use gix_files::ByteFiles;
 use gix_hash::ObjectId;
 use gix_odb::Odb;
 use gix_refs::{ConfigFault, Settings, settings_of, shallow_ids};
+pub use gix_refs::{Quoted, name_of_text, text_of_name};
 pub use listing::{Listed, NamedRef};
 use std::fs::{self, Files};
 use std::os::unix::fs::FileExt;
@@ -26,7 +28,6 @@ use std::os::unix::fs::FileExt;
 const MOST_TEXT: u64 = 1 << 24;
 
 /// A repository.
-#[derive(Drop)]
 pub struct Repository<R: Files> {
     /// Its objects.
     pub odb: Odb<R>,
@@ -42,7 +43,22 @@ pub struct Repository<R: Files> {
     ambiguous: Vec<Ambiguous>,
 }
 
-impl<R: Files + AllocGlobal + Clone + Drop> Repository<R>
+impl<R: Files + Drop> Drop for Repository<R> {
+    fn drop(self) {
+        let Repository {
+            odb: _,
+            rt: _,
+            folders: _,
+            settings: _,
+            shallow: _,
+            has_grafts: _,
+            packed: _,
+            ambiguous: _,
+        } = self;
+    }
+}
+
+impl<R: ByteFiles + AllocGlobal + Clone + Drop> Repository<R>
 where
     R::File: FileExt,
 {
@@ -141,12 +157,12 @@ where
     /// Those of [`refs_below`](Repository::refs_below).
     pub fn count_replacements(&mut self) -> Result<usize, Fault> {
         let mut count = 0usize;
-        let listed = self.list("refs/replace/", true)?;
+        let listed = self.list(b"refs/replace/", true)?;
         for replacement in listed.refs.iter() {
-            if let Some((_, hex)) = replacement.name.as_str().rsplit_once('/') {
-                if ObjectId::from_digits(hex.as_bytes(), self.settings.kind).is_some() {
-                    count = count.saturating_add(1);
-                }
+            let mut parts = replacement.name.as_slice().rsplit(|byte| *byte == b'/');
+            let hex = parts.next().unwrap_or_default();
+            if ObjectId::from_digits(hex, self.settings.kind).is_some() {
+                count = count.saturating_add(1);
             }
         }
         Ok(count.saturating_add(listed.broken.len()))
@@ -162,21 +178,34 @@ where
     match settings_of(rt.alloc(), config.text.as_slice()) {
         Ok(settings) => {
             if has_reftable(rt, folders)? {
-                return Err(fault_of(config.path, Damage::Config(ConfigFault::Reftable)));
+                return Err(fault_of(config.into_path(), Damage::Config(ConfigFault::Reftable)));
             }
             Ok(settings)
         }
-        Err(fault) => Err(fault_of(config.path, Damage::Config(fault))),
+        Err(fault) => Err(fault_of(config.into_path(), Damage::Config(fault))),
     }
 }
 
 /// The file that says a repository's config.
-#[derive(Drop)]
 pub(crate) struct Config {
     /// Its path.
     pub path: String,
     /// Its bytes, which are none where there is no such file.
     pub text: Vec<u8>,
+}
+
+impl Drop for Config {
+    fn drop(self) {
+        let Config { path: _, text: _ } = self;
+    }
+}
+
+impl Config {
+    /// Its path alone.
+    pub(crate) fn into_path(self) -> String {
+        let Config { path, text: _ } = self;
+        path
+    }
 }
 
 /// Reads the config of a repository.

@@ -2,11 +2,12 @@
 use crate::fault::{Damage, Fault, fault_of};
 use crate::finding::{MOST_READS, Target};
 use crate::{Repository, read_config};
+use gix_files::ByteFiles;
 use gix_refs::upstream_of;
 use std::fs::Files;
 use std::os::unix::fs::FileExt;
 
-impl<R: Files + AllocGlobal + Clone + Drop> Repository<R>
+impl<R: ByteFiles + AllocGlobal + Clone + Drop> Repository<R>
 where
     R::File: FileExt,
 {
@@ -17,7 +18,7 @@ where
     /// # Errors
     ///
     /// `BrokenRef` where HEAD is damaged, `Damaged` where the config is. `Memory`.
-    pub fn upstream(&self, branch: Option<&str>) -> Result<Option<String>, Fault> {
+    pub fn upstream(&self, branch: Option<&[u8]>) -> Result<Option<Vec<u8>>, Fault> {
         match branch {
             Some(branch) => self.upstream_by_config(branch),
             None => self.upstream_of_head(),
@@ -25,26 +26,26 @@ where
     }
 
     /// The upstream of the branch that HEAD is, where symbolic refs are followed.
-    fn upstream_of_head(&self) -> Result<Option<String>, Fault> {
-        let mut name = String::from_str(self.rt.alloc(), "HEAD")?;
+    fn upstream_of_head(&self) -> Result<Option<Vec<u8>>, Fault> {
+        let mut name = Vec::from_slice(self.rt.alloc(), b"HEAD")?;
         for _ in 0..MOST_READS {
-            let Some(Target::Name(next)) = self.read_loose(name.as_str())? else {
+            let Some(Target::Name(next)) = self.read_loose(name.as_slice())? else {
                 break;
             };
             name = next;
         }
-        match name.as_str().strip_prefix("refs/heads/") {
+        match name.as_slice().strip_prefix(b"refs/heads/") {
             Some(branch) => self.upstream_by_config(branch),
             None => Ok(None),
         }
     }
 
     /// The upstream that the config says.
-    fn upstream_by_config(&self, branch: &str) -> Result<Option<String>, Fault> {
+    fn upstream_by_config(&self, branch: &[u8]) -> Result<Option<Vec<u8>>, Fault> {
         let config = read_config(&self.rt, &self.folders)?;
         match upstream_of(self.rt.alloc(), config.text.as_slice(), branch) {
             Ok(upstream) => Ok(upstream),
-            Err(fault) => Err(fault_of(config.path, Damage::Config(fault))),
+            Err(fault) => Err(fault_of(config.into_path(), Damage::Config(fault))),
         }
     }
 }

@@ -1,4 +1,7 @@
 //! A part of a repository that is read as far as an answer needs it.
+ghost use Rattle.std.specs.Prelude.{◌≡◌, IfOk};
+ghost use Rattle.std.specs.Bool.{OnFalse};
+
 use gix_commands::listed_ids;
 use gix_commitgraph::Graph;
 use gix_gather::{Fault, Gathering, Order};
@@ -37,13 +40,22 @@ impl Watch for Silent {
 }
 
 /// Objects of a repository, some of which were read.
-#[derive(Drop)]
 pub struct Part {
     alloc: Global,
     /// Those that were read, and the ids that wait.
     pub gathering: Gathering,
     /// How many are read at first. None if all are needed.
     pub first: Option<usize>,
+}
+
+impl Drop for Part {
+    fn drop(self) {
+        let Part {
+            alloc: _,
+            gathering: _,
+            first: _,
+        } = self;
+    }
 }
 
 impl Part {
@@ -171,16 +183,19 @@ impl Part {
     pub fn read_missing<R>(
         &mut self,
         lacks: &ObjectId,
-        words: &[String],
+        command: &Command,
         odb: &mut Odb<R>,
         graph: Option<&Graph>,
     ) -> Result<bool, Fault>
     where
         R: Files + AllocGlobal + Clone + Drop,
         R::File: FileExt,
+        ensures { IfOk result (λ is_more. OnFalse is_more (self.new.gathering ≡ self.old.gathering)) }
     {
         match graph {
-            Some(rows) if rows.commit_by_id(lacks).is_some() => self.read_listed(words, odb, graph),
+            Some(rows) if rows.commit_by_id(lacks).is_some() => self.read_listed(
+                command, odb, graph,
+            ),
             _ => Ok(false),
         }
     }
@@ -193,15 +208,16 @@ impl Part {
     /// The first fault of an object.
     pub fn read_listed<R>(
         &mut self,
-        words: &[String],
+        command: &Command,
         odb: &mut Odb<R>,
         graph: Option<&Graph>,
     ) -> Result<bool, Fault>
     where
         R: Files + AllocGlobal + Clone + Drop,
         R::File: FileExt,
+        ensures { IfOk result (λ is_more. OnFalse is_more (self.new.gathering ≡ self.old.gathering)) }
     {
-        match listed_ids(self.alloc, words, self.gathering.objects(), graph) {
+        match listed_ids(self.alloc, command, self.gathering.objects(), graph) {
             Ok(ids) => self.gathering.read_these(odb, ids.as_slice()),
             Err(_) => Ok(false),
         }
@@ -222,6 +238,7 @@ impl Part {
     where
         R: Files + AllocGlobal + Clone + Drop,
         R::File: FileExt,
+        ensures { IfOk result (λ may. OnFalse may (self.new.gathering ≡ self.old.gathering)) }
     {
         if !self.gathering.waits(lacks) {
             watch.end();

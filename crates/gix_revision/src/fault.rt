@@ -2,6 +2,7 @@
 use crate::parse::ParseFault;
 use crate::steps::StepFault;
 use gix_hash::ObjectId;
+use gix_repository::{Quoted, name_of_text};
 use std::alloc::{AllocError, AllocFailed, Global};
 use thiserror::Error;
 
@@ -15,24 +16,24 @@ pub enum Fault {
     #[error("{word:?}: {fault}")]
     Word {
         /// The word, or the side of a range.
-        word: String,
+        word: Quoted,
         /// Why it isn't taken.
         fault: ParseFault,
     },
     /// No ref has this name, and no object an id that begins so.
     #[error("{0:?}: no ref and no object is called so")]
-    Unknown(String),
+    Unknown(Quoted),
     /// The config names no upstream of this branch, or no ref is where its remote's are kept. `HEAD` is the branch that is checked out.
     #[error("{0:?}: no upstream of this branch is known")]
-    NoUpstream(String),
+    NoUpstream(Quoted),
     /// All refs are asked for, and this one is damaged.
     #[error("broken ref: {0:?}")]
-    BrokenRef(String),
+    BrokenRef(Quoted),
     /// The ids of several objects begin so.
     #[error("{word:?}: the ids of several objects begin so: {ids}")]
     Ambiguous {
         /// The digits.
-        word: String,
+        word: Quoted,
         /// The first 20 ids, parted by spaces, and how many others there are.
         ids: String,
     },
@@ -40,7 +41,7 @@ pub enum Fault {
     #[error("{word:?}: {fault}")]
     Steps {
         /// The revision.
-        word: String,
+        word: Quoted,
         /// Why they lead to none.
         fault: StepFault,
     },
@@ -85,12 +86,21 @@ impl From<gix_odb::Fault> for Fault {
     }
 }
 
+/// A word for a message, in which the text of a name is the name.
+///
+/// # Errors
+///
+/// `AllocError` when out of memory.
+pub fn quoted(alloc: Global, word: &str) -> Result<Quoted, AllocError> {
+    Ok(Quoted::of(name_of_text(alloc, word)?))
+}
+
 /// The fault of a word that isn't taken.
 pub(crate) fn fault_of_word(alloc: Global, word: &str, fault: ParseFault) -> Fault {
     if fault == ParseFault::Memory {
         return Fault::Memory;
     }
-    match String::from_str(alloc, word) {
+    match quoted(alloc, word) {
         Ok(word) => Fault::Word { word, fault },
         Err(_) => Fault::Memory,
     }
@@ -101,7 +111,18 @@ pub(crate) fn fault_of_steps(alloc: Global, word: &str, fault: StepFault) -> Fau
     if let StepFault::Memory = fault {
         return Fault::Memory;
     }
-    match String::from_str(alloc, word) {
+    match quoted(alloc, word) {
+        Ok(word) => Fault::Steps { word, fault },
+        Err(_) => Fault::Memory,
+    }
+}
+
+/// The fault of a ref whose object leads to no commit, or can't be read.
+pub(crate) fn fault_of_ref(alloc: Global, name: &[u8], fault: StepFault) -> Fault {
+    if let StepFault::Memory = fault {
+        return Fault::Memory;
+    }
+    match Quoted::new(alloc, name) {
         Ok(word) => Fault::Steps { word, fault },
         Err(_) => Fault::Memory,
     }
@@ -109,7 +130,7 @@ pub(crate) fn fault_of_steps(alloc: Global, word: &str, fault: StepFault) -> Fau
 
 /// The fault of a name that nothing has.
 pub(crate) fn unknown(alloc: Global, name: &str) -> Fault {
-    match String::from_str(alloc, name) {
+    match quoted(alloc, name) {
         Ok(name) => Fault::Unknown(name),
         Err(_) => Fault::Memory,
     }
@@ -117,7 +138,7 @@ pub(crate) fn unknown(alloc: Global, name: &str) -> Fault {
 
 /// The fault of digits that several ids begin with.
 pub(crate) fn ambiguous(alloc: Global, word: &str, ids: &[ObjectId]) -> Fault {
-    let word = match String::from_str(alloc, word) {
+    let word = match quoted(alloc, word) {
         Ok(word) => word,
         Err(_) => return Fault::Memory,
     };

@@ -7,5 +7,5 @@ pub mod parse;
 pub mod steps;
 mod texts;
 
-pub use fault::Fault;
+pub use fault::{Fault, quoted};
 pub use meaning::{Chosen, Resolved, Set, resolve, resolve_all, resolve_parsed};

@@ -5,14 +5,16 @@ ghost use Rattle.gix_revision.specs.declared.parse.Target.TheVariants as target;
 ghost use Rattle.gix_revision.specs.Resolves.{target_of, IsBase, Resolves, IsPushed, IsChosen, IsFor, Excludes, Adds, AddsAll, AddsOne, AddsCommits};
 ghost use Rattle.gix_revision.specs.Leads.{HasLinks};
 
-use crate::fault::{Fault, ambiguous, fault_of_steps, fault_of_word, unknown};
+use crate::fault::{
+    Fault, ambiguous, fault_of_ref, fault_of_steps, fault_of_word, quoted, unknown,
+};
 use crate::parse::{Base, Form, ParseFault, Rev, Revision, Step, Target, parse};
 use crate::steps::{StepFault, follow, peel, read_links};
 use crate::texts::Links;
 use gix_hash::ObjectId;
 use gix_object::Kind;
 use gix_odb::{Front, Odb};
-use gix_repository::Repository;
+use gix_repository::{ByteFiles, Quoted, Repository, name_of_text, text_of_name};
 use std::alloc::Global;
 use std::fs::Files;
 use std::os::unix::fs::FileExt;
@@ -42,12 +44,19 @@ pub enum Chosen {
 }
 
 /// A part of a word, and what it means.
-#[derive(Drop, Debug)]
+#[derive(Debug)]
 pub struct Resolved {
-    /// The revision as it was written, without `^`. Of `A...B` it is A. Of `A^@`, `A^!` and `A^-n` parent n is `A^n`.
+    /// The revision as it was written, without `^`. Of `A...B` it is A. Of `A^@`, `A^!` and `A^-n` parent n is `A^n`. Of a ref of a set it is
+    /// the name as [`text_of_name`](gix_repository::text_of_name) writes it.
     pub word: String,
     /// What it means.
     pub chosen: Chosen,
+}
+
+impl Drop for Resolved {
+    fn drop(self) {
+        let Resolved { word: _, chosen: _ } = self;
+    }
 }
 
 /// Some refs of a repository.
@@ -66,8 +75,8 @@ pub enum Set {
 /// Adds what a word means: `A`, `^A`, `A..B`, `A...B`, `A^@`, `A^!` or `A^-n`, and where a tree is wanted also `A:path`. Objects of the kind
 /// `wanted` are meant: tags are followed to one, and a commit to its tree. If `is_turned`, `^` means the opposite, as behind `--not`.
 ///
-/// An id that is written whole is this id, whatever refs there are. Else a ref of the name is meant, and else the object whose id begins
-/// with these digits, four at the least. Each object on the way is compared with its id before its text is used.
+/// An id that is written whole is this id, whatever refs there are. Else a ref is meant whose name the text stands for, in which a backslash and
+/// three octal digits are a byte that isn't ASCII, and else the object whose id begins with these digits, four at the least. Each object on the way is compared with its id before its text is used.
 ///
 /// # Errors
 ///
@@ -81,7 +90,7 @@ pub fn resolve<R>(
     found: &mut Vec<Resolved>,
 ) -> Result<(), Fault>
 where
-    R: Files + AllocGlobal + Clone + Drop,
+    R: ByteFiles + AllocGlobal + Clone + Drop,
     R::File: FileExt,
     ensures { OnOk result (Adds (target_of wanted) found.old.items found.new.items) }
 {
@@ -119,7 +128,7 @@ pub fn resolve_parsed<R>(
     found: &mut Vec<Resolved>,
 ) -> Result<(), Fault>
 where
-    R: Files + AllocGlobal + Clone + Drop,
+    R: ByteFiles + AllocGlobal + Clone + Drop,
     R::File: FileExt,
     ensures { OnOk result (IsChosen wanted revision.now found.old.items found.new.items) }
 {
@@ -170,10 +179,15 @@ where
 }
 
 /// A commit that was read.
-#[derive(Drop)]
 struct Commit {
     id: ObjectId,
     links: Links,
+}
+
+impl Drop for Commit {
+    fn drop(self) {
+        let Commit { id: _, links: _ } = self;
+    }
 }
 
 /// The commit that a revision means.
@@ -184,7 +198,7 @@ fn commit_of<R>(
     wanted: Target,
 ) -> Result<Commit, Fault>
 where
-    R: Files + AllocGlobal + Clone + Drop,
+    R: ByteFiles + AllocGlobal + Clone + Drop,
     R::File: FileExt,
     ensures means { IfOk result (λ commit. IsFor target.Commit rev.now commit.id) }
     ensures links { IfOk result (λ commit. HasLinks commit.id commit.links.tree commit.links.parents.items) }
@@ -285,28 +299,28 @@ pub fn resolve_all<R>(
     found: &mut Vec<Resolved>,
 ) -> Result<(), Fault>
 where
-    R: Files + AllocGlobal + Clone + Drop,
+    R: ByteFiles + AllocGlobal + Clone + Drop,
     R::File: FileExt,
     ensures { OnOk result (AddsCommits are_hidden found.old.items found.new.items) }
 {
     let prefix = match set {
-        Set::All => "refs/",
-        Set::Branches => "refs/heads/",
-        Set::Tags => "refs/tags/",
-        Set::Remotes => "refs/remotes/",
+        Set::All => b"refs/".as_slice(),
+        Set::Branches => b"refs/heads/",
+        Set::Tags => b"refs/tags/",
+        Set::Remotes => b"refs/remotes/",
     };
     let listed = repository.list_below(prefix)?;
     if let Some(name) = listed.broken.first() {
-        return Err(Fault::BrokenRef(name.clone()?));
+        return Err(Fault::BrokenRef(Quoted::of(name.clone()?)));
     }
     for named in listed.refs.iter() {
-        let name = named.name.as_str();
+        let name = named.name.as_slice();
         add_commit(alloc, repository, name, &named.id, are_hidden, found)?;
     }
     if set == Set::All {
         let heads = repository.heads()?;
         for head in heads.iter() {
-            let name = head.name.as_str();
+            let name = head.name.as_slice();
             add_commit(alloc, repository, name, &head.id, are_hidden, found)?;
         }
     }
@@ -317,21 +331,35 @@ where
 fn add_commit<R>(
     alloc: Global,
     repository: &mut Repository<R>,
-    name: &str,
+    name: &[u8],
     id: &ObjectId,
     is_hidden: bool,
     found: &mut Vec<Resolved>,
 ) -> Result<(), Fault>
 where
-    R: Files + AllocGlobal + Clone + Drop,
+    R: ByteFiles + AllocGlobal + Clone + Drop,
     R::File: FileExt,
     ensures { OnOk result (AddsOne is_hidden found.old.items found.new.items) }
 {
     match peel(alloc, &mut repository.odb, id, Target::Commit) {
-        Ok(id) => push(alloc, found, name, Chosen::One { id, is_hidden }),
+        Ok(id) => push_ref(alloc, found, name, Chosen::One { id, is_hidden }),
         Err(StepFault::Kind(..)) => Ok(()),
-        Err(fault) => Err(fault_of_steps(alloc, name, fault)),
+        Err(fault) => Err(fault_of_ref(alloc, name, fault)),
     }
+}
+
+/// Adds what a ref of this name means.
+fn push_ref(
+    alloc: Global,
+    found: &mut Vec<Resolved>,
+    name: &[u8],
+    chosen: Chosen,
+) -> Result<(), Fault>
+    ensures { OnOk result (IsPushed chosen found.old.items found.new.items) }
+{
+    let word = text_of_name(alloc, name)?;
+    found.push(Resolved { word, chosen })?;
+    Ok(())
 }
 
 /// Adds what a part of a word means.
@@ -363,7 +391,7 @@ fn id_of<R>(
     wanted: Target,
 ) -> Result<ObjectId, Fault>
 where
-    R: Files + AllocGlobal + Clone + Drop,
+    R: ByteFiles + AllocGlobal + Clone + Drop,
     R::File: FileExt,
     ensures { IfOk result (λ found. Resolves rev.now.base rev.now.steps.items wanted found) }
 {
@@ -401,7 +429,7 @@ fn base_of<R>(
     wanted: Target,
 ) -> Result<ObjectId, Fault>
 where
-    R: Files + AllocGlobal + Clone + Drop,
+    R: ByteFiles + AllocGlobal + Clone + Drop,
     R::File: FileExt,
     ensures { IfOk result (λ found. IsBase base.entry found) }
 {
@@ -419,15 +447,22 @@ fn upstream<R>(
     branch: Option<&str>,
 ) -> Result<ObjectId, Fault>
 where
-    R: Files + AllocGlobal + Clone + Drop,
+    R: ByteFiles + AllocGlobal + Clone + Drop,
     R::File: FileExt,
 {
-    if let Some(name) = repository.upstream(branch)? {
-        if let Some(id) = repository.find_ref(name.as_str())? {
+    let name = match branch {
+        Some(branch) => {
+            let branch = name_of_text(alloc, branch)?;
+            repository.upstream(Some(branch.as_slice()))?
+        }
+        None => repository.upstream(None)?,
+    };
+    if let Some(name) = name {
+        if let Some(id) = repository.find_ref(name.as_slice())? {
             return Ok(id);
         }
     }
-    Err(Fault::NoUpstream(String::from_str(alloc, branch.unwrap_or("HEAD"))?))
+    Err(Fault::NoUpstream(quoted(alloc, branch.unwrap_or("HEAD"))?))
 }
 
 /// The id of the ref of a name, or the one that begins with these digits.
@@ -438,10 +473,11 @@ fn named<R>(
     wanted: Target,
 ) -> Result<ObjectId, Fault>
 where
-    R: Files + AllocGlobal + Clone + Drop,
+    R: ByteFiles + AllocGlobal + Clone + Drop,
     R::File: FileExt,
 {
-    if let Some(short) = repository.find_short(name)? {
+    let bytes = name_of_text(alloc, name)?;
+    if let Some(short) = repository.find_short(bytes.as_slice())? {
         return Ok(short.id);
     }
     if is_described(name) {

@@ -63,6 +63,13 @@ pub struct Rev<'a> {
     pub has_path: bool,
 }
 
+impl Rev<'_> {
+    /// Whether the steps begin at an id that is written whole, so that the same object is meant whatever refs there are.
+    pub fn is_of_id(&self) -> bool {
+        matches!(self.base, Base::Id(_))
+    }
+}
+
 /// What a word asks for.
 #[derive(Drop, Debug)]
 pub enum Revision<'a> {
@@ -144,24 +151,46 @@ impl<'a> Revision<'a> {
         }
     }
 
-    /// The texts of the commits that the word names, with which their ids are given: one or two, and none where only parents are meant.
-    pub fn texts(&self) -> (Option<&'a str>, Option<&'a str>) {
+    /// The parts of what the word means, in the order in which they are found.
+    pub fn parts(&self) -> (Part<'a>, Option<Part<'a>>) {
         match self {
-            Revision::One { rev, .. } | Revision::Without { rev, .. } => (Some(rev.text), None),
-            Revision::Range { hidden, tip } => (Some(hidden.text), Some(tip.text)),
-            Revision::Symmetric { one, .. } => (Some(one.text), None),
-            Revision::Neither { one, other } => (Some(one.text), Some(other.text)),
-            Revision::Parents { .. } => (None, None),
+            Revision::One { rev, is_hidden } => (Part::One(rev.text, *is_hidden), None),
+            Revision::Range { hidden, tip } => (
+                Part::One(hidden.text, true),
+                Some(Part::One(tip.text, false)),
+            ),
+            Revision::Symmetric { one, .. } => (Part::Symmetric(one.text), None),
+            Revision::Neither { one, other } => (
+                Part::One(one.text, true),
+                Some(Part::One(other.text, true)),
+            ),
+            Revision::Parents { rev, are_hidden } => (Part::Parents(rev.text, *are_hidden), None),
+            Revision::Without {
+                rev,
+                parent,
+                is_hidden,
+            } => {
+                let parents = match parent {
+                    Some(number) => Part::Parent(rev.text, *number, !*is_hidden),
+                    None => Part::Parents(rev.text, !*is_hidden),
+                };
+                (parents, Some(Part::One(rev.text, *is_hidden)))
+            }
         }
     }
+}
 
-    /// The text of the commit whose parents the word means too. Their ids are given with it, `^` and a number.
-    pub fn child(&self) -> Option<&'a str> {
-        match self {
-            Revision::Parents { rev, .. } | Revision::Without { rev, .. } => Some(rev.text),
-            _ => None,
-        }
-    }
+/// A part of what a word means: the text of the revision, and whether what it reaches is left out.
+#[derive(Clone, Copy, PartialEq, Eq, Debug)]
+pub enum Part<'a> {
+    /// The revision.
+    One(&'a str, bool),
+    /// What one of two commits reaches, but not both. The text is that of the first.
+    Symmetric(&'a str),
+    /// All parents of the revision.
+    Parents(&'a str, bool),
+    /// The parent of this number.
+    Parent(&'a str, u32, bool),
 }
 
 /// A form of revisions that git takes and that isn't taken here. Its text says what is taken in its place.

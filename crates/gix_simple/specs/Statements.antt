@@ -23,7 +23,7 @@ use Rattle.gix_revwalk.specs.Commits.{ReadsWhole, parents_of, time_of}
 use Rattle.gix_simple.specs.Walk.{SimpleWalk, Next, IsMade, time_order, cutoff}
 use Rattle.gix_revwalk.specs.Ids.{ids_of, AreDistinct, new_ids}
 use Rattle.gix_simple.specs.Building.{IsBuilt, IsUncut}
-use Rattle.gix_revwalk.specs.Infos.{given_ids}
+use Rattle.gix_revwalk.specs.Infos.{given, given_ids}
 use Rattle.gix_simple.specs.Laws.{IsFresh, IsWholeRun, IsBegunRun, IsPlainRun, IsPlain, GivesInOrder, GivesBeginning, IsNewWalk, IsNoRefusal, GivesBreadthFirst, GivesDifference, IsFaultlessRun, BeginsTextOrder, GivesTextOrder, accepted_parents, recent_parents, next_of, starts_of, named_in, answers_left}
 use Rattle.gix_revwalk.specs.Asking.{AnswersBy}
 use Rattle.gix_simple.specs.Runs.{AsksOnce, TellsGenerations, AreAlike, AreBuiltAlike, GiveTheSame, GivesUnhidden}
@@ -242,6 +242,16 @@ module _ {F P : Type 0} (objects : F → Objects) (faulty : F → ObjectId → T
       → IsWholeRun objects faulty answers walk accepts hidden list
       → IsWholeRun objects faulty answers other accepts hidden there
       → GiveTheSame objects walk other list there
+
+  -- two walks with different rows: their answers are commits that differ in generations alone
+  abbrev pub RowsChangeGenerationsAlone : Type 0
+  RowsChangeGenerationsAlone =
+      (walk other : SimpleWalk F P) (accepts hidden : ObjectId → Bool) (list there : List (Result Info Error))
+      → AreAlike walk other
+      → IsWholeRun objects faulty answers walk accepts hidden list
+      → IsWholeRun objects faulty answers other accepts hidden there
+      → (infos others : List Info) × (list ≡ given infos) × (there ≡ given others)
+      × AllZip (λ (a : Info) (b : Info). (a.id ≡ b.id) × (a.parent_ids.items ≡ b.parent_ids.items) × (a.commit_time ≡ b.commit_time)) infos others
 
   -- which generations are given
   abbrev pub TellsTheGenerations : Type 0

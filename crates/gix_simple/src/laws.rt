@@ -1,6 +1,6 @@
 //! Laws of `commit::Simple`, and of the commits that walks give.
 
-ghost use Rattle.gix_simple.specs.Statements.{MakesNewWalks, BuildsFreshWalks, NewWalksGiveBreadthFirst, PlainRunsAreInBreadthOrder, PlainRunsAreInTimeOrder, RunsAreInOrder, GivesEachOnce, RunsBeginInOrder, BeginsOnce, RunsGiveTheDifference, FaultlessRunsGiveTheDifference, FaultlessRunsAreInOrder, FaultlessRunsBeginInOrder, info_cmp, BuildsAlike, HidesWhatIsReached, HidesNoLater, RowsLeaveTheIds, TellsTheGenerations, TimesFall, GivesNeverTwice, AsksNeverTwice, Ends, ReachIsDecided, SomeBreadthOrder, SomeTimeOrder, OneBreadthOrder, OneBreadthBeginning, OneTimeOrder, OneTimeBeginning};
+ghost use Rattle.gix_simple.specs.Statements.{MakesNewWalks, BuildsFreshWalks, NewWalksGiveBreadthFirst, PlainRunsAreInBreadthOrder, PlainRunsAreInTimeOrder, RunsAreInOrder, GivesEachOnce, RunsBeginInOrder, BeginsOnce, RunsGiveTheDifference, FaultlessRunsGiveTheDifference, FaultlessRunsAreInOrder, FaultlessRunsBeginInOrder, info_cmp, BuildsAlike, HidesWhatIsReached, HidesNoLater, RowsLeaveTheIds, RowsChangeGenerationsAlone, TellsTheGenerations, TimesFall, GivesNeverTwice, AsksNeverTwice, Ends, ReachIsDecided, SomeBreadthOrder, SomeTimeOrder, OneBreadthOrder, OneBreadthBeginning, OneTimeOrder, OneTimeBeginning};
 ghost use Rattle.std.specs.Prelude.{◌≡◌};
 ghost use Rattle.gix_revwalk.specs.declared.Info.{Info as InfoRecord};
 
@@ -190,4 +190,11 @@ pub fn one_time_beginning()
 /// Commits are compared by their ids, then by their parents, then by their generations, and then by their times.
 pub fn infos_are_ordered()
     ensures { (a b : InfoRecord) → ⟦<Info as Ord>⟧.cmp a b ≡ info_cmp a b }
+{}
+
+/// Rows that agree, corrupt ones among them, change nothing that a walk gives but generations, in every order: with rows as without, it
+/// gives the same commits in the same order, each with the same parents and the same time, and no fault. The two walks are alike, their
+/// predicates accept the same ids, their hidden tips reach the same ids, and each walk is as `in_order` asks.
+pub fn rows_change_generations_alone<F: Find, P: Predicate>()
+    ensures { RowsChangeGenerationsAlone F.objects F.faulty P.answers }
 {}

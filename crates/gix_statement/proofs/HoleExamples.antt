@@ -4,7 +4,7 @@ use Rattle.std.specs.Fmt.{digits}
 use Rattle.gix_hash.proofs.Ids.Membership.{no_member}
 use Rattle.gix_hash.specs.declared.ObjectId.{ObjectId}
 use Rattle.gix_statement.proofs.Tests.{not_among}
-use Rattle.gix_statement.specs.WholeStatement.{Object, Objects, Row, AreRecords, AreFed, IsLast, IsCommit, IsThere, IsHistory, Promises, Serves, commits, ahead, contains, containing, bases, files, lists, Choice, Form, Lines, Reversed, Number, chosen, commit_line, written}
+use Rattle.gix_statement.specs.WholeStatement.{Object, Objects, Row, AreRecords, AreFed, AreNamed, IsLast, IsCommit, IsThere, IsHistory, Promises, Serves, commits, ahead, contains, containing, bases, files, lists, Choice, Form, Lines, Reversed, Number, chosen, commit_line, written}
 
 pub none : ObjectId → List ObjectId
 none i = []
@@ -112,3 +112,13 @@ missing_release_is_a_fault : {E : Type 0} (e : E) (out : List ℕ) → Promises 
 missing_release_is_a_fault e out (objects, rows, (fed, no_rows), agree, right) =
     let nothing = fed_nothing objects fed in
     not_contained objects rows nothing no_rows _ _ out refl (right none no_time (a_history objects rows nothing no_rows))
+
+-- THE THIRD HOLE: over a repository that has neither, `newest 22..` writes `22..` and its parent `11..`, since some commits have these ids as
+-- their hashes. What is promised is of the objects that the run has, and if it has none, nothing is listed.
+abbrev Held : Objects → Objects → List Row → Type 0
+Held held objects rows = AreNamed objects × (objects ≡ held) × (rows ≡ [])
+
+nothing_else_is_listed : {E : Type 0} (e : E) (words : List (List ℕ)) (held : Objects) (out : List ℕ) → ((i : ObjectId) → held i ≡ None) → Promises e words (Held held) (Some []) (Ok tt) (Some out) → IsNothing out
+nothing_else_is_listed e words held out empty (objects, rows, (named, same, no_rows), agree, right) =
+    let nothing : (i : ObjectId) → objects i ≡ None = λ i. ap (λ (f : Objects). f i) same ∙ empty i in
+    served_nothing objects rows nothing no_rows words out (right none no_time (a_history objects rows nothing no_rows))

@@ -19,7 +19,7 @@ use Rattle.gix_topo.specs.WalkSet.{IsInWalk, IsAcyclicIn, IsChild}
 use Rattle.gix_topo.specs.DateOrder.{IsBestMade}
 use Rattle.gix_topo.specs.TopoOrder.{IsLastMade}
 use Rattle.gix_topo.specs.Walk.{TopoPlan, TopoWalk, walked_of, row_generation, IsMember, IsStarted, IsSound, IsLeft, IsFault, IsLate, IsCounting, IsKnown, Next, text_walked, IsTextMember}
-use Rattle.gix_revwalk.specs.Infos.{given_ids}
+use Rattle.gix_revwalk.specs.Infos.{given, given_ids}
 use Rattle.gix_topo.specs.Laws.{IsNextTaken, IsNextByText, IsWholeRun, IsGiven, GivesInOrder, BeginsInOrder, GivesDifference, IsNoRefusal, answers_left, GivesTextOrder, BeginsTextOrder, GivesTextDifference}
 use Rattle.gix_revwalk.specs.Asking.{AnswersBy, AsksAll}
 
@@ -160,6 +160,16 @@ module _ {F P : Type 0} (objects : F → Objects) (faulty : F → ObjectId → T
       → IsWholeRun objects faulty answers walk accepts list
       → IsWholeRun objects faulty answers other accepts longer
       → (ids : List ObjectId) × AllZip (IsGiven objects walk.plan) list (filter accepts ids) × AllZip (IsGiven objects other.plan) longer (filter accepts ids)
+
+  -- two walks, each by rows of its own that agree: their answers are commits that differ in generations alone
+  abbrev pub RowsChangeGenerationsAlone : Type 0
+  RowsChangeGenerationsAlone =
+      (walk other : TopoWalk F P) (rows : List GraphRow) (accepts : ObjectId → Bool) (list longer : List (Result Info Error))
+      → other.plan ≡ record walk.plan { rows = rows }
+      → IsWholeRun objects faulty answers walk accepts list
+      → IsWholeRun objects faulty answers other accepts longer
+      → (infos others : List Info) × (list ≡ given infos) × (longer ≡ given others)
+      × AllZip (λ (a : Info) (b : Info). (a.id ≡ b.id) × (a.parent_ids.items ≡ b.parent_ids.items) × (a.commit_time ≡ b.commit_time)) infos others
 
   -- two walks, each by rows of its own that agree, and in an order of its own
   abbrev pub RowsLeaveTheSet : Type 0

@@ -5,7 +5,7 @@
 //! parents of what tips reach read whole. A law that names no premise holds for every store, all rows and every predicate, and over
 //! cycles.
 
-ghost use Rattle.gix_topo.specs.Statements.{RunsAreInOrder, RunsBeginInOrder, BeginsEachOnce, SomeTopoOrder, SomeDateOrder, TopoOrderIsOne, DateOrderIsOne, TopoBeginningIsOne, DateBeginningIsOne, TakesEachOnce, RunsGiveTheDifference, TakesChildrenFirst, RowsLeaveTheIds, RowsLeaveTheSet, Ends, AsksNeverTwice, GivesNeverTwice, FailsForItsReason, StaysEnded, ParentsAreKnown, TellsTheGenerations, CountsDownToTheDepth, FaultlessRunsAreInOrder, FaultlessRunsBeginInOrder, TakesEachByText, FaultlessRunsGiveTheDifference};
+ghost use Rattle.gix_topo.specs.Statements.{RunsAreInOrder, RunsBeginInOrder, BeginsEachOnce, SomeTopoOrder, SomeDateOrder, TopoOrderIsOne, DateOrderIsOne, TopoBeginningIsOne, DateBeginningIsOne, TakesEachOnce, RunsGiveTheDifference, TakesChildrenFirst, RowsLeaveTheIds, RowsLeaveTheSet, RowsChangeGenerationsAlone, Ends, AsksNeverTwice, GivesNeverTwice, FailsForItsReason, StaysEnded, ParentsAreKnown, TellsTheGenerations, CountsDownToTheDepth, FaultlessRunsAreInOrder, FaultlessRunsBeginInOrder, TakesEachByText, FaultlessRunsGiveTheDifference};
 
 use gix_object::find::Find;
 use gix_revwalk::Predicate;
@@ -162,4 +162,11 @@ pub fn tells<F: Find, P: Predicate>()
 /// and no such commit has a corrupt row. The rows are dropped only for one; then it has read the parents of all that tips or ends reach.
 pub fn counts<F: Find, P: Predicate>()
     ensures { CountsDownToTheDepth F.objects F.faulty P.answers }
+{}
+
+/// Rows that agree change nothing that a walk gives but generations, in either order: with rows as without, it gives the same commits in
+/// the same order, each with the same parents and the same time, and no fault. The two walks were built alike, except that each has rows
+/// of its own or none, the premises of `in_order` hold for both, and both predicates answer alike.
+pub fn rows_change_generations_alone<F: Find, P: Predicate>()
+    ensures { RowsChangeGenerationsAlone F.objects F.faulty P.answers }
 {}

@@ -1,12 +1,12 @@
 //! Answers to questions about a repository.
 use crate::failure::Failure;
 use crate::graph::{check, rows, rows_of, warn};
+use crate::lines::Lines;
 use crate::named::named;
-use crate::output::Lines;
 use crate::paged::Paged;
 use crate::progress::Progress;
 use gix_certificate::Rows;
-use gix_commands::{Fault, run_named};
+use gix_commands::Fault;
 use gix_commitgraph::Graph;
 use gix_gather::{Gathering, Order};
 use gix_hash::Keys;
@@ -18,8 +18,9 @@ use gix_questions::{Chosen, choose_from, resolve_words};
 use gix_records::{NamedObjects, READS, read_to_end};
 use gix_repository::Repository;
 use gix_repository_commands::{Part, answer as answer_from_part};
-use gix_revision::Resolved;
 use gix_revision::steps::StepFault;
+use gix_revision::{Resolved, quoted};
+use gix_words::Command;
 use std::alloc::AllocError;
 use std::io::Write;
 
@@ -34,7 +35,6 @@ const MOST_PAIRS: usize = 16;
 const FEW_LINES: usize = 1000;
 
 /// What a question is answered from.
-#[derive(Drop)]
 struct Asking<'a> {
     rt: &'a HostRuntime,
     keys: Keys,
@@ -44,13 +44,49 @@ struct Asking<'a> {
     rows: Rows,
 }
 
+impl<'a> Drop for Asking<'a> {
+    fn drop(self) {
+        let Asking {
+            rt: _,
+            keys: _,
+            question: _,
+            chosen: _,
+            progress: _,
+            rows: _,
+        } = self;
+    }
+}
+
 /// How a question was answered.
-#[derive(Clone, Copy)]
 pub(crate) struct Answered {
     /// The status.
     pub status: u8,
     /// Which rows were used.
     pub rows: Rows,
+    /// The words of the command over ids, where a certificate is asked for.
+    pub words: Vec<String>,
+}
+
+impl Answered {
+    /// The words alone.
+    pub(crate) fn into_words(self) -> Vec<String> {
+        let Answered {
+            status: _,
+            rows: _,
+            words,
+        } = self;
+        words
+    }
+}
+
+impl Drop for Answered {
+    fn drop(self) {
+        let Answered {
+            status: _,
+            rows: _,
+            words: _,
+        } = self;
+    }
 }
 
 /// Answers a question, and gives the status.
@@ -76,7 +112,8 @@ fn answer_in<W: Write>(
     question: &Question,
     output: &mut W,
 ) -> Result<Answered, Failure> {
-    let resolved = resolve(rt, repository, question)?;
+    let lines = input_lines(rt, question)?;
+    let resolved = resolve(rt, repository, question, lines.as_slice())?;
     answer_from(rt, keys, repository, question, resolved, output)
 }
 
@@ -105,13 +142,15 @@ pub(crate) fn answer_from<W: Write>(
         question.name,
         Name::Contains | Name::Containing | Name::MergeBase
     );
-    if chosen.tips.is_empty() || asks_of_others && chosen.tips.len() < 2 {
+    let writes_hidden = question.name == Name::Resolve && !chosen.hidden.is_empty();
+    if chosen.tips.is_empty() && !writes_hidden || asks_of_others && chosen.tips.len() < 2 {
         if question.options.counts {
             write(&mut lines, b"0\n")?;
         }
         return Ok(Answered {
             status: 0,
             rows: Rows::Unused,
+            words: words_of(rt, keys, question, &chosen)?,
         });
     }
     let mut asking = Asking {
@@ -130,11 +169,25 @@ pub(crate) fn answer_from<W: Write>(
         Ok(status) => Ok(Answered {
             status,
             rows: asking.rows,
+            words: words_of(rt, keys, question, &asking.chosen)?,
         }),
         // A line that there is no memory for isn't written.
         Err(_) if lines.ran_out() => Err(Failure::Command(Fault::Memory)),
         Err(failure) => Err(missing_of_clone(repository, &question.options, failure)),
     }
+}
+
+/// The words of the command that a question has become, where a certificate keeps them.
+fn words_of(
+    rt: &HostRuntime,
+    keys: Keys,
+    question: &Question,
+    chosen: &Chosen,
+) -> Result<Vec<String>, AllocError> {
+    if question.options.certificate.is_none() {
+        return Ok(Vec::new(rt.alloc()));
+    }
+    chosen.words(rt.alloc(), keys, question)
 }
 
 /// The failure, where what isn't there of a shallow or partial clone is called so. `--border` is named where it isn't given and goes with
@@ -158,36 +211,44 @@ fn missing_of_clone(
     }
 }
 
+/// The lines of standard input, where a question asks for them.
+pub(crate) fn input_lines(rt: &HostRuntime, question: &Question) -> Result<Vec<String>, Failure> {
+    let alloc = rt.alloc();
+    if !takes_lines(question) {
+        return Ok(Vec::new(alloc));
+    }
+    let text = read_to_end(alloc, &mut rt.stdin(), READS)?;
+    Ok(read_lines(alloc, text.as_slice())?)
+}
+
+/// Whether a question asks for the lines of standard input.
+pub(crate) fn takes_lines(question: &Question) -> bool {
+    question
+        .asked
+        .iter()
+        .any(|asked| matches!(asked, Asked::Lines))
+}
+
 /// Reads what the revisions of a question stand for, and says which are called so that several refs have the name. With `--verbose` it says
-/// of each what it stands for.
+/// of each what it stands for. The lines of standard input are `lines`.
 pub(crate) fn resolve(
     rt: &HostRuntime,
     repository: &mut Repository<HostRuntime>,
     question: &Question,
+    lines: &[String],
 ) -> Result<Vec<Resolved>, Failure> {
-    let alloc = rt.alloc();
-    let lines = if question
-        .asked
-        .iter()
-        .any(|asked| matches!(asked, Asked::Lines))
-    {
-        let text = read_to_end(alloc, &mut rt.stdin(), READS)?;
-        read_lines(alloc, text.as_slice())?
-    } else {
-        Vec::new(alloc)
-    };
-    let resolved = match resolve_words(alloc, repository, question, lines.as_slice()) {
+    let resolved = match resolve_words(rt.alloc(), repository, question, lines) {
         Ok(resolved) => resolved,
         Err(fault) => return Err(lacking_of_clone(rt, repository, Failure::from(fault))),
     };
     for ambiguous in repository.ambiguous().iter() {
-        let word = ambiguous.word.as_str();
-        let name = ambiguous.name.as_str();
+        let word = &ambiguous.word;
+        let name = &ambiguous.name;
         let _ = eprintln!(rt; "gix_walk: several refs are called {word:?}: {name:?} is taken");
     }
     for one in resolved.iter() {
         if question.options.is_verbose {
-            say(rt, one);
+            say(rt, one)?;
         }
         say_hidden(rt, repository, one.word.as_str())?;
     }
@@ -233,7 +294,7 @@ fn say_hidden(
     let Some(front) = Front::new(word.as_bytes()) else {
         return Ok(());
     };
-    if repository.find_short(word)?.is_none() {
+    if repository.find_short(word.as_bytes())?.is_none() {
         return Ok(());
     }
     let others = repository.odb.ids_from(&front, 1)?;
@@ -246,8 +307,8 @@ fn say_hidden(
 }
 
 /// Says what a revision stands for.
-fn say(rt: &HostRuntime, resolved: &Resolved) {
-    let word = resolved.word.as_str();
+fn say(rt: &HostRuntime, resolved: &Resolved) -> Result<(), AllocError> {
+    let word = quoted(rt.alloc(), resolved.word.as_str())?;
     let _ = match resolved.chosen {
         gix_revision::Chosen::One { id, is_hidden } => {
             let mark = if is_hidden { "^" } else { "" };
@@ -257,6 +318,7 @@ fn say(rt: &HostRuntime, resolved: &Resolved) {
             eprintln!(rt; "gix_walk: {word:?} is {one}, with {other} behind ...")
         }
     };
+    Ok(())
 }
 
 /// Says what git would follow and the program doesn't.
@@ -286,21 +348,19 @@ impl Asking<'_> {
         output: &mut W,
     ) -> Result<u8, Failure> {
         let alloc = self.rt.alloc();
-        let Some(root) = self.chosen.tips.as_slice().first() else {
+        let Some(command) = self.command()? else {
             return Ok(0);
         };
-        let root = *root;
-        let mut part = Part::of(alloc, Gathering::trees(alloc, self.keys, &root)?, None);
+        let mut part = Part::of_command(alloc, self.keys, &command, None)?;
         part.read_all(&mut repository.odb, None, &mut self.progress)?;
-        let words = self.chosen.words(alloc, self.keys, self.question)?;
-        run_named(
-            alloc,
-            words.as_slice(),
-            part.gathering.objects(),
-            None,
-            output,
-        )?;
+        gix_commands::answer(alloc, &command, part.gathering.objects(), None, output)?;
         Ok(0)
+    }
+
+    /// The command over ids that answers the question.
+    fn command(&self) -> Result<Option<Command>, AllocError> {
+        self.chosen
+            .command(self.rt.alloc(), self.keys, self.question)
     }
 
     /// Answers a question about commits, over the rows that may be used.
@@ -409,6 +469,8 @@ impl Asking<'_> {
                 write(output, lines.as_slice())?;
                 Ok(Some(status))
             }
+            // Another way needs memory too.
+            Err(failure) if is_want_of_memory(&failure) => Err(failure),
             Err(_) => Ok(None),
         }
     }
@@ -478,9 +540,11 @@ impl Asking<'_> {
         if self.question.name == Name::Resolve {
             return Ok(Some(Vec::new(alloc)));
         }
-        let words = self.chosen.words(alloc, self.keys, self.question)?;
+        let Some(command) = self.command()? else {
+            return Ok(None);
+        };
         let ids = self.chosen.all(alloc)?;
-        paged.lines(odb, words.as_slice(), ids.as_slice(), options)
+        paged.lines(odb, &command, ids.as_slice(), options)
     }
 
     /// Whether the question is which revisions a revision reaches.
@@ -501,9 +565,8 @@ impl Asking<'_> {
         if !is_by_one_step || !self.chosen.hidden.is_empty() || !self.chosen.pairs.is_empty() {
             return None;
         }
-        let limit = number(self.question.options.limit.as_ref())?;
-        let skip = number(self.question.options.skip.as_ref()).unwrap_or(0);
-        Some(limit.saturating_add(skip))
+        let skip = self.question.options.skip.unwrap_or(0);
+        Some(self.question.options.limit?.saturating_add(skip) as usize)
     }
 
     /// Whether each commit is read in any case, as for the texts of all that the tips reach.
@@ -532,10 +595,11 @@ impl Asking<'_> {
         graph: Option<&Graph>,
         output: &mut W,
     ) -> Result<Vec<u8>, Failure> {
-        let alloc = self.rt.alloc();
-        let words = self.chosen.words(alloc, self.keys, self.question)?;
+        let Some(command) = self.command()? else {
+            return Ok(Vec::new(self.rt.alloc()));
+        };
         let odb = &mut repository.odb;
-        let answered = answer_from_part(words.as_slice(), part, odb, graph, &mut self.progress)?;
+        let answered = answer_from_part(&command, part, odb, graph, &mut self.progress)?;
         let ended = in_memory(answered.ended);
         if ended.is_ok() || self.question.name.takes_limit() {
             self.write_lines(answered.lines.as_slice(), output)?;
@@ -568,7 +632,7 @@ impl Asking<'_> {
         let mut text = Vec::new(alloc);
         if has_names && (options.gives_names || options.as_json) {
             for line in named(alloc, &self.chosen, lines)?.iter() {
-                self.add_line(&mut text, Shape::Revision, line.as_bytes())?;
+                self.add_line(&mut text, Shape::Revision, line.as_slice())?;
             }
         } else {
             let shape = match self.question.name {
@@ -609,9 +673,8 @@ impl Asking<'_> {
     /// Writes the id of each revision, those that are excluded with `^` and behind the others.
     fn write_ids<W: Write>(&self, output: &mut W) -> Result<u8, Fault> {
         let alloc = self.rt.alloc();
-        let words = self.chosen.words(alloc, self.keys, self.question)?;
         let mut text = Vec::new(alloc);
-        for word in words.iter().skip(1) {
+        for word in self.chosen.id_words(alloc)?.iter() {
             self.add_line(&mut text, Shape::Resolved, word.as_bytes())?;
         }
         write(output, text.as_slice())?;
@@ -635,36 +698,33 @@ impl Asking<'_> {
         if name == Name::Resolve {
             return Ok(self.write_ids(output)?);
         }
-        let words = self.chosen.words(alloc, self.keys, self.question)?;
+        let Some(command) = self.command()? else {
+            return Ok(0);
+        };
         if graph.is_some() && self.question.options.give_text() {
-            part.read_listed(words.as_slice(), &mut repository.odb, graph)?;
+            part.read_listed(&command, &mut repository.odb, graph)?;
         }
-        Ok(self.finish_list(words, part.gathering.objects(), graph, output)?)
+        Ok(self.finish_list(&command, part.gathering.objects(), graph, output)?)
     }
 
     /// Runs the command over the objects that were read, and rows.
     fn finish_list<W: Write>(
         &self,
-        words: Vec<String>,
+        command: &Command,
         objects: &NamedObjects,
         graph: Option<&Graph>,
         output: &mut W,
     ) -> Result<u8, Fault> {
         let alloc = self.rt.alloc();
         if self.question.name.takes_limit() {
-            run_named(alloc, words.as_slice(), objects, graph, output)?;
+            gix_commands::answer(alloc, command, objects, graph, output)?;
             return Ok(0);
         }
         let mut lines = Vec::new(alloc);
-        in_memory(run_named(alloc, words.as_slice(), objects, graph, &mut lines))?;
+        in_memory(gix_commands::answer(alloc, command, objects, graph, &mut lines))?;
         self.write_lines(lines.as_slice(), output)?;
         Ok(self.status(lines.as_slice()))
     }
-}
-
-/// The number that an option's digits write, if it is given.
-fn number(digits: Option<&String>) -> Option<usize> {
-    digits?.as_str().parse::<usize>().ok()
 }
 
 /// How a run into memory ended: it can't be written where memory ran out.
@@ -681,6 +741,11 @@ pub(crate) fn write<W: Write>(output: &mut W, bytes: &[u8]) -> Result<(), Fault>
         Ok(()) => Ok(()),
         Err(_) => Err(Fault::Write),
     }
+}
+
+/// Whether memory ran out.
+fn is_want_of_memory(failure: &Failure) -> bool {
+    matches!(failure, Failure::Command(Fault::Memory))
 }
 
 /// Whether a failure says that rows can't be used. Nothing has been written then.

@@ -1,18 +1,22 @@
 //! Certificates of runs: written behind the lines, and verified by another run.
-use crate::answer::{Answered, answer, answer_from, open, resolve, write};
+use crate::answer::{
+    Answered, answer, answer_from, input_lines, open, resolve, takes_lines, write,
+};
 use crate::failure::Failure;
+use crate::graph::rows_of;
 use crate::help::about;
+use gix_certificate::asked::{Left, check, each, fixed, meaning, stood_for};
 use gix_certificate::{
     Certificate, Fault, Hashing, Lines, Meaning, Revision, check_new, load, pages, running_program,
     save,
 };
-use gix_hash::{Keys, Kind};
-use gix_options::{Asked, Asks, Name, Question, Rows, VERSION, read_arguments};
+use gix_hash::Keys;
+use gix_object::Kind;
+use gix_options::{Asked, Asks, Misuse, Name, Question, Rows, VERSION, read_arguments};
 use gix_questions::{resolve_one, wanted};
 use gix_repository::Repository;
-use gix_revision::parse::parse;
 use gix_revision::{Chosen, Resolved};
-use std::alloc::{AllocError, Global};
+use std::alloc::AllocError;
 use std::env;
 use std::io::{self, Write};
 
@@ -68,11 +72,23 @@ fn certify_in<W: Write>(
     question: &Question,
     output: &mut W,
 ) -> Result<Certificate, Failure> {
-    let resolved = resolve(rt, repository, question)?;
+    let alloc = rt.alloc();
+    let lines = input_lines(rt, question)?;
+    let resolved = resolve(rt, repository, question, lines.as_slice())?;
     let revisions = revisions_of(rt, resolved.as_slice())?;
+    let asked = each(alloc, question.asked.as_slice(), lines.as_slice())?;
+    check(
+        alloc,
+        repository.kind(),
+        asked.as_slice(),
+        revisions.as_slice(),
+    )?;
     let mut hashing = Hashing::new(output);
     let answered = answer_from(rt, keys, repository, question, resolved, &mut hashing)?;
-    certificate_of(rt, words, revisions, answered, hashing.finish())
+    let mut certificate = certificate_of(rt, revisions, answered, hashing.finish())?;
+    certificate.words = words;
+    certificate.lines = lines;
+    Ok(certificate)
 }
 
 /// Copies of words.
@@ -88,23 +104,18 @@ fn copies(rt: &HostRuntime, words: &[String]) -> Result<Vec<String>, AllocError>
 fn revisions_of(rt: &HostRuntime, resolved: &[Resolved]) -> Result<Vec<Revision>, AllocError> {
     let mut revisions = Vec::new(rt.alloc());
     for one in resolved {
-        let meaning = match one.chosen {
-            Chosen::One { id, is_hidden } => Meaning::One {
-                id,
-                is_excluded: is_hidden,
-            },
-            Chosen::Symmetric { one, other } => Meaning::Symmetric { one, other },
-        };
         let word = one.word.clone()?;
-        revisions.push(Revision { word, meaning })?;
+        revisions.push(Revision {
+            word,
+            meaning: meaning(one),
+        })?;
     }
     Ok(revisions)
 }
 
-/// The certificate of a run of this program.
+/// The certificate of a run of this program, without its words and lines.
 fn certificate_of(
     rt: &HostRuntime,
-    words: Vec<String>,
     revisions: Vec<Revision>,
     answered: Answered,
     output: Lines,
@@ -113,11 +124,13 @@ fn certificate_of(
     let name = env::args(rt).ok().and_then(|mut words| words.next());
     let program = running_program(rt, VERSION, about.as_ref(), name.as_ref())?;
     Ok(Certificate {
-        words,
+        words: Vec::new(rt.alloc()),
+        lines: Vec::new(rt.alloc()),
         revisions,
         output,
         status: answered.status,
         rows: answered.rows,
+        question: answered.into_words(),
         program,
         pages: pages(rt.alloc())?,
     })
@@ -137,7 +150,7 @@ fn verify<W: Write>(
     let now = again(rt, keys, question, &kept)?;
     let report = kept.report(rt.alloc(), &now)?;
     write(output, report.as_bytes())?;
-    Ok(if kept.has_same_output(&now) {
+    Ok(if kept.has_same_question(&now) && kept.has_same_output(&now) {
         0
     } else {
         DIFFERS
@@ -172,101 +185,33 @@ fn again_in(
     let mut hashing = Hashing::new(io::sink());
     let resolved = resolved_of(rt, kept)?;
     let answered = answer_from(rt, keys, repository, asked, resolved, &mut hashing)?;
-    certificate_of(
-        rt,
-        Vec::new(rt.alloc()),
-        revisions,
-        answered,
-        hashing.finish(),
-    )
+    certificate_of(rt, revisions, answered, hashing.finish())
 }
 
-/// What the words of a certificate ask.
+/// What the words of a certificate ask. They ask for a certificate, and the rows and lines that it names go with them.
 fn question_of(rt: &HostRuntime, kept: &Certificate) -> Result<Question, Failure> {
+    let Asks::Question(question) = read_again(rt, kept)? else {
+        return Err(Failure::Certificate(Fault::Member("words")));
+    };
+    let options = &question.options;
+    let name = if options.certificate.is_none() || question.name == Name::VerifyCertificate {
+        "words"
+    } else if kept.rows != gix_certificate::Rows::Unused && kept.rows != rows_of(options) {
+        "rows"
+    } else if !kept.lines.is_empty() && !takes_lines(&question) {
+        "lines"
+    } else {
+        return Ok(question);
+    };
+    Err(Failure::Certificate(Fault::Member(name)))
+}
+
+/// What the words of a certificate ask, where they ask something.
+fn read_again(rt: &HostRuntime, kept: &Certificate) -> Result<Asks, Fault> {
     match read_arguments(rt.alloc(), kept.words.as_slice()) {
-        Ok(Asks::Question(question))
-            if !matches!(question.name, Name::CheckGraph | Name::VerifyCertificate) => {
-            if asks_of_all(rt.alloc(), &question, kept) {
-                Ok(question)
-            } else {
-                Err(Failure::Certificate(Fault::Member("revisions")))
-            }
-        }
-        _ => Err(Failure::Certificate(Fault::Member("words"))),
-    }
-}
-
-/// Whether the revisions of a certificate are those that its words name. Sets of refs and lines of standard input may have any.
-fn asks_of_all(alloc: Global, question: &Question, kept: &Certificate) -> bool {
-    let mut asks_of_others = false;
-    for asked in question.asked.iter() {
-        match asked {
-            Asked::Word(word) | Asked::Turned(word) => {
-                if !has_revisions(alloc, kept, word.as_str()) {
-                    return false;
-                }
-            }
-            _ => asks_of_others = true,
-        }
-    }
-    for revision in kept.revisions.iter() {
-        if !asks_of_others && !asks_of(alloc, question, revision.word.as_str()) {
-            return false;
-        }
-    }
-    true
-}
-
-/// Whether a certificate has the revisions that a word names.
-fn has_revisions(alloc: Global, kept: &Certificate, word: &str) -> bool {
-    match parse(alloc, Kind::Sha1, word) {
-        Ok(revision) => {
-            let (one, other) = revision.texts();
-            has_revision(kept, one) && has_revision(kept, other)
-        }
-        Err(_) => false,
-    }
-}
-
-/// Whether a certificate has a revision of this name, if there is one.
-fn has_revision(kept: &Certificate, name: Option<&str>) -> bool {
-    let Some(name) = name else {
-        return true;
-    };
-    for revision in kept.revisions.iter() {
-        if revision.word.as_str() == name {
-            return true;
-        }
-    }
-    false
-}
-
-/// Whether a word of a question names this revision.
-fn asks_of(alloc: Global, question: &Question, name: &str) -> bool {
-    for asked in question.asked.iter() {
-        if let Asked::Word(word) | Asked::Turned(word) = asked {
-            if names(alloc, word.as_str(), name) {
-                return true;
-            }
-        }
-    }
-    false
-}
-
-/// Whether a word names this revision: as one that it has, or as a parent of one whose parents it means.
-fn names(alloc: Global, word: &str, name: &str) -> bool {
-    let Ok(revision) = parse(alloc, Kind::Sha1, word) else {
-        return false;
-    };
-    let (one, other) = revision.texts();
-    if one == Some(name) || other == Some(name) {
-        return true;
-    }
-    match revision.child() {
-        Some(child) => name
-            .strip_prefix(child)
-            .is_some_and(|parent| parent.starts_with('^')),
-        None => false,
+        Ok(asks) => Ok(asks),
+        Err(Misuse::Memory) => Err(Fault::Memory),
+        Err(_) => Err(Fault::Member("words")),
     }
 }
 
@@ -287,43 +232,48 @@ fn resolved_of(rt: &HostRuntime, kept: &Certificate) -> Result<Vec<Resolved>, Al
     Ok(resolved)
 }
 
-/// What the words of a certificate stand for now. Of those that stand for nothing it is said why. In place of standard input the revisions
-/// of the certificate are taken.
+/// What the words of a certificate stand for now. Of those that stand for nothing it is said why.
 fn resolve_again(
     rt: &HostRuntime,
     repository: &mut Repository<HostRuntime>,
     again: &Question,
     kept: &Certificate,
-) -> Result<Vec<Resolved>, AllocError> {
-    let has_lines = again
-        .asked
-        .iter()
-        .any(|asked| matches!(asked, Asked::Lines));
-    let lines = if has_lines {
-        lines_of(rt, kept)?
-    } else {
-        Vec::new(rt.alloc())
-    };
-    let asked = if has_lines { &lines } else { &again.asked };
-    let mut found = Vec::new(rt.alloc());
-    for word in asked.iter() {
-        let kind = wanted(again.name);
-        if let Err(fault) = resolve_one(rt.alloc(), repository, word, &[], kind, &mut found) {
+) -> Result<Vec<Resolved>, Failure> {
+    let alloc = rt.alloc();
+    let wanted = wanted(again.name);
+    let words = each(alloc, again.asked.as_slice(), kept.lines.as_slice())?;
+    let mut left = Left::new(alloc, repository.kind(), kept.revisions.as_slice());
+    let mut found = Vec::new(alloc);
+    for word in words.iter() {
+        let taken = left.take(word)?;
+        check_fixed(rt, repository, word, taken, wanted)?;
+        if let Err(fault) = resolve_one(alloc, repository, word, &[], wanted, &mut found) {
             let _ = eprintln!(rt; "gix_walk: now: {fault}");
         }
     }
+    left.end()?;
     Ok(found)
 }
 
-/// The revisions of a certificate, as lines of standard input give them.
-fn lines_of(rt: &HostRuntime, kept: &Certificate) -> Result<Vec<Asked>, AllocError> {
-    let mut lines = Vec::new(rt.alloc());
-    for revision in kept.revisions.iter() {
-        let word = revision.word.as_str();
-        if let Meaning::One { is_excluded, .. } = revision.meaning {
-            let mark = if is_excluded { "^" } else { "" };
-            lines.push(Asked::Word(format!(in rt.alloc(); "{mark}{word}")?))?;
-        }
+/// Whether a word stood for what it stands for whatever refs there are, as far as that is so.
+fn check_fixed(
+    rt: &HostRuntime,
+    repository: &mut Repository<HostRuntime>,
+    word: &Asked,
+    taken: &[Revision],
+    wanted: Kind,
+) -> Result<(), Failure> {
+    let alloc = rt.alloc();
+    let Some(word) = fixed(alloc, repository.kind(), word, taken)? else {
+        return Ok(());
+    };
+    let mut found = Vec::new(alloc);
+    if let Err(fault) = resolve_one(alloc, repository, &word, &[], wanted, &mut found) {
+        return Err(Failure::Revision(fault));
     }
-    Ok(lines)
+    if stood_for(taken, found.as_slice()) {
+        Ok(())
+    } else {
+        Err(Failure::Certificate(Fault::Member("revisions")))
+    }
 }

@@ -22,12 +22,20 @@ use std::io::Write;
 const FIRST_GENERATION: u32 = 1;
 
 /// The rows of a question.
-#[derive(Drop)]
 pub(crate) struct Known {
     /// The rows, if there are any that may be used.
     pub graph: Option<Graph>,
     /// Whether git's commit-graph lies there, and nobody has checked it.
     pub is_unchecked: bool,
+}
+
+impl Drop for Known {
+    fn drop(self) {
+        let Known {
+            graph: _,
+            is_unchecked: _,
+        } = self;
+    }
 }
 
 /// Which rows these options take, where there are some.

@@ -7,8 +7,8 @@ mod certificate;
 mod failure;
 mod graph;
 mod help;
+mod lines;
 mod named;
-mod output;
 mod paged;
 mod progress;
 mod records;
@@ -16,10 +16,11 @@ mod records;
 use failure::Failure;
 use gix_commands::Fault;
 use gix_hash::Keys;
-use gix_options::{Asks, Misuse, read_arguments};
-use output::Output;
-use std::env::{self, Env};
-use std::io::{self, ErrorKind, IsTerminal};
+use gix_options::{Asks, Misuse, read_arguments, words_of};
+use gix_output::Output;
+use std::alloc::AllocError;
+use std::env::{Env, FillError};
+use std::io::{self, IsTerminal};
 use std::process::ExitCode;
 
 /// The status of a run over a repository whose words ask nothing.
@@ -40,10 +41,13 @@ fn main(rt: HostRuntime) -> ExitCode {
                     help::write_usage(&rt);
                     return ExitCode::from(MISUSED);
                 }
+                // Who reads it is helped by a second line, and a program that reads it by none.
                 Failure::Command(Fault::Usage | Fault::Id(_)) => {
-                    let _ = eprintln!(rt;
-                        "gix_walk: without -C FOLDER the words are a command and ids, and records are read; gix_walk --help says more"
-                    );
+                    if rt.stderr().is_terminal() {
+                        let _ = eprintln!(rt;
+                            "gix_walk: without -C FOLDER the words are a command and ids, and records are read; gix_walk --help says more"
+                        );
+                    }
                 }
                 _ => {}
             }
@@ -54,12 +58,11 @@ fn main(rt: HostRuntime) -> ExitCode {
 
 /// Does what the arguments ask, and gives the status.
 fn run<W: io::Write + Drop>(rt: &HostRuntime, output: &mut Output<W>) -> Result<u8, Failure> {
-    let mut arguments = match env::args(rt) {
-        Ok(arguments) => arguments,
-        Err(error) => return Err(fault_of_arguments(rt, &error)),
+    let arguments = read_all(rt)?;
+    let words = match words_of(rt.alloc(), arguments.as_slice()) {
+        Ok(words) => words,
+        Err(misuse) => return Err(fault_of_arguments(arguments.as_slice(), misuse)),
     };
-    let _name = arguments.next();
-    let words: Vec<String> = arguments.collect(rt.alloc())?;
     match read_arguments(rt.alloc(), words.as_slice())? {
         Asks::Records => records::serve(rt, random_keys(rt)?, words.as_slice(), output)?,
         Asks::Help(name) => help::write_help(rt, name).map_err(fault_of_output)?,
@@ -80,23 +83,47 @@ fn random_keys(rt: &HostRuntime) -> Result<Keys, Failure> {
     }
 }
 
-/// Arguments that aren't UTF-8 are no command.
-fn fault_of_arguments(rt: &HostRuntime, error: &io::Error) -> Failure {
-    if error.kind() == ErrorKind::OutOfMemory {
-        return Failure::Command(Fault::Memory);
-    }
-    let mut first = [0u8; 16];
-    match rt.arg(1, &mut first) {
-        Ok(len) => {
-            let first = first.get(..len).unwrap_or_default();
-            if first == b"-C".as_slice() || first == b"--git-dir".as_slice() {
-                Failure::Misuse(Misuse::Arguments)
-            } else {
-                Failure::Command(Fault::Usage)
-            }
+/// The arguments behind the program's name, which may hold any bytes.
+fn read_all(rt: &HostRuntime) -> Result<Vec<Vec<u8>>, AllocError> {
+    let mut arguments = Vec::new(rt.alloc());
+    for place in 1..usize::MAX {
+        match read_argument(rt, place)? {
+            Some(argument) => arguments.push(argument)?,
+            None => break,
         }
-        Err(_) => Failure::Command(Fault::Usage),
     }
+    Ok(arguments)
+}
+
+/// The argument at a place, and None behind the last. The room for it grows until it is enough.
+fn read_argument(rt: &HostRuntime, place: usize) -> Result<Option<Vec<u8>>, AllocError> {
+    let mut size = 256usize;
+    for _ in 0..usize::BITS {
+        let mut argument = vec![in rt.alloc(); 0u8; size]?;
+        match rt.arg(place, argument.as_mut_slice()) {
+            Ok(len) => {
+                argument.truncate(len);
+                return Ok(Some(argument));
+            }
+            Err(FillError::NotPresent) => return Ok(None),
+            Err(FillError::TooLong) => size = size.saturating_mul(2),
+        }
+    }
+    Err(AllocError)
+}
+
+/// Arguments that aren't words are no command.
+fn fault_of_arguments(arguments: &[Vec<u8>], misuse: Misuse) -> Failure {
+    let asks_of_repository = match arguments.first() {
+        Some(first) => {
+            first.as_slice() == b"-C".as_slice() || first.as_slice() == b"--git-dir".as_slice()
+        }
+        None => false,
+    };
+    if matches!(&misuse, Misuse::Arguments(_)) && !asks_of_repository {
+        return Failure::Command(Fault::Usage);
+    }
+    Failure::from(misuse)
 }
 
 /// The help can't be written.

@@ -11,6 +11,7 @@ use gix_paged_commands::{Rows, choose, run_paged};
 use gix_questions::Pair;
 use gix_repository::Repository;
 use gix_repository_commands::{Part, Silent};
+use gix_words::Command;
 use std::fs::Files;
 
 /// How many bytes all files have at the most that are read by pages.
@@ -22,11 +23,20 @@ const MOST_FILES: usize = 64;
 const TIMES: &[u64] = &[2, 8, 32];
 
 /// The files of a commit-graph that may be used, and the pages of them that were read.
-#[derive(Drop)]
 pub(crate) struct Paged<'a> {
     rt: &'a HostRuntime,
     keys: Keys,
     pages: Pages<<HostRuntime as Files>::File>,
+}
+
+impl<'a> Drop for Paged<'a> {
+    fn drop(self) {
+        let Paged {
+            rt: _,
+            keys: _,
+            pages: _,
+        } = self;
+    }
 }
 
 impl<'a> Paged<'a> {
@@ -76,17 +86,17 @@ impl<'a> Paged<'a> {
     pub fn lines(
         &mut self,
         odb: &mut Odb<HostRuntime>,
-        words: &[String],
+        command: &Command,
         ids: &[ObjectId],
         options: &Options,
     ) -> Result<Option<Vec<u8>>, Failure> {
         let alloc = self.rt.alloc();
         for times in TIMES {
-            let rows = choose(alloc, self.keys, words, &mut self.pages, odb, *times)?;
+            let rows = choose(alloc, self.keys, command, &mut self.pages, odb, *times)?;
             let Some(rows) = rows else {
                 break;
             };
-            let lines = self.lines_of(odb, words, ids, options, &rows)?;
+            let lines = self.lines_of(odb, command, ids, options, &rows)?;
             if lines.is_some() || !rows.may_grow {
                 return Ok(lines);
             }
@@ -98,7 +108,7 @@ impl<'a> Paged<'a> {
     fn lines_of(
         &mut self,
         odb: &mut Odb<HostRuntime>,
-        words: &[String],
+        command: &Command,
         ids: &[ObjectId],
         options: &Options,
         rows: &Rows,
@@ -109,12 +119,12 @@ impl<'a> Paged<'a> {
         let mut part = Part::of(alloc, gathering, None);
         let graph = Some(&rows.graph);
         if part.read_all(odb, graph, &mut Silent).is_err()
-            || options.give_text() && part.read_listed(words, odb, graph).is_err()
+            || options.give_text() && part.read_listed(command, odb, graph).is_err()
         {
             return Ok(None);
         }
         let objects = part.gathering.objects();
-        let Ok(Some(lines)) = run_paged(alloc, words, objects, &self.pages, rows) else {
+        let Ok(Some(lines)) = run_paged(alloc, command, objects, &self.pages, rows) else {
             return Ok(None);
         };
         if self.are_taken(options)? {
@@ -134,11 +144,11 @@ impl<'a> Paged<'a> {
     ) -> Result<bool, Failure> {
         let alloc = self.rt.alloc();
         let Pair { one, other } = *pair;
-        let mut words = Vec::new(alloc);
-        words.push(String::from_str(alloc, "merge-base")?)?;
-        words.push(format!(in alloc; "{one}")?)?;
-        words.push(format!(in alloc; "{other}")?)?;
-        let Some(lines) = self.lines(odb, words.as_slice(), &[one, other], options)? else {
+        let command = Command::Bases {
+            one,
+            others: vec![in alloc; other]?,
+        };
+        let Some(lines) = self.lines(odb, &command, &[one, other], options)? else {
             return Ok(false);
         };
         for line in lines.as_slice().split(|byte| *byte == b'\n') {

@@ -5,11 +5,20 @@ use std::rt::Clock;
 use std::time::Duration;
 
 /// Says on a terminal, from the second second on, how many objects were read. Elsewhere nothing is said.
-#[derive(Drop)]
 pub(crate) struct Progress<'a> {
     rt: &'a HostRuntime,
     began: Option<Duration>,
     is_shown: bool,
+}
+
+impl<'a> Drop for Progress<'a> {
+    fn drop(self) {
+        let Progress {
+            rt: _,
+            began: _,
+            is_shown: _,
+        } = self;
+    }
 }
 
 impl<'a> Progress<'a> {

@@ -1,6 +1,6 @@
 //! Commands over records on standard input, or over a folder of objects.
 use crate::failure::Failure;
-use gix_commands::{Fault, run, run_in, run_named, run_over};
+use gix_commands::{Fault, answer, run, run_in, run_over};
 use gix_hash::{Keys, Kind};
 use gix_odb::Odb;
 use gix_records::{READS, check_names, read_to_end};
@@ -41,7 +41,7 @@ fn serve_folder<W: Write>(
     let mut part = Part::of_command(alloc, keys, &command, None)?;
     let mut silent = Silent;
     part.read_all(&mut odb, None, &mut silent)?;
-    run_named(alloc, words, part.gathering.objects(), None, writer)?;
+    answer(alloc, &command, part.gathering.objects(), None, writer)?;
     Ok(())
 }
 

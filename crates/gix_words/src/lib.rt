@@ -5,6 +5,7 @@
 
 mod fault;
 mod format;
+mod print;
 mod words;
 
 pub use fault::Fault;

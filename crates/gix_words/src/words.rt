@@ -99,7 +99,6 @@ pub struct Chosen {
 }
 
 /// What the words ask for.
-#[derive(Drop)]
 pub enum Command {
     /// The commits that the tips reach and the hidden ones don't, in an order, and what is written of them.
     Commits {
@@ -133,6 +132,25 @@ pub enum Command {
         one: ObjectId,
         others: Vec<ObjectId>,
     },
+}
+
+/// A call drops a command. Else each function that holds one would drop its parts, and so would its proof.
+impl Drop for Command {
+    fn drop(self) {
+        match self {
+            Command::Commits {
+                order: _,
+                shown: _,
+                tips: _,
+                hidden: _,
+            } => {}
+            Command::Files { shown: _, tree: _ } => {}
+            Command::Ahead { one: _, other: _ } => {}
+            Command::Contained { tip: _, ids: _ } => {}
+            Command::Containing { target: _, tips: _ } => {}
+            Command::Bases { one: _, others: _ } => {}
+        }
+    }
 }
 
 /// The command that the words are: `breadth`, `newest`, `oldest`, `topo` or `date`, maybe options, ids of tips, one at least, and ids of

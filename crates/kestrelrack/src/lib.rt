@@ -4,6 +4,7 @@
 ghost use Rattle.std.specs.Prelude.{◌≡◌, length};
 ghost use Rattle.gix_memory_commands.specs.Answers.{Answers, text_of};
 ghost use Rattle.gix_memory_commands.specs.BatchAnswers.{AnswersBatch};
+ghost use Rattle.gix_memory_commands.specs.BatchSlices.{IsBatch};
 ghost use Rattle.gix_memory_commands.specs.FolderAnswers.{AnswersFolder, IsWholeText};
 ghost use Rattle.gix_memory_commands.specs.Room.{IsWhole, IsWholeNamed, put_in};
 
@@ -41,8 +42,9 @@ pub extern "C" fn kestrelrack_commits(
     commits: &mut [Commit],
     parents: &mut [CommitId],
 ) -> Answer
+    ensures answers { AnswersBatch words.now records.now skip commits.old commits.new parents.old parents.new result }
     // What the slices hold, from lists of bytes up.
-    ensures { AnswersBatch words.now records.now skip commits.old commits.new parents.old parents.new result }
+    ensures whole { IsBatch words.now records.now skip commits.old commits.new parents.old parents.new result }
 {
     commits_over_bytes(alloc, words, records, skip, commits, parents)
 }
@@ -73,7 +75,7 @@ pub extern "C" fn kestrelrack_commits_in(
     parents: &mut [CommitId],
 ) -> Answer
     // What the slices hold, from lists of bytes up: it is right of objects each of whose ids is the hash of its object.
-    ensures { AnswersFolder words.now skip commits.old commits.new parents.old parents.new result }
+    ensures whole { AnswersFolder words.now skip commits.old commits.new parents.old parents.new result }
 {
     commits_over_folder(alloc, words, files, skip, commits, parents)
 }

@@ -11,9 +11,13 @@ use std::test::Fail;
 /// The SHA-256 of `abc`, by FIPS 180.
 const OF_ABC: &str = "ba7816bf8f01cfea414140de5dae2223b00361a396177a9cb410ff61f20015ad";
 
-/// The certificate of `example`, as python3 writes it: `json.dumps(.., indent=2, sort_keys=True)`.
+/// The certificate of `example`, as python3 writes it: `json.dumps(.., indent=2, sort_keys=True)`. Its `sha256` is that of the same text with
+/// null in its place.
 const TEXT: &str = r#"{
-  "certificate": 1,
+  "certificate": 2,
+  "lines": [
+    "^main"
+  ],
   "output": {
     "bytes": 3,
     "sha256": "ba7816bf8f01cfea414140de5dae2223b00361a396177a9cb410ff61f20015ad"
@@ -30,6 +34,10 @@ const TEXT: &str = r#"{
     "sha256": "ba7816bf8f01cfea414140de5dae2223b00361a396177a9cb410ff61f20015ad",
     "version": "0.1.0"
   },
+  "question": [
+    "newest",
+    "^1111111111111111111111111111111111111111"
+  ],
   "revisions": [
     {
       "excluded": true,
@@ -43,15 +51,25 @@ const TEXT: &str = r#"{
     }
   ],
   "rows": "checked",
+  "sha256": "b52ae54233542ceedf0d0f6e787f176d0e525989e9352b03aceaceff5aa2d418",
   "status": 3,
   "words": [
     "-C",
     ".",
     "newest",
-    "^main"
+    "--stdin"
   ]
 }
 "#;
+
+/// Copies of texts.
+fn texts(alloc: Global, texts: &[&str]) -> Result<Vec<String>, Fault> {
+    let mut copies = Vec::new(alloc);
+    for text in texts {
+        copies.push(String::from_str(alloc, text)?)?;
+    }
+    Ok(copies)
+}
 
 /// A certificate with each kind of revision.
 fn example(alloc: Global) -> Result<Certificate, Fault> {
@@ -60,10 +78,6 @@ fn example(alloc: Global) -> Result<Certificate, Fault> {
     };
     let one = ObjectId::Sha1([0x11; 20]);
     let other = ObjectId::Sha1([0x22; 20]);
-    let mut words = Vec::new(alloc);
-    for word in ["-C", ".", "newest", "^main"] {
-        words.push(String::from_str(alloc, word)?)?;
-    }
     let mut revisions = Vec::new(alloc);
     revisions.push(Revision {
         word: String::from_str(alloc, "main")?,
@@ -82,8 +96,13 @@ fn example(alloc: Global) -> Result<Certificate, Fault> {
         sha256,
     })?;
     Ok(Certificate {
-        words,
+        words: texts(alloc, &["-C", ".", "newest", "--stdin"])?,
+        lines: texts(alloc, &["^main"])?,
         revisions,
+        question: texts(
+            alloc,
+            &["newest", "^1111111111111111111111111111111111111111"],
+        )?,
         output: Lines { sha256, bytes: 3 },
         status: 3,
         rows: Rows::Checked,
@@ -120,6 +139,12 @@ fn is_compared(rt: HostRuntime) -> Result<(), Fail> {
     let kept = example(alloc)?;
     let mut now = example(alloc)?;
     assert!(rt; kept.has_same_output(&now));
+    assert!(rt; kept.has_same_question(&now));
+    now.question = texts(
+        alloc,
+        &["newest", "1111111111111111111111111111111111111111"],
+    )?;
+    assert!(rt; !kept.has_same_question(&now));
     now.output.bytes = 4;
     now.revisions.clear();
     assert!(rt; !kept.has_same_output(&now));
@@ -129,7 +154,7 @@ fn is_compared(rt: HostRuntime) -> Result<(), Fail> {
             .lines()
             .filter(|line| line.starts_with("differs: "))
             .count(),
-        3
+        4
     );
     assert_eq!(rt;
         report
@@ -138,6 +163,23 @@ fn is_compared(rt: HostRuntime) -> Result<(), Fail> {
             .count(),
         7
     );
+    Ok(())
+}
+
+/// A word with `^` is another revision than the same word without it.
+#[test]
+fn agrees_with_itself(rt: HostRuntime) -> Result<(), Fail> {
+    let alloc = rt.alloc();
+    let mut kept = example(alloc)?;
+    kept.revisions.push(Revision {
+        word: String::from_str(alloc, "main")?,
+        meaning: Meaning::One {
+            id: ObjectId::Sha1([0x33; 20]),
+            is_excluded: false,
+        },
+    })?;
+    let report = kept.report(alloc, &kept)?;
+    assert!(rt; !report.lines().any(|line| line.starts_with("differs: ")));
     Ok(())
 }
 

@@ -1,5 +1,7 @@
 //! What arguments ask, and what is said where they are misused.
-use gix_options::{Asked, Asks, Name, Place, Refs, Rows, read_arguments, read_lines};
+use gix_options::{
+    Asked, Asks, Name, Place, Refs, Rows, read_arguments, read_lines, words_of as words_of_bytes,
+};
 use std::alloc::Global;
 use std::test::Fail;
 
@@ -388,7 +390,7 @@ fn options_may_be_anywhere(rt: HostRuntime) -> Result<(), Fail> {
         && question.options.takes_border
         && question.options.is_verbose
         && matches!(&question.place, Place::Folder(folder) if folder.as_str() == "b")
-        && matches!(&question.options.limit, Some(limit) if limit.as_str() == "3");
+        && question.options.limit == Some(3);
     let [
         Asked::Word(a),
         Asked::Refs(Refs::All),
@@ -402,13 +404,14 @@ fn options_may_be_anywhere(rt: HostRuntime) -> Result<(), Fail> {
     if is_right && a.as_str() == "A" && b.as_str() == "^B" && c.as_str() == "C" {
         return Ok(());
     }
-    Err(Fail::new(format_args!("{question:?}")))
+    let asked = question.asked.as_slice();
+    Err(Fail::new(format_args!("{asked:?}")))
 }
 
 #[test]
 fn lines_have_numbers(rt: HostRuntime) -> Result<(), Fail> {
     let alloc = rt.alloc();
-    let cases: [(&[u8], &str); 7] = [
+    let cases: [(&[u8], &str); 8] = [
         (b"", "0 lines"),
         (b"a\nb", "2 lines"),
         (b"a\n^b\n", "2 lines"),
@@ -421,8 +424,9 @@ fn lines_have_numbers(rt: HostRuntime) -> Result<(), Fail> {
             b"a\nb\n--all\n",
             "line 3 of standard input: an option is no revision",
         ),
+        (b"a\n\xFF~2\n", "2 lines"),
         (
-            b"\xFF\n",
+            b"a:\xFF\n",
             "line 1 of standard input: a revision isn't UTF-8",
         ),
     ];
@@ -442,7 +446,7 @@ fn lines_have_numbers(rt: HostRuntime) -> Result<(), Fail> {
 }
 
 /// Texts, and the seconds that they say, as `date -u -d` has them.
-const TIMES: &[(&str, Option<u64>)] = &[
+const TIMES: &[(&str, Option<i64>)] = &[
     ("0", Some(0)),
     ("0000000017", Some(17)),
     ("12345678901", None),
@@ -467,19 +471,14 @@ const TIMES: &[(&str, Option<u64>)] = &[
     ("", None),
 ];
 
-/// The number that the digits of an option write.
-fn number(digits: Option<&String>) -> Option<u64> {
-    digits?.as_str().parse::<u64>().ok()
-}
-
 /// The seconds that `--since` takes a text for.
-fn since(alloc: Global, text: &str) -> Result<Option<u64>, Fail> {
+fn since(alloc: Global, text: &str) -> Result<Option<i64>, Fail> {
     let mut words = words_of(alloc, "-C . newest HEAD --since")?;
     words.push(String::from_str(alloc, text)?)?;
     let Ok(Asks::Question(question)) = read_arguments(alloc, words.as_slice()) else {
         return Ok(None);
     };
-    Ok(number(question.options.since.as_ref()))
+    Ok(question.options.since)
 }
 
 #[test]
@@ -487,6 +486,59 @@ fn times_are_read(rt: HostRuntime) -> Result<(), Fail> {
     for (text, seconds) in TIMES {
         if since(rt.alloc(), text)? != *seconds {
             return Err(Fail::new(format_args!("{text}")));
+        }
+    }
+    Ok(())
+}
+
+/// Arguments with a space between any two, and the words that they are, or why they are none.
+const BYTES: &[(&[u8], &str)] = &[
+    (b"-C . newest HEAD \xC3\xA9", "-C . newest HEAD \u{e9}"),
+    (
+        b"-C . newest l\xE9in~2 ^\xFF..main",
+        "-C . newest l\\351in~2 ^\\377..main",
+    ),
+    (b"newest l\xE9in --git-dir=x", "newest l\\351in --git-dir=x"),
+    (b"-C . topo -n -n l\xE9", "-C . topo -n -n l\\351"),
+    (b"-C \xE9 newest HEAD", "\\351"),
+    (b"-C . newest --format \xE9 HEAD", "\\351"),
+    (b"-C . newest --certificate \xE9 \xE9", "\\351"),
+    (b"-C . newest --format=\xE9", "--format=\\351"),
+    (b"-C . files HEAD:\xE9", "HEAD:\\351"),
+    (b"-C . verify-certificate \xE9", "\\351"),
+    (b"newest \xE9", "\\351"),
+];
+
+/// The words that arguments are, or the one that is no word, as a text.
+fn tell_words(alloc: Global, text: &[u8]) -> Result<String, Fail> {
+    let mut arguments = Vec::new(alloc);
+    for part in text.split(|byte| *byte == b' ') {
+        arguments.push(Vec::from_slice(alloc, part)?)?;
+    }
+    let mut told = String::new(alloc);
+    match words_of_bytes(alloc, arguments.as_slice()) {
+        Ok(words) => for word in words.iter() {
+            if !told.is_empty() {
+                told.push(' ')?;
+            }
+            told.push_str(word.as_str())?;
+        },
+        Err(misuse) => {
+            let said = format!(in alloc; "{misuse}")?;
+            let mut parts = said.as_str().split('"');
+            let _before = parts.next();
+            told.push_str(parts.next().unwrap_or_default())?;
+        }
+    }
+    Ok(told)
+}
+
+#[test]
+fn arguments_are_bytes(rt: HostRuntime) -> Result<(), Fail> {
+    for (text, wanted) in BYTES {
+        let told = tell_words(rt.alloc(), *text)?;
+        if told.as_str() != *wanted {
+            return Err(Fail::new(format_args!("{told}, not {wanted}")));
         }
     }
     Ok(())

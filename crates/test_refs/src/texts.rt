@@ -1,8 +1,8 @@
 //! What texts say, as git reads them.
 use gix_hash::{Kind, ObjectId};
 use gix_refs::{
-    Ref, RefFault, common_dir, git_file, is_name_of_any_level, is_ref_name, packed_refs, read_ref,
-    settings_of, upstream_of,
+    Quoted, Ref, RefFault, common_dir, git_file, is_name_of_any_level, is_ref_name, name_of_text,
+    packed_refs, read_ref, settings_of, text_of_name, upstream_of,
 };
 use std::alloc::Global;
 use std::test::Fail;
@@ -133,7 +133,7 @@ fn names_are_those_of_git() -> Result<(), Fail> {
 fn is_read_as(text: &str, expected: &str) -> bool {
     match read_ref(Kind::Sha1, text.as_bytes()) {
         Ok(Ref::Id(id)) => ObjectId::from_hex(expected.as_bytes()) == Ok(id),
-        Ok(Ref::Symbolic(name)) => name == expected,
+        Ok(Ref::Symbolic(name)) => name == expected.as_bytes(),
         Err(_) => expected.is_empty(),
     }
 }
@@ -176,7 +176,7 @@ fn tell_packed(alloc: Global, text: &str) -> Result<String, Fail> {
     let mut told = String::new(alloc);
     for line in packed_refs(Kind::Sha1, text.as_bytes()) {
         match line {
-            Ok(packed) => told.push_str(packed.name)?,
+            Ok(packed) => told.push_str(text_of_name(alloc, packed.name)?.as_str())?,
             Err(RefFault::Line(_)) => told.push_str("line")?,
             Err(_) => told.push_str("name")?,
         }
@@ -257,17 +257,86 @@ const BRANCHES: &[(&str, &str)] = &[
 #[test]
 fn upstreams_are_those_of_git(rt: HostRuntime) -> Result<(), Fail> {
     for (branch, wanted) in BRANCHES {
-        let found = match upstream_of(rt.alloc(), UPSTREAMS.as_bytes(), *branch) {
+        let found = match upstream_of(rt.alloc(), UPSTREAMS.as_bytes(), branch.as_bytes()) {
             Ok(found) => found,
             Err(fault) => return Err(Fail::new(format_args!("{fault}"))),
         };
         let name = match &found {
-            Some(name) => name.as_str(),
-            None => "",
+            Some(name) => name.as_slice(),
+            None => b"",
         };
-        if name != *wanted {
-            return Err(Fail::new(format_args!("{branch}: {name}")));
+        if name != wanted.as_bytes() {
+            return Err(Fail::new(format_args!("{branch}: {name:?}")));
         }
+    }
+    Ok(())
+}
+
+/// Names of refs, and their texts.
+const NAMES_AS_TEXTS: &[(&[u8], &str)] = &[
+    (b"refs/heads/main", "refs/heads/main"),
+    (b"refs/heads/\xC3\xA9", "refs/heads/\u{e9}"),
+    (b"refs/heads/l\xE9in", "refs/heads/l\\351in"),
+    (b"\xC3\xA9\x80\xFF", "\\303\\251\\200\\377"),
+    (b"a\\351", "a\\134351"),
+    (b"\\", "\\134"),
+    (b"", ""),
+];
+
+#[test]
+fn names_are_those_of_their_texts(rt: HostRuntime) -> Result<(), Fail> {
+    let alloc = rt.alloc();
+    for (name, text) in NAMES_AS_TEXTS {
+        let as_text = text_of_name(alloc, *name)?;
+        let as_name = name_of_text(alloc, *text)?;
+        if as_text.as_str() != *text || as_name.as_slice() != *name {
+            return Err(Fail::new(format_args!("{text}: {as_text}")));
+        }
+    }
+    for text in ["\\101", "\\35", "\\3", "\\", "\\400", "\\x41"] {
+        if name_of_text(alloc, text)?.as_slice() != text.as_bytes() {
+            return Err(Fail::new(format_args!("{text}")));
+        }
+    }
+    Ok(())
+}
+
+/// What a message writes for a name.
+fn tell_quoted(alloc: Global, name: &[u8]) -> Result<String, Fail> {
+    let quoted = Quoted::new(alloc, name)?;
+    Ok(format!(in alloc; "{quoted:?}")?)
+}
+
+#[test]
+fn names_in_messages_are_quoted_as_by_git(rt: HostRuntime) -> Result<(), Fail> {
+    let alloc = rt.alloc();
+    assert_eq!(rt; tell_quoted(alloc, b"a b")?.as_str(), "\"a b\"");
+    assert_eq!(rt; tell_quoted(alloc, b"\xC3\xA9")?.as_str(), "\"\u{e9}\"");
+    assert_eq!(rt;
+        tell_quoted(alloc, b"l\xE9\"\x01\\in")?.as_str(),
+        "\"l\\351\\\"\\001\\\\in\""
+    );
+    Ok(())
+}
+
+#[test]
+fn names_may_hold_any_bytes(rt: HostRuntime) -> Result<(), Fail> {
+    let alloc = rt.alloc();
+    let packed = b"1111111111111111111111111111111111111111 refs/heads/l\xE9in\n";
+    for line in packed_refs(Kind::Sha1, packed) {
+        match line {
+            Ok(packed) => assert_eq!(rt; packed.name, b"refs/heads/l\xE9in".as_slice()),
+            Err(fault) => return Err(Fail::new(format_args!("{fault}"))),
+        }
+    }
+    assert!(rt;
+        read_ref(Kind::Sha1, b"ref: refs/heads/\xE9\n") == Ok(Ref::Symbolic(b"refs/heads/\xE9"))
+    );
+    let config =
+        b"[branch \"\xE9\"]\nremote=\xE8\nmerge=refs/heads/x\xE7\n[remote \"\xE8\"]\nfetch=+refs/heads/*:refs/remotes/\xE8/*\n";
+    match upstream_of(alloc, config, b"\xE9") {
+        Ok(Some(name)) => assert_eq!(rt; name.as_slice(), b"refs/remotes/\xE8/x\xE7".as_slice()),
+        _ => return Err(Fail::new(format_args!("no upstream"))),
     }
     Ok(())
 }

@@ -7,7 +7,7 @@ use Rattle.gix_words.specs.declared.words.Order.{Order}
 use Rattle.gix_commands.specs.Checked.{CheckedWalk, Checks}
 use Rattle.gix_commands.specs.Readable.{readable, reads_all_lines}
 use Rattle.gix_commands.proofs.RunFacts.{serves_no_topo, serves_no_walk}
-use Rattle.gix_batches.specs.Batches.{all_lines_to}
+use Rattle.gix_batches.specs.Failing.{all_lines_to}
 use Rattle.gix_batches.specs.Draws.{Fills}
 use Rattle.gix_batches.specs.Walks.{FillsBy, IsItself, down, timed}
 use Rattle.gix_batches.proofs.FilledWalks.{breadth_by, if_err, unstarted}
@@ -21,12 +21,12 @@ returns-in_err-walk-in-Simple-clause-err c =
 
 pub returns-in-BreadthFirst-clause-ok : goal.returns-in-BreadthFirst-clause-ok
 returns-in-BreadthFirst-clause-ok c =
-    subst (λ (o : Order). FillsBy (readable (reads_all_lines (Commits o (all_lines_to c.args.listing.limit) c.args.listing.tips.items c.args.listing.hidden.items)) (with_rows [] c.args.store.now)) c.args.listing.limit c.args.listing.tips.items c.args.listing.hidden.items c.args.skip c.args.commits.now c.fill_from.new.commits c.args.parents.now c.fill_from.new.parents c.fill_from.result o) (sym c.in-Simple.is)
+    subst (λ (o : Order). FillsBy (readable (reads_all_lines (Commits o (all_lines_to c.args.listing.limit) c.args.listing.ends.tips.items c.args.listing.ends.hidden.items)) (with_rows [] c.args.store.now)) c.args.listing.limit c.args.listing.ends.tips.items c.args.listing.ends.hidden.items c.args.skip c.args.commits.now c.fill_from.new.commits c.args.parents.now c.fill_from.new.parents c.fill_from.result o) (sym c.in-Simple.is)
     (breadth_by _ _ _ _ _ _ _ _ _ _ _ _ c.in-BreadthFirst.is _ c.in_ok-walk-in-Simple.ensures.ok c.fill_from.ensures)
 
 pub returns-in_default-clause-ok : goal.returns-in_default-clause-ok
 returns-in_default-clause-ok c =
-    subst (λ (o : Order). FillsBy (readable (reads_all_lines (Commits o (all_lines_to c.args.listing.limit) c.args.listing.tips.items c.args.listing.hidden.items)) (with_rows [] c.args.store.now)) c.args.listing.limit c.args.listing.tips.items c.args.listing.hidden.items c.args.skip c.args.commits.now c.fill_from-in-Simple.new.commits c.args.parents.now c.fill_from-in-Simple.new.parents c.fill_from-in-Simple.result o) (sym c.in-Simple.is)
+    subst (λ (o : Order). FillsBy (readable (reads_all_lines (Commits o (all_lines_to c.args.listing.limit) c.args.listing.ends.tips.items c.args.listing.ends.hidden.items)) (with_rows [] c.args.store.now)) c.args.listing.limit c.args.listing.ends.tips.items c.args.listing.ends.hidden.items c.args.skip c.args.commits.now c.fill_from-in-Simple.new.commits c.args.parents.now c.fill_from-in-Simple.new.parents c.fill_from-in-Simple.result o) (sym c.in-Simple.is)
     (timed _ c.in_default.not-BreadthFirst c.in_ok-walk-in-Simple.ensures.ok
     (subst (λ (w : CheckedWalk). Fills Checks IsItself c.args.listing.limit c.args.skip w c.args.commits.now c.fill_from-in-Simple.new.commits c.args.parents.now c.fill_from-in-Simple.new.parents c.fill_from-in-Simple.result) c.new-checked.ensures c.fill_from-in-Simple.ensures))
 
@@ -37,7 +37,7 @@ returns-in_err-walk-in-Topo-clause-err c =
 
 pub returns-in_ok-walk-in-Topo-clause-ok : goal.returns-in_ok-walk-in-Topo-clause-ok
 returns-in_ok-walk-in-Topo-clause-ok c =
-    subst (λ (o : Order). FillsBy (readable (reads_all_lines (Commits o (all_lines_to c.args.listing.limit) c.args.listing.tips.items c.args.listing.hidden.items)) (with_rows [] c.args.store.now)) c.args.listing.limit c.args.listing.tips.items c.args.listing.hidden.items c.args.skip c.args.commits.now c.fill_from-in-Topo.new.commits c.args.parents.now c.fill_from-in-Topo.new.parents c.fill_from-in-Topo.result o) (sym c.in-Topo.is)
+    subst (λ (o : Order). FillsBy (readable (reads_all_lines (Commits o (all_lines_to c.args.listing.limit) c.args.listing.ends.tips.items c.args.listing.ends.hidden.items)) (with_rows [] c.args.store.now)) c.args.listing.limit c.args.listing.ends.tips.items c.args.listing.ends.hidden.items c.args.skip c.args.commits.now c.fill_from-in-Topo.new.commits c.args.parents.now c.fill_from-in-Topo.new.parents c.fill_from-in-Topo.result o) (sym c.in-Topo.is)
     (down _ c.in_ok-walk-in-Topo.ensures.ok c.fill_from-in-Topo.ensures)
 
 pub returns-in_err-walk-in-Simple-clause-unwritten : goal.returns-in_err-walk-in-Simple-clause-unwritten

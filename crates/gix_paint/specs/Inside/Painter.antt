@@ -1,11 +1,13 @@
 -- What a painting holds while it goes on, and what its steps do.
-use Rattle.std.specs.Prelude.{◌≡◌, ◌≢◌, ◌⊎◌, ◌+◌, ◌≤◌, ℕ, List, [], ◌∷◌, length, Bool, true, false, ◌&&◌, not, if◌then◌else◌, is_some, Option, Some, None, Contains, IsPermutation}
+use Rattle.std.specs.Prelude.{◌≡◌, ◌≢◌, ◌⊎◌, ◌+◌, ◌≤◌, ◌==◌, ℕ, List, [], ◌∷◌, length, Bool, true, false, ◌&&◌, not, cond, if◌then◌else◌, is_some, Option, Some, None, Contains, IsPermutation}
 use Rattle.std.specs.FinMap as map_of
 use Rattle.std.specs.FinSet as set
+use Rattle.std.specs.Int.Bits.{bit_and, bit_or}
 use Rattle.gix_hash.specs.declared.ObjectId.{ObjectId}
-use Rattle.gix_hash.specs.Id.{id_cmp, is_among}
+use Rattle.gix_hash.specs.Id.{id_cmp, is_among, is_same}
 use Rattle.gix_object.specs.Object.{Objects}
 use Rattle.gix_commitgraph.specs.Rows.{GraphRow, row_of}
+use Rattle.gix_paint.specs.declared.Marks.{Marks}
 use Rattle.gix_paint.specs.declared.Side.{Side}
 use Rattle.gix_paint.specs.declared.Side.TheVariants as side
 use Rattle.gix_paint.specs.declared.queue.Generation.{Generation}
@@ -19,16 +21,35 @@ use Rattle.gix_revwalk.specs.Ids.{new_ids}
 
 -- the marks of all ids that were met
 abbrev pub AllMarks : Type 0
-AllMarks = map_of.FinMap id_cmp Side
+AllMarks = map_of.FinMap id_cmp Marks
 
--- whether an id is marked for the hidden tips
+-- the marks of an id, none for one that wasn't met
+abbrev pub bits_of : Option Marks → ℕ
+bits_of None = 0
+bits_of (Some marks) = marks.0
+
+abbrev pub bits_at : AllMarks → ObjectId → ℕ
+bits_at marks i = bits_of (map_of.get marks i)
+
+-- an id has one more mark, and all others have theirs
+abbrev pub AddsMark : ℕ → ObjectId → AllMarks → AllMarks → Type 0
+AddsMark mark i old new = (j : ObjectId) → bits_at new j ≡ cond (is_same j i) (bit_or (bits_at old i) mark) (bits_at old j)
+
+-- for which tips an id of these marks counts: for the hidden ones if it has their mark
+abbrev pub side_by : ℕ → Option Side
+side_by bits = cond (bit_and bits 2 == 2) (Some side.Hidden) (cond (bits == 0) None (Some side.Visible))
+
+abbrev pub side_at : AllMarks → ObjectId → Option Side
+side_at marks i = side_by (bits_at marks i)
+
+-- whether an id counts for the hidden tips
 abbrev pub hides : Option Side → Bool
 hides None = false
 hides (Some side.Visible) = false
 hides (Some side.Hidden) = true
 
 abbrev pub is_hidden : AllMarks → ObjectId → Bool
-is_hidden marks i = hides (map_of.get marks i)
+is_hidden marks i = hides (side_at marks i)
 
 -- the ids that are marked hidden
 unfoldable pub hidden_of : AllMarks → set.FinSet id_cmp
@@ -36,7 +57,7 @@ hidden_of marks = set.retain (set.from_list (map_of.keys marks)) (is_hidden mark
 
 -- an id is unmet, visible or hidden
 abbrev pub mark_of : {F : Type 0} → Painter F → ObjectId → Option Side
-mark_of p i = map_of.get p.marks i
+mark_of p i = side_at p.marks i
 
 -- by which generation a commit waits, with a row or without
 abbrev pub generation_told : Option GraphRow → Generation
@@ -48,7 +69,7 @@ IsQueued rows q = q.0 ≡ generation_told (row_of rows q.1.id)
 
 -- how many entries there are and can still come, of these ids
 abbrev pub room : {F : Type 0} → List ObjectId → Painter F → ℕ
-room named p = length (new_ids (λ i. is_some (map_of.get p.marks i)) named) + length (new_ids (is_hidden p.marks) named) + length p.queue
+room named p = length (new_ids (λ i. is_some (mark_of p i)) named) + length (new_ids (is_hidden p.marks) named) + length p.queue
 
 -- what meeting an id on a side makes of it: it is marked for that side, and queued if it wasn't
 pub data Becomes (on : Side) (met : Type 0) (queued : Type 0) : Option Side → Option Side → Type 0 where
@@ -66,7 +87,7 @@ pub record IsWaiting {F : Type 0} (p : Painter F) (on : Side) (i : ObjectId) : T
 
 -- a visible id that waits, and has a row
 abbrev pub WaitsWithRow : {F : Type 0} → Painter F → ObjectId → Type 0
-WaitsWithRow p i = (map_of.get p.marks i ≡ Some side.Visible) × (q : QueueEntry) × Contains p.queue q × (q.1.side ≡ side.Visible) × (q.1.id ≡ i) × (is_told q.0 ≡ true)
+WaitsWithRow p i = (mark_of p i ≡ Some side.Visible) × (q : QueueEntry) × Contains p.queue q × (q.1.side ≡ side.Visible) × (q.1.id ≡ i) × (is_told q.0 ≡ true)
 
 -- the frontier is of such ids
 abbrev pub IsTidy : {F : Type 0} → Painter F → Type 0

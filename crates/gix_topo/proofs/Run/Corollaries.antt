@@ -1,10 +1,11 @@
 -- The laws of topological walks that follow from the order alone; and what a walk through all parents gives, by the store over a sound history, and by the texts where no fault comes.
 use Rattle.gix_revwalk.specs.declared.Parents.TheVariants as mode
-use Rattle.std.proofs.Common.{◌≡◌, ◌↔◌, List, [], Bool, filter, Result, Contains, ◌++◌, ℤ, ◌∷◌, true, Ok, Err, All, subst, refl, sym}
+use Rattle.std.proofs.Common.{◌≡◌, ◌↔◌, List, [], Bool, filter, Result, Contains, ◌++◌, ℤ, ◌∷◌, true, Ok, Err, All, subst, refl, sym, ap, ◌∙◌}
 use Rattle.std.specs.List.{AllZip}
 use Rattle.gix_topo.proofs.Common.{ObjectId, Objects, GraphRow, Info, Sorting, Error, parents_of, time_of, ReadsWhole, walked_parents, by_mode, IsAcyclicIn, IsChild, IsInWalk, AreDistinct, TopoPlan, TopoWalk, walked_of}
 use Rattle.gix_topo.proofs.Common.{IsMember, text_walked, IsTextMember, IsStarted, Next, IsBeginningBy, IsListBy, IsNextBy, IsNextByText, IsNextTaken, IsGiven, GivesInOrder, IsWholeRun, IsNoRefusal, IsTextGiven, GivesTextOrder, GivesDifference}
 use Rattle.gix_topo.proofs.Common.{GivesTextDifference, given_ids, Drains, Contains-append_left, Contains-append_right, Parents, Reaches, step, IsAgreeing, filter_all}
+use Rattle.gix_revwalk.specs.Infos.{given}
 use Rattle.gix_revwalk.specs.Texts.{text_next}
 use Rattle.gix_topo.proofs.Run.ReadyInTurn.{IsReadyNext, one_taken, same_set}
 use Rattle.gix_topo.proofs.Reading.ReadsCommit.{text_has}
@@ -43,6 +44,37 @@ with_rows {F} objects faulty answers walk other rows accepts list longer same ru
     let plan : TopoPlan F = walk.plan in
     let e : h.ids ≡ g.ids = one_list (IsNextTaken objects plan) (one_taken (time_of (objects plan.store)) (walked_of objects plan) (IsMember objects plan) plan.tips plan.sorting) h.ids g.ids (subst (λ p. IsListBy (IsNextTaken objects p) h.ids) same h.in_order) g.in_order in
     (g.ids, g.given, subst (λ ids. AllZip (IsGiven objects other.plan) longer (filter accepts ids)) e h.given)
+
+abbrev DifferInGenerations : List (Result Info Error) → List (Result Info Error) → Type 0
+DifferInGenerations list longer =
+    (infos others : List Info) × (list ≡ given infos) × (longer ≡ given others) × AllZip (λ (a : Info) (b : Info). (a.id ≡ b.id) × (a.parent_ids.items ≡ b.parent_ids.items) × (a.commit_time ≡ b.commit_time)) infos others
+
+-- answers that are the same commits, by rows that may differ, differ in generations alone
+same_infos : {F : Type 0} (objects : F → Objects) (plan : TopoPlan F) (rows : List GraphRow) (list longer : List (Result Info Error)) (ids : List ObjectId) → AllZip (IsGiven objects plan) list ids → AllZip (IsGiven objects (record plan { rows = rows })) longer ids → DifferInGenerations list longer
+same_infos objects plan rows [] [] [] g h = ([], [], refl, refl, tt)
+same_infos objects plan rows [] [] (i ∷ ids) g h = absurd g
+same_infos objects plan rows [] (b ∷ longer) [] g h = absurd h
+same_infos objects plan rows [] (b ∷ longer) (i ∷ ids) g h = absurd g
+same_infos objects plan rows (a ∷ list) longer [] g h = absurd g
+same_infos objects plan rows (a ∷ list) [] (i ∷ ids) g h = absurd h
+same_infos objects plan rows (Err e ∷ list) (b ∷ longer) (i ∷ ids) g h = absurd g.0
+same_infos objects plan rows (Ok info ∷ list) (Err e ∷ longer) (i ∷ ids) g h = absurd h.0
+same_infos objects plan rows (Ok info ∷ list) (Ok other ∷ longer) (i ∷ ids) g h =
+    let rest : DifferInGenerations list longer = same_infos objects plan rows list longer ids g.1 h.1 in
+    let one = g.0.info_is in
+    let two = h.0.info_is in (
+      info ∷ rest.0,
+      other ∷ rest.1,
+      ap (λ answers. Ok info ∷ answers) rest.2,
+      ap (λ answers. Ok other ∷ answers) rest.3,
+      ((one.same_id ∙ sym two.same_id, one.same_parents ∙ sym two.same_parents, one.same_time ∙ sym two.same_time), rest.4),
+    )
+
+pub differ_in_generations : {F P : Type 0} (objects : F → Objects) (faulty : F → ObjectId → Type 0) (answers : P → ObjectId → Bool → P → Type 0) (walk other : TopoWalk F P) (rows : List GraphRow) (accepts : ObjectId → Bool) (list longer : List (Result Info Error)) → other.plan ≡ record walk.plan { rows = rows } →
+    IsWholeRun objects faulty answers walk accepts list → IsWholeRun objects faulty answers other accepts longer → DifferInGenerations list longer
+differ_in_generations objects faulty answers walk other rows accepts list longer same run run_other =
+    let both = with_rows objects faulty answers walk other rows accepts list longer same run run_other in
+    same_infos objects walk.plan rows list longer (filter accepts both.0) both.1 (subst (λ plan. AllZip (IsGiven objects plan) longer (filter accepts both.0)) same both.2)
 
 -- whatever the rows and the order: the same commits are taken
 pub same_ids : {F P : Type 0} (objects : F → Objects) (faulty : F → ObjectId → Type 0) (answers : P → ObjectId → Bool → P → Type 0) (walk other : TopoWalk F P) (rows : List GraphRow) (sorting : Sorting) (accepts : ObjectId → Bool) (list longer : List (Result Info Error)) → other.plan ≡ record walk.plan { rows = rows; sorting = sorting } →

@@ -1,10 +1,11 @@
 //! Runs over objects that were compared with their ids.
 use super::*;
-use gix_commands::run_named;
+use gix_commands::answer;
 use gix_parts::hash::ObjectId;
 use gix_parts::names::is_named;
 use gix_parts::object::Kind;
 use gix_parts::records::NamedObjects;
+use gix_words::read_command;
 
 /// An object, with its id.
 type Named = (&'static str, Kind, &'static [u8]);
@@ -63,7 +64,8 @@ fn check_told_of(
     want: &str,
 ) -> Result<(), Fail> {
     let mut told = Vec::new(alloc);
-    if let Err(fault) = run_named(alloc, words, objects, None, &mut told) {
+    let command = read_command(alloc, words)?;
+    if let Err(fault) = answer(alloc, &command, objects, None, &mut told) {
         push_fault(alloc, &mut told, fault)?;
     }
     compare(words, &told, &text_of(alloc, &[want])?)

@@ -9,7 +9,7 @@ use Rattle.gix_commands.proofs.containing.write_containing.Goals as goal
 pub returns-in_err-those : goal.returns-in_err-those
 returns-in_err-those g c =
     let p = err_from_is_err_and c.from_residual.result c.from_residual.ensures.1 in
-    call_failed _ _ _ _ _ c.args.tips.items _ c.over-objects.ensures _ c.as_slice.ensures.value (λ all rows ids why. FailsBy all (λ i. ⊥) rows c.args.target ids why) fault_of_search search_error.Memory refl
+    call_failed _ _ _ _ _ c.args.tips.now _ c.over-objects.ensures _ refl (λ all rows ids why. FailsBy all (λ i. ⊥) rows c.args.target ids why) fault_of_search search_error.Memory refl
     (λ why f. not_reaching why f) _ c.in_err-those.field-0.0 _ p.1 p.2 c.in_err-those.ensures.err
 
 pub returns-in_err-lines : goal.returns-in_err-lines
@@ -19,5 +19,5 @@ returns-in_err-lines g c =
 
 pub returns : goal.returns
 returns g c =
-    call_written _ _ _ _ _ c.args.tips.items _ c.over-objects.ensures _ c.as_slice.ensures.value (λ all rows ids. FindsContaining all rows c.args.target ids) (λ full those f h. reaching those f h) _ _ _ _ c.in_ok-those.ensures.ok
-    (c.in_ok-lines.ensures ∙ ap (flat_map line_of) c.as_slice-2.ensures.value) c.write_out.ensures.ok c.write_out.ensures.fault
+    call_written _ _ _ _ _ c.args.tips.now _ c.over-objects.ensures _ refl (λ all rows ids. FindsContaining all rows c.args.target ids) (λ full those f h. reaching those f h) _ _ _ _ c.in_ok-those.ensures.ok
+    (c.in_ok-lines.ensures ∙ ap (flat_map line_of) c.as_slice.ensures.value) c.write_out.ensures.ok c.write_out.ensures.fault
