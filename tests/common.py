@@ -228,7 +228,8 @@ class Repository:
             names = self.git("for-each-ref", "--format=%(refname)", "refs/heads").split() if "--branches" in rest else []
             within = [one for one in others + names if (self.reaches(first, one) if command == "contains" else self.reaches(one, first))]
             lines = [self.git("rev-parse", f"{one}^{{commit}}") + (f" {one}" if "--names" in rest else "") for one in within]
-            return "\n".join(lines), 0 if len(within) == len(others + names) else 3
+            is_found = len(within) == len(others + names) if command == "contains" else within
+            return "\n".join(lines), 0 if is_found else 3
         if command == "merge-base":
             return "\n".join(sorted(self.git("merge-base", "--all", *revisions, statuses=(0, 1)).split())), 0
         if command == "is-ancestor":

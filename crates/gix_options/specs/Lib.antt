@@ -1,1 +1,4 @@
+pub mod Flags
+pub mod Names
 pub mod OptionWords
+pub mod Values

@@ -6,6 +6,18 @@ use Rattle.gix_words.specs.Printed.{format_words, skip_words, valued, where_give
 use Rattle.gix_options.specs.declared.name.Name.{Name}
 use Rattle.gix_options.specs.declared.name.Name.TheVariants as name
 use Rattle.gix_options.specs.declared.options.Options.{Options}
+use Rattle.gix_options.specs.declared.question.Asks.{Asks}
+use Rattle.gix_options.specs.declared.question.Asks.TheVariants as asks
+use Rattle.gix_options.specs.declared.question.Question.{Question}
+
+-- whether a name is of a list of commits
+abbrev pub is_list : Name → Bool
+is_list name.Breadth = true
+is_list name.Newest = true
+is_list name.Oldest = true
+is_list name.Topo = true
+is_list name.Date = true
+is_list other = false
 
 -- options that exclude each other aren't both given
 abbrev pub GoTogether : Options → Type 0
@@ -16,6 +28,14 @@ abbrev pub GoWith : Name → Options → Type 0
 GoWith name.Newest o = o.by_first_parents ≡ true → o.since ≡ None
 GoWith name.Oldest o = o.by_first_parents ≡ false
 GoWith other o = o.since ≡ None
+
+-- this holds of each question that is asked: its options go together, and with its command
+abbrev pub IsFit : Question → Type 0
+IsFit q = GoTogether q.options × GoWith q.name q.options
+
+abbrev pub AreFit : Asks → Type 0
+AreFit (asks.Question q) = IsFit q
+AreFit other = Unit {0}
 
 -- The page's name of a list. The first parents of one tip are in one row, so `newest` is `breadth` where these alone are followed.
 abbrev pub list_name : Name → (by_first_parents : Bool) → List ℕ

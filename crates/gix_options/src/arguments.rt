@@ -1,5 +1,6 @@
 //! Arguments that ask something of a repository.
-ghost use Rattle.std.specs.Prelude.{◌≡◌, ◌+◌, ◌≤◌, ◌<◌, length};
+ghost use Rattle.std.specs.Prelude.{◌≡◌, ◌+◌, ◌≤◌, ◌<◌, ◌&&◌, false, length, IfOk, IfSome, OnOk};
+ghost use Rattle.gix_options.specs.OptionWords.{AreFit, GoWith, IsFit};
 
 use crate::hint::{of_command, of_option};
 use crate::lines::{fault_of, misuse_of};
@@ -42,7 +43,9 @@ impl Drop for Arguments {
 /// # Errors
 ///
 /// The first [`Misuse`] that is met. Where no repository is named, arguments are never misused here.
-pub fn read_arguments(alloc: Global, words: &[String]) -> Result<Asks, Misuse> {
+pub fn read_arguments(alloc: Global, words: &[String]) -> Result<Asks, Misuse>
+    ensures { IfOk result AreFit }
+{
     if let Some(asks) = read_help(words) {
         return Ok(asks);
     }
@@ -59,7 +62,9 @@ pub fn read_arguments(alloc: Global, words: &[String]) -> Result<Asks, Misuse> {
 /// # Errors
 ///
 /// The first [`Misuse`] that is met. `NoCommand` where help is asked for, and `NoOption` where the words name a place of their own.
-pub fn read_question(alloc: Global, place: Place, words: &[String]) -> Result<Question, Misuse> {
+pub fn read_question(alloc: Global, place: Place, words: &[String]) -> Result<Question, Misuse>
+    ensures { IfOk result IsFit }
+{
     let mut arguments = Arguments::new(alloc);
     arguments.read_all(words)?;
     if arguments.place.is_some() {
@@ -79,7 +84,9 @@ pub(crate) fn names_place(word: &str) -> bool {
 }
 
 /// Help that is asked for without a repository: the first word is an option that asks for it.
-fn read_help(words: &[String]) -> Option<Asks> {
+fn read_help(words: &[String]) -> Option<Asks>
+    ensures { IfSome result AreFit }
+{
     let [first, behind @ ..] = words else {
         return None;
     };
@@ -175,7 +182,7 @@ impl Arguments {
             return Ok(true);
         }
         let number = word.strip_prefix('-').unwrap_or_default();
-        let Some(limit) = number_in(number) else {
+        let Some(limit) = number_in(number.as_bytes()) else {
             return Ok(false);
         };
         self.options.limit = Some(limit);
@@ -231,7 +238,7 @@ impl Arguments {
         if word.starts_with('-') {
             let text = String::from_str(self.alloc, word)?;
             let (option, _) = with_value(word);
-            return Err(Misuse::NoOption(text, of_option(option)));
+            return Err(Misuse::NoOption(text, of_option(option, self.name)));
         }
         if self.name.is_none() {
             if word == "help" {
@@ -240,7 +247,8 @@ impl Arguments {
             }
             let Some(name) = Name::of(word) else {
                 let text = String::from_str(self.alloc, word)?;
-                return Err(Misuse::Command(text, of_command(word)));
+                let (hint, nearest) = of_command(word);
+                return Err(Misuse::Command(text, hint, nearest));
             };
             self.name = Some(name);
             return Ok(());
@@ -258,7 +266,9 @@ impl Arguments {
     }
 
     /// What all arguments ask. It is moved out of what was read.
-    fn ask(&mut self) -> Result<Asks, Misuse> {
+    fn ask(&mut self) -> Result<Asks, Misuse>
+        ensures { IfOk result AreFit }
+    {
         if self.needs_help {
             return Ok(Asks::Help(self.name));
         }
@@ -278,7 +288,9 @@ impl Arguments {
     }
 
     /// Leaves out what git leaves out: the order of what is only counted, and that all best common ancestors are wanted, as they always are.
-    fn take_as_git(&mut self, name: Name) {
+    fn take_as_git(&mut self, name: Name)
+        ensures { (self.new.options.counts && self.new.options.is_reversed) ≡ false }
+    {
         if self.options.counts {
             self.options.is_reversed = false;
         }
@@ -289,7 +301,10 @@ impl Arguments {
     }
 
     /// The question of this command at this place.
-    fn question(&mut self, place: Place, name: Name) -> Question {
+    fn question(&mut self, place: Place, name: Name) -> Question
+        ensures name { result.name ≡ name }
+        ensures options { result.options ≡ self.old.options }
+    {
         Question {
             place,
             name,
@@ -299,7 +314,10 @@ impl Arguments {
     }
 
     /// Whether each option goes with the command.
-    fn check_options(&self, name: Name) -> Result<(), Misuse> {
+    fn check_options(&self, name: Name) -> Result<(), Misuse>
+        ensures merges { OnOk result ((self.now.options.merges && self.now.options.no_merges) ≡ false) }
+        ensures walk { OnOk result (GoWith name self.now.options) }
+    {
         if self.options.limit.is_some() && !name.takes_limit() {
             return Err(Misuse::option("-n", name));
         }
@@ -322,17 +340,7 @@ impl Arguments {
         if self.options.gives_subject && self.options.takes_border {
             return Err(Misuse::Misfit("--oneline", "--border", ""));
         }
-        if self.options.by_first_parents
-            && !matches!(name, Name::Breadth | Name::Newest | Name::Topo | Name::Date)
-        {
-            return Err(Misuse::option("--first-parent", name));
-        }
-        if self.options.by_first_parents && self.options.since.is_some() {
-            return Err(Misuse::Misfit("--first-parent", "--since", ""));
-        }
-        if self.options.since.is_some() && name != Name::Newest && name != Name::Oldest {
-            return Err(Misuse::option("--since", name));
-        }
+        self.check_walk(name)?;
         if self.options.ends_in_zero && name == Name::IsAncestor {
             return Err(Misuse::option("-z", name));
         }
@@ -364,6 +372,25 @@ impl Arguments {
         Ok(())
     }
 
+    /// Whether what is said of the walk goes with the command.
+    fn check_walk(&self, name: Name) -> Result<(), Misuse>
+        ensures { OnOk result (GoWith name self.now.options) }
+    {
+        let takes_first = matches!(name, Name::Breadth | Name::Newest | Name::Topo | Name::Date);
+        let takes_since = matches!(name, Name::Newest | Name::Oldest);
+        let is_first = self.options.by_first_parents;
+        let is_since = self.options.since.is_some();
+        if is_first && !takes_first {
+            Err(Misuse::option("--first-parent", name))
+        } else if is_first && is_since {
+            Err(Misuse::Misfit("--first-parent", "--since", ""))
+        } else if is_since && !takes_since {
+            Err(Misuse::option("--since", name))
+        } else {
+            Ok(())
+        }
+    }
+
     /// Whether so many revisions go with the command, as far as words show it: a set or a range may name many.
     fn check_number(&self, name: Name) -> Result<(), Misuse> {
         let words = self.asked.len();
@@ -378,7 +405,7 @@ impl Arguments {
                 if words == 2 && tips == 2 || words == 1 && self.has_symmetric() {
                     Ok(())
                 } else {
-                    Err(Misuse::Number(name.word(), 2))
+                    Err(Misuse::Ahead)
                 }
             }
             Name::IsAncestor => {

@@ -1,9 +1,14 @@
 //! Times that options name.
+ghost use Rattle.std.specs.Prelude.{◌≡◌, ◌≤◌, length, Some, IfSome};
+ghost use Rattle.gix_records.specs.Decimal.{digits_behind};
+ghost use Rattle.gix_words.specs.Words.{number_in};
 
 /// The seconds since 1970 that a text says, in at most 10 digits: 1 to 10 digits are such seconds. A date as `2024-05-01` is its midnight in
 /// UTC, and `2024-05-01T12:00:00`, maybe without the seconds, is a time in UTC, or behind `Z`, `+02:00` or `-0330` one with that offset. A
 /// space may be in place of the `T`, and before the offset.
-pub fn seconds_of(text: &str) -> Option<u64> {
+pub fn seconds_of(text: &str) -> Option<u64>
+    ensures { IfSome (number_in 10 text.now) (λ n. result ≡ Some n) }
+{
     let bytes = text.as_bytes();
     if !bytes.is_empty() && bytes.len() <= 10 {
         if let Some(seconds) = number(bytes) {
@@ -23,15 +28,18 @@ pub fn seconds_of(text: &str) -> Option<u64> {
     Some(seconds)
 }
 
-/// The number that digits write, or the greatest where it is greater.
-pub(crate) fn number(digits: &[u8]) -> Option<u64> {
-    let mut number: u64 = 0;
+/// The number that at most 10 digits write.
+pub(crate) fn number(digits: &[u8]) -> Option<u64>
+    requires few { length digits.now ≤ 10 }
+    ensures value { result ≡ digits_behind 0 digits.now }
+    ensures small { IfSome result (λ n. n ≤ 9999999999) }
+{
+    let mut number = 0;
     for digit in digits {
         if !digit.is_ascii_digit() {
             return None;
         }
-        let value = u64::from(digit.saturating_sub(b'0'));
-        number = number.saturating_mul(10).saturating_add(value);
+        number = 10 * number + u64::from(digit - b'0');
     }
     Some(number)
 }

@@ -1,4 +1,7 @@
 //! The format that a text is, or what is wrong with it.
+ghost use Rattle.std.specs.Prelude.{◌≡◌, IfOk, Some};
+ghost use Rattle.gix_words.specs.Formats.{format_of};
+
 use crate::Misuse;
 use gix_words::Format;
 use std::alloc::Global;
@@ -7,7 +10,9 @@ use std::alloc::Global;
 ///
 /// # Errors
 /// Why it is none that a line may have: it is empty, or too long, or has a field that isn't known, of which the first is named. `Memory`.
-pub(crate) fn format_of(alloc: Global, text: &str) -> Result<Format, Misuse> {
+pub(crate) fn format_of(alloc: Global, text: &str) -> Result<Format, Misuse>
+    ensures { IfOk result (λ format. format_of text.now ≡ Some format) }
+{
     if text.is_empty() {
         return Err(Misuse::NoFormat);
     }

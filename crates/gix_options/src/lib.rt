@@ -15,7 +15,9 @@ mod question;
 mod words;
 
 pub use arguments::{read_arguments, read_question};
-pub use help::{COMMANDS, Command, NOTES, USAGE, VERSION, WHAT, help_of};
+pub use help::{
+    COMMANDS, Command, Explained, OPTIONS, REVISIONS, STATUS, Takers, USAGE, VERSION, WHAT, help_of,
+};
 pub use lines::read_lines;
 pub use misuse::Misuse;
 pub use name::Name;

@@ -1,6 +1,6 @@
 //! The list that options ask for.
-ghost use Rattle.std.specs.Prelude.{◌≡◌, ◌==◌, ◌∷◌, ◌++◌, codes, IfSome};
-ghost use Rattle.gix_options.specs.OptionWords.{GoTogether, GoWith, field_options, form_options, merges_options, option_words, order_options, since_options};
+ghost use Rattle.std.specs.Prelude.{◌≡◌, ◌==◌, ◌∷◌, ◌++◌, codes, IfSome, is_some};
+ghost use Rattle.gix_options.specs.OptionWords.{GoTogether, GoWith, field_options, form_options, is_list, merges_options, option_words, order_options, since_options};
 ghost use Rattle.gix_statement.specs.WholeStatement.{says_more};
 ghost use Rattle.gix_words.specs.Formats.{format_bytes};
 ghost use Rattle.gix_words.specs.Printed.{form_words, line_words, merges_words, order_words, shown_words, time_name, where_given};
@@ -14,8 +14,9 @@ impl Options {
     /// The order of a list of this name, through the parents that are followed. None if the name is of no list. The first parents of one tip
     /// are in one row, so `newest` lists them as `breadth` does.
     pub fn order(&self, name: Name) -> Option<Order>
+        ensures list { is_some result ≡ is_list name }
         // In the words of the page: the name, and the options that an order may have.
-        ensures { GoWith name self.now → IfSome result (λ order. order_words order ≡ order_options name self.now) }
+        ensures words { GoWith name self.now → IfSome result (λ order. order_words order ≡ order_options name self.now) }
     {
         let parents = if self.by_first_parents {
             Parents::First

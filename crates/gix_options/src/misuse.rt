@@ -10,9 +10,9 @@ pub enum Misuse {
     /// No word names a command.
     #[error("a command is missing")]
     NoCommand,
-    /// The first word that is no option names no command. Behind it is what there is in its place, or nothing.
-    #[error("no command is called {0:?}{1}")]
-    Command(String, &'static str),
+    /// The first word that is no option names no command. Behind it is what there is in its place, in two parts, or nothing.
+    #[error("no command is called {0:?}{1}{2}")]
+    Command(String, &'static str, &'static str),
     /// A word begins with `-` and is no option. Behind it is what there is in its place, or nothing.
     #[error("no option is called {0:?}{1}")]
     NoOption(String, &'static str),
@@ -35,7 +35,7 @@ pub enum Misuse {
     #[error("--format has no field {0:?}: its fields are %H, %h, %T, %P, %s, %an, %ae, %ct, %ci, %n and %%")]
     Field(String),
     /// Behind this option there is no time that can be used.
-    #[error("{0} needs seconds of 1 to 10 digits, or a date from 1970 on, as 2024-05-01 or 2024-05-01T12:00:00Z")]
+    #[error("{0} needs seconds of 1 to 10 digits, as date -d '2 weeks ago' +%s writes them, or a date from 1970 on, as 2024-05-01 or 2024-05-01T12:00:00Z")]
     Time(&'static str),
     /// No commit has one parent at most and two at least.
     #[error("--merges and --no-merges don't go together")]
@@ -71,9 +71,12 @@ pub enum Misuse {
     #[error("{0} needs a revision without ^, as HEAD")]
     NoTip(&'static str),
     /// The revisions that `contains`, `containing` or `merge-base` asks about are missing or hidden, or the first isn't named.
-    #[error("{0} needs two revisions at least, the first of them by its name, and none with ^ or a range A..B")]
+    #[error("{0} needs two revisions at least, the first of them by its name, as in {0} A --tags, and none with ^ or a range A..B")]
     Several(&'static str),
-    /// `ahead`, `is-ancestor` and `files` take so many revisions.
+    /// `ahead` takes two revisions.
+    #[error("ahead takes two revisions without ^, or A...B")]
+    Ahead,
+    /// `is-ancestor` and `files` take so many revisions.
     #[error("the number of revisions for {0} is {1}, none of them with ^ or a range A..B")]
     Number(&'static str, usize),
     /// `check-graph` takes no revisions.

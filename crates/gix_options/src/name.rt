@@ -1,4 +1,7 @@
 //! The names of the commands.
+ghost use Rattle.std.specs.Prelude.{◌≡◌, IfSome};
+ghost use Rattle.gix_options.specs.Names.{word_of};
+ghost use Rattle.gix_options.specs.OptionWords.{is_list};
 
 /// A command over a repository.
 #[derive(Clone, Copy, PartialEq, Eq, Debug)]
@@ -35,7 +38,9 @@ pub enum Name {
 
 impl Name {
     /// The command of this name.
-    pub fn of(word: &str) -> Option<Name> {
+    pub fn of(word: &str) -> Option<Name>
+        ensures { IfSome result (λ name. word.now ≡ word_of name) }
+    {
         match word {
             "breadth" => Some(Name::Breadth),
             "newest" => Some(Name::Newest),
@@ -56,7 +61,9 @@ impl Name {
     }
 
     /// The name as it is written.
-    pub fn word(self) -> &'static str {
+    pub fn word(self) -> &'static str
+        ensures { result.now ≡ word_of self }
+    {
         match self {
             Name::Breadth => "breadth",
             Name::Newest => "newest",
@@ -76,7 +83,9 @@ impl Name {
     }
 
     /// Whether it lists commits, so that a number of lines goes with it, and hidden commits.
-    pub fn is_list(self) -> bool {
+    pub fn is_list(self) -> bool
+        ensures { result ≡ is_list self }
+    {
         matches!(
             self,
             Name::Breadth | Name::Newest | Name::Oldest | Name::Topo | Name::Date

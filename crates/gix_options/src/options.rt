@@ -1,4 +1,10 @@
 //! The options of a question, and the values that they take.
+ghost use Rattle.std.specs.Prelude.{◌≡◌, Some, IfOk, OnOk, is_some};
+ghost use Rattle.std.specs.Option.{unwrap_or};
+ghost use Rattle.gix_options.specs.Flags.{with_flag};
+ghost use Rattle.gix_options.specs.Values.{HasValue, IsTime, is_negative, limit_in};
+ghost use Rattle.gix_words.specs.Formats.{format_of};
+ghost use Rattle.gix_words.specs.Words.{number_in};
 
 use crate::date::{number, seconds_of};
 use crate::format::format_of;
@@ -125,7 +131,10 @@ impl Options {
     }
 
     /// Notes an option without a value, and says whether the word is one.
-    pub(crate) fn take_flag(&mut self, word: &str) -> bool {
+    pub(crate) fn take_flag(&mut self, word: &str) -> bool
+        ensures taken { result ≡ is_some (with_flag word.now self.old) }
+        ensures options { self.new ≡ unwrap_or (with_flag word.now self.old) self.old }
+    {
         match word {
             "--merges" => self.merges = true,
             "--no-merges" => self.no_merges = true,
@@ -153,20 +162,75 @@ impl Options {
         alloc: Global,
         option: &str,
         value: &str,
-    ) -> Result<(), Misuse> {
+    ) -> Result<(), Misuse>
+        ensures { OnOk result (HasValue option.now value.now self.old self.new) }
+    {
         match option {
-            // A number of lines below 0 is no limit.
-            "-n" | "--max-count" if is_negative(value) => self.limit = None,
-            "-n" | "--max-count" => self.limit = Some(number_in(value).ok_or(Misuse::Limit)?),
-            "--skip" => self.skip = Some(number_in(value).ok_or(Misuse::Skip)?),
-            "--certificate" if value.is_empty() => return Err(Misuse::NoFile),
-            "--certificate" => self.certificate = Some(String::from_str(alloc, value)?),
-            "--format" => self.format = Some(format_of(alloc, value)?),
-            "--since" => self.since = Some(seconds_behind("--since", value)?),
-            "--after" => self.since = Some(seconds_behind("--after", value)?),
-            "--until" => self.until = Some(seconds_behind("--until", value)?),
-            _ => self.until = Some(seconds_behind("--before", value)?),
+            "-n" | "--max-count" => self.take_limit(value.as_bytes()),
+            "--skip" => self.take_skip(value.as_bytes()),
+            "--certificate" => self.take_certificate(alloc, value),
+            "--format" => self.take_format(alloc, value),
+            "--since" => self.take_since("--since", value),
+            "--after" => self.take_since("--after", value),
+            "--until" => self.take_until("--until", value),
+            _ => self.take_until("--before", value),
         }
+    }
+
+    /// Takes how many lines are written. A number below 0 is no limit.
+    fn take_limit(&mut self, value: &[u8]) -> Result<(), Misuse>
+        ensures { OnOk result (self.new ≡ record self.old { limit = limit_in value.now }) }
+    {
+        self.limit = if is_negative(value) {
+            None
+        } else {
+            Some(number_in(value).ok_or(Misuse::Limit)?)
+        };
+        Ok(())
+    }
+
+    /// Takes how many lines are left out first.
+    fn take_skip(&mut self, value: &[u8]) -> Result<(), Misuse>
+        ensures { OnOk result (self.new ≡ record self.old { skip = number_in 9 value.now }) }
+    {
+        self.skip = Some(number_in(value).ok_or(Misuse::Skip)?);
+        Ok(())
+    }
+
+    /// Takes the name of a file for the certificate.
+    fn take_certificate(&mut self, alloc: Global, value: &str) -> Result<(), Misuse>
+        ensures { OnOk result (self.new ≡ record self.old { certificate = self.new.certificate }) }
+    {
+        if value.is_empty() {
+            return Err(Misuse::NoFile);
+        }
+        self.certificate = Some(String::from_str(alloc, value)?);
+        Ok(())
+    }
+
+    /// Takes what a line says.
+    fn take_format(&mut self, alloc: Global, value: &str) -> Result<(), Misuse>
+        ensures { OnOk result (self.new ≡ record self.old { format = format_of value.now }) }
+    {
+        self.format = Some(format_of(alloc, value)?);
+        Ok(())
+    }
+
+    /// Takes the least time.
+    fn take_since(&mut self, option: &'static str, value: &str) -> Result<(), Misuse>
+        ensures time { OnOk result (IsTime value.now self.new.since) }
+        ensures others { OnOk result (self.new ≡ record self.old { since = self.new.since }) }
+    {
+        self.since = Some(seconds_behind(option, value)?);
+        Ok(())
+    }
+
+    /// Takes the greatest time.
+    fn take_until(&mut self, option: &'static str, value: &str) -> Result<(), Misuse>
+        ensures time { OnOk result (IsTime value.now self.new.until) }
+        ensures others { OnOk result (self.new ≡ record self.old { until = self.new.until }) }
+    {
+        self.until = Some(seconds_behind(option, value)?);
         Ok(())
     }
 
@@ -221,7 +285,9 @@ impl Options {
     }
 
     /// Has the lines of a command say what their objects have, each up to a byte 0, which no text that a format writes has, and no path.
-    pub(crate) fn take_json(&mut self, name: Name) {
+    pub(crate) fn take_json(&mut self, name: Name)
+        ensures { self.new ≡ record self.old { format = self.new.format; ends_in_zero = self.new.ends_in_zero } }
+    {
         if name.is_list() && !self.counts {
             self.format = Format::read(JSON_FORMAT.as_bytes());
             self.ends_in_zero = true;
@@ -233,7 +299,9 @@ impl Options {
 }
 
 /// The seconds that the value of this option says.
-fn seconds_behind(option: &'static str, value: &str) -> Result<i64, Misuse> {
+fn seconds_behind(option: &'static str, value: &str) -> Result<i64, Misuse>
+    ensures { IfOk result (λ seconds. IsTime value.now (Some seconds)) }
+{
     match seconds_of(value).map(i64::try_from) {
         Some(Ok(seconds)) => Ok(seconds),
         _ => Err(Misuse::Time(option)),
@@ -256,17 +324,21 @@ pub(crate) fn takes_value(option: &str) -> bool {
 }
 
 /// The number that 1 to 9 decimal digits write.
-pub(crate) fn number_in(word: &str) -> Option<u64> {
-    if word.is_empty() || word.len() > 9 {
+pub(crate) fn number_in(digits: &[u8]) -> Option<u64>
+    ensures { result ≡ number_in 9 digits.now }
+{
+    if digits.is_empty() || digits.len() > 9 {
         return None;
     }
-    number(word.as_bytes())
+    number(digits)
 }
 
 /// Whether a word is a number below 0 of at most 9 digits.
-fn is_negative(word: &str) -> bool {
-    match word.strip_prefix('-') {
-        Some(digits) => number_in(digits).is_some_and(|number| number > 0),
-        None => false,
+fn is_negative(word: &[u8]) -> bool
+    ensures { result ≡ is_negative word.now }
+{
+    match word {
+        [b'-', digits @ ..] => matches!(number_in(digits), Some(1..)),
+        _ => false,
     }
 }

@@ -1,4 +1,12 @@
 //! The ids that revisions stand for.
+ghost use Rattle.std.specs.Prelude.{◌≡◌, ◌++◌, false, option_map, IfOk, OnOk};
+ghost use Rattle.gix_options.specs.OptionWords.{IsFit, order_options};
+ghost use Rattle.gix_questions.specs.CommandWords.{command_words, list_tips, list_words, other_words};
+ghost use Rattle.gix_questions.specs.Standing.{hidden_in, hidden_of, pairs_in, pairs_of, tips_in, tips_of};
+ghost use Rattle.gix_revwalk.specs.Ids.{new_ids};
+ghost use Rattle.gix_words.specs.Printed.{order_words, printed};
+ghost use Rattle.gix_words.specs.Words.{request_of_command};
+
 use crate::fault::Fault;
 use gix_hash::hashtable::IdSet;
 use gix_hash::{Keys, ObjectId};
@@ -6,7 +14,7 @@ use gix_object::Kind;
 use gix_options::{Asked, Misuse, Name, Question, Refs};
 use gix_repository::{ByteFiles, Repository};
 use gix_revision::{Resolved, Set, resolve, resolve_all};
-use gix_words::Command;
+use gix_words::{Command, Order};
 use std::alloc::{AllocError, Global};
 use std::os::unix::fs::FileExt;
 
@@ -106,7 +114,11 @@ pub fn choose_from(
     alloc: Global,
     question: &Question,
     resolved: Vec<Resolved>,
-) -> Result<Chosen, Fault> {
+) -> Result<Chosen, Fault>
+    ensures tips { IfOk result (λ chosen. chosen.tips.items ≡ tips_of resolved.items) }
+    ensures hidden { IfOk result (λ chosen. chosen.hidden.items ≡ hidden_of resolved.items) }
+    ensures pairs { IfOk result (λ chosen. chosen.pairs.items ≡ pairs_of resolved.items) }
+{
     let mut chosen = Chosen {
         tips: Vec::new(alloc),
         hidden: Vec::new(alloc),
@@ -189,7 +201,11 @@ fn set_of(refs: Refs) -> Set {
 
 impl Chosen {
     /// Adds what a revision stands for.
-    fn add(&mut self, resolved: &Resolved) -> Result<(), AllocError> {
+    fn add(&mut self, resolved: &Resolved) -> Result<(), AllocError>
+        ensures tips { OnOk result (self.new.tips.items ≡ self.old.tips.items ++ tips_in resolved.now.chosen) }
+        ensures hidden { OnOk result (self.new.hidden.items ≡ self.old.hidden.items ++ hidden_in resolved.now.chosen) }
+        ensures pairs { OnOk result (self.new.pairs.items ≡ self.old.pairs.items ++ pairs_in resolved.now.chosen) }
+    {
         match resolved.chosen {
             gix_revision::Chosen::One { id, is_hidden } => {
                 if is_hidden {
@@ -233,27 +249,51 @@ impl Chosen {
         alloc: Global,
         keys: Keys,
         question: &Question,
-    ) -> Result<Option<Command>, AllocError> {
-        let options = &question.options;
-        let tips = self.tips.as_slice();
-        if let Some(order) = options.order(question.name) {
-            let mut tips = once(alloc, keys, tips)?;
-            if question.name == Name::Topo {
-                tips.as_mut_slice().reverse();
-            }
-            return Ok(Some(Command::Commits {
-                order,
-                shown: options.shown(),
-                tips,
-                hidden: Vec::from_slice(alloc, self.hidden.as_slice())?,
-            }));
+    ) -> Result<Option<Command>, AllocError>
+        // In the words of the page: what is asked, its options, and the ids.
+        ensures { IsFit question.now → IfOk result (λ command. option_map (λ c. printed (request_of_command c)) command ≡ command_words question.now.name
+            question.now.options self.now.tips.items self.now.hidden.items) }
+    {
+        match question.options.order(question.name) {
+            Some(order) => Ok(Some(self.list(alloc, keys, question, order)?)),
+            None => self.other_command(alloc, question),
         }
-        let [first, others @ ..] = tips else {
+    }
+
+    /// The list of this order that a question asks for.
+    fn list(
+        &self,
+        alloc: Global,
+        keys: Keys,
+        question: &Question,
+        order: Order,
+    ) -> Result<Command, AllocError>
+        ensures { IsFit question.now → order_words order ≡ order_options question.now.name question.now.options → IfOk result (λ command. printed (request_of_command command) ≡ list_words
+            question.now.name question.now.options self.now.tips.items self.now.hidden.items) }
+    {
+        Ok(Command::Commits {
+            order,
+            shown: question.options.shown(),
+            tips: list_tips(alloc, keys, question.name, self.tips.as_slice())?,
+            hidden: Vec::from_slice(alloc, self.hidden.as_slice())?,
+        })
+    }
+
+    /// The command that answers a question which isn't a list, if there is one.
+    fn other_command(
+        &self,
+        alloc: Global,
+        question: &Question,
+    ) -> Result<Option<Command>, AllocError>
+        ensures { IfOk result (λ command. option_map (λ c. printed (request_of_command c)) command ≡ other_words question.now.name question.now.options
+            self.now.tips.items) }
+    {
+        let [first, others @ ..] = self.tips.as_slice() else {
             return Ok(None);
         };
         Ok(match (question.name, others) {
             (Name::Files, []) => Some(Command::Files {
-                shown: options.entry_lines(),
+                shown: question.options.entry_lines(),
                 tree: *first,
             }),
             (Name::Ahead, [second]) => Some(Command::Ahead {
@@ -318,16 +358,34 @@ impl Chosen {
     }
 }
 
+/// The tips of a list of this name.
+fn list_tips(
+    alloc: Global,
+    keys: Keys,
+    name: Name,
+    tips: &[ObjectId],
+) -> Result<Vec<ObjectId>, AllocError>
+    ensures { IfOk result (λ those. those.items ≡ list_tips name tips.now) }
+{
+    let mut those = once(alloc, keys, tips)?;
+    if matches!(name, Name::Topo) {
+        those.as_mut_slice().reverse();
+    }
+    Ok(those)
+}
+
 /// Each of the ids at its first place.
-fn once(alloc: Global, keys: Keys, ids: &[ObjectId]) -> Result<Vec<ObjectId>, AllocError> {
+fn once(alloc: Global, keys: Keys, ids: &[ObjectId]) -> Result<Vec<ObjectId>, AllocError>
+    ensures { IfOk result (λ those. those.items ≡ new_ids (λ i. false) ids.now) }
+{
     let mut seen = IdSet::new(alloc, keys);
-    let mut kept = Vec::new(alloc);
+    let mut those = Vec::new(alloc);
     for id in ids {
         if seen.insert(*id)? {
-            kept.push(*id)?;
+            those.push(*id)?;
         }
     }
-    Ok(kept)
+    Ok(those)
 }
 
 /// Whether so many ids go with the command, now that it is known what each word stands for.
@@ -339,7 +397,7 @@ fn check_number(name: Name, chosen: &Chosen) -> Result<(), Misuse> {
             if tips == 2 && chosen.hidden.is_empty() {
                 Ok(())
             } else {
-                Err(Misuse::Number(name.word(), 2))
+                Err(Misuse::Ahead)
             }
         }
         Name::IsAncestor => {

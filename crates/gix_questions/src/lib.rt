@@ -5,8 +5,10 @@
 #![tactic(auto)]
 
 mod chosen;
+mod exit_status;
 mod fault;
 mod symmetric;
 
 pub use chosen::{Chosen, Pair, choose, choose_from, resolve_one, resolve_words, wanted};
+pub use exit_status::status;
 pub use fault::Fault;

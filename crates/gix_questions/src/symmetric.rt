@@ -1,4 +1,11 @@
 //! What two commits both reach, as commits to be excluded.
+ghost use Rattle.std.specs.Prelude.{◌≡◌, ◌++◌, ◌∷◌, [], IfOk, List, OnOk};
+ghost use Rattle.gix_graph_store.specs.WithRows.{with_rows};
+ghost use Rattle.gix_hash.specs.declared.ObjectId.{ObjectId};
+ghost use Rattle.gix_merge_base.specs.Bases.{FindsBases};
+ghost use Rattle.gix_questions.specs.Common.{AreCommon};
+ghost use Rattle.gix_revwalk.specs.Agreeing.{rows_in};
+
 use crate::chosen::{Chosen, Pair};
 use crate::fault::Fault;
 use gix_commitgraph::Graph;
@@ -18,20 +25,19 @@ impl Chosen {
     ///
     /// # Errors
     ///
-    /// `Command` with the first commit that isn't there or is broken, and `Memory`.
+    /// `Command` with the first commit that isn't there or is broken, and `Memory`. Nothing more is excluded then.
     pub fn exclude_common(
         &mut self,
         alloc: Global,
         store: &MemoryStore<'_>,
         graph: Option<&Graph>,
-    ) -> Result<(), Fault> {
-        for number in 0..self.pairs.len() {
-            let Some(pair) = self.pairs.as_slice().get(number) else {
-                break;
-            };
-            let ids = common(alloc, *pair, store, graph)?;
-            self.hidden.extend_from_slice(ids.as_slice())?;
-        }
+    ) -> Result<(), Fault>
+        ensures hidden { OnOk result ((ids : List ObjectId) × AreCommon store.now (rows_in graph.entry) self.old.pairs.items ids
+            × (self.new.hidden.items ≡ self.old.hidden.items ++ ids)) }
+        ensures others { self.new ≡ record self.old { hidden = self.new.hidden } }
+    {
+        let ids = common_of_all(alloc, self.pairs.as_slice(), store, graph)?;
+        self.hidden.extend_from_slice(ids.as_slice())?;
         Ok(())
     }
 
@@ -59,13 +65,32 @@ impl Chosen {
     }
 }
 
+/// The best common ancestors of each pair, one after the other.
+fn common_of_all(
+    alloc: Global,
+    pairs: &[Pair],
+    store: &MemoryStore<'_>,
+    graph: Option<&Graph>,
+) -> Result<Vec<ObjectId>, Fault>
+    ensures { IfOk result (λ ids. AreCommon store.now (rows_in graph.entry) pairs.now ids.items) }
+{
+    let mut all = Vec::new(alloc);
+    for pair in pairs {
+        let ids = common(alloc, *pair, store, graph)?;
+        all.extend_from_slice(ids.as_slice())?;
+    }
+    Ok(all)
+}
+
 /// The best common ancestors of a pair.
 fn common(
     alloc: Global,
     pair: Pair,
     store: &MemoryStore<'_>,
     graph: Option<&Graph>,
-) -> Result<Vec<ObjectId>, Fault> {
+) -> Result<Vec<ObjectId>, Fault>
+    ensures { IfOk result (λ ids. FindsBases (with_rows (rows_in graph.entry) store.now) (rows_in graph.entry) pair.one (pair.other ∷ []) ids.items) }
+{
     let objects = WithRows::new(store, graph);
     match merge_bases(alloc, pair.one, &[pair.other], &objects, graph) {
         Ok(ids) => Ok(ids),

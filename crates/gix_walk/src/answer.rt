@@ -14,7 +14,7 @@ use gix_hash::hashtable::IdSet;
 use gix_odb::{Front, Odb};
 use gix_options::{Asked, Name, Options, Place, Question, read_lines};
 use gix_output::{Shape, json_line};
-use gix_questions::{Chosen, choose_from, resolve_words};
+use gix_questions::{Chosen, choose_from, resolve_words, status};
 use gix_records::{NamedObjects, READS, read_to_end};
 use gix_repository::Repository;
 use gix_repository_commands::{Part, answer as answer_from_part};
@@ -24,9 +24,6 @@ use gix_words::Command;
 use std::alloc::AllocError;
 use std::io::Write;
 
-/// The status where `contains` found that some revisions aren't contained, `containing` that some don't reach the first, or `is-ancestor` that
-/// one isn't reached.
-const NOT_ALL: u8 = 3;
 /// How many digits stand for an object whose id begins so, at the least.
 const FEWEST_DIGITS: usize = 4;
 /// Of how many pairs the common ancestors are looked for by pages.
@@ -148,7 +145,7 @@ pub(crate) fn answer_from<W: Write>(
             write(&mut lines, b"0\n")?;
         }
         return Ok(Answered {
-            status: 0,
+            status: status(question.name, chosen.tips.len(), b""),
             rows: Rows::Unused,
             words: words_of(rt, keys, question, &chosen)?,
         });
@@ -661,13 +658,7 @@ impl Asking<'_> {
 
     /// The status of an answer of these lines.
     fn status(&self, lines: &[u8]) -> u8 {
-        let count = lines.iter().filter(|byte| **byte == b'\n').count();
-        let gives_revisions = self.asks_what_is_reached() || self.question.name == Name::Containing;
-        if gives_revisions && count.saturating_add(1) < self.chosen.tips.len() {
-            NOT_ALL
-        } else {
-            0
-        }
+        status(self.question.name, self.chosen.tips.len(), lines)
     }
 
     /// Writes the id of each revision, those that are excluded with `^` and behind the others.

@@ -45,7 +45,7 @@ fn main(rt: HostRuntime) -> ExitCode {
                 Failure::Command(Fault::Usage | Fault::Id(_)) => {
                     if rt.stderr().is_terminal() {
                         let _ = eprintln!(rt;
-                            "gix_walk: without -C FOLDER the words are a command and ids, and records are read; gix_walk --help says more"
+                            "gix_walk: without -C FOLDER the words are a command and ids, and records are read; git walk, or gix_walk -C ., takes revisions of the repository here"
                         );
                     }
                 }

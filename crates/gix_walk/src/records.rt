@@ -7,7 +7,7 @@ use gix_records::{READS, check_names, read_to_end};
 use gix_repository_commands::{Part, Silent};
 use gix_words::{Command, read_command};
 use std::fs;
-use std::io::{ErrorKind, Read, Write};
+use std::io::{ErrorKind, IsTerminal, Read, Write};
 
 /// Runs the command that the words are, from standard input, or from the folder of objects that they name.
 pub(crate) fn serve<W: Write>(
@@ -68,6 +68,12 @@ fn serve_input<W: Write>(
 ) -> Result<(), Failure> {
     let mut layers = Vec::new(rt.alloc());
     let words = read_layers(rt, words, &mut layers)?;
+    if rt.stdin().is_terminal()
+        && rt.stderr().is_terminal()
+        && read_command(rt.alloc(), words).is_ok()
+    {
+        let _ = eprintln!(rt; "gix_walk: records are read from standard input, up to its end");
+    }
     run_records(rt, keys, words, layers.as_slice(), &mut rt.stdin(), writer)?;
     Ok(())
 }

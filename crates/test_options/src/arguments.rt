@@ -43,7 +43,7 @@ const CASES: &[(&str, &str)] = &[
     ),
     (
         "-C . newest --since x HEAD",
-        "--since needs seconds of 1 to 10 digits, or a date from 1970 on, as 2024-05-01 or 2024-05-01T12:00:00Z",
+        "--since needs seconds of 1 to 10 digits, as date -d '2 weeks ago' +%s writes them, or a date from 1970 on, as 2024-05-01 or 2024-05-01T12:00:00Z",
     ),
     ("-C . newest --since 1234567890 HEAD", ""),
     ("-C . newest --after=2024-02-29 HEAD", ""),
@@ -53,11 +53,11 @@ const CASES: &[(&str, &str)] = &[
     ("topo HEAD --git-dir=", "--git-dir needs a folder"),
     (
         "-C . newest --after 2023-02-29 HEAD",
-        "--after needs seconds of 1 to 10 digits, or a date from 1970 on, as 2024-05-01 or 2024-05-01T12:00:00Z",
+        "--after needs seconds of 1 to 10 digits, as date -d '2 weeks ago' +%s writes them, or a date from 1970 on, as 2024-05-01 or 2024-05-01T12:00:00Z",
     ),
     (
         "-C . newest --before 2023-02-29 HEAD",
-        "--before needs seconds of 1 to 10 digits, or a date from 1970 on, as 2024-05-01 or 2024-05-01T12:00:00Z",
+        "--before needs seconds of 1 to 10 digits, as date -d '2 weeks ago' +%s writes them, or a date from 1970 on, as 2024-05-01 or 2024-05-01T12:00:00Z",
     ),
     ("-C . topo HEAD --max-count=2 -n3 --skip 4", ""),
     (
@@ -244,20 +244,20 @@ const CASES: &[(&str, &str)] = &[
     ("-C . topo ^HEAD --stdin", ""),
     (
         "-C . contains HEAD",
-        "contains needs two revisions at least, the first of them by its name, and none with ^ or a range A..B",
+        "contains needs two revisions at least, the first of them by its name, as in contains A --tags, and none with ^ or a range A..B",
     ),
     (
         "-C . contains --tags HEAD",
-        "contains needs two revisions at least, the first of them by its name, and none with ^ or a range A..B",
+        "contains needs two revisions at least, the first of them by its name, as in contains A --tags, and none with ^ or a range A..B",
     ),
     (
         "-C . contains HEAD ^a",
-        "contains needs two revisions at least, the first of them by its name, and none with ^ or a range A..B",
+        "contains needs two revisions at least, the first of them by its name, as in contains A --tags, and none with ^ or a range A..B",
     ),
     ("-C . contains HEAD --tags", ""),
     (
         "-C . containing HEAD",
-        "containing needs two revisions at least, the first of them by its name, and none with ^ or a range A..B",
+        "containing needs two revisions at least, the first of them by its name, as in containing A --tags, and none with ^ or a range A..B",
     ),
     (
         "-C . containing --count HEAD a",
@@ -271,17 +271,17 @@ const CASES: &[(&str, &str)] = &[
     ),
     (
         "-C . merge-base HEAD",
-        "merge-base needs two revisions at least, the first of them by its name, and none with ^ or a range A..B",
+        "merge-base needs two revisions at least, the first of them by its name, as in merge-base A --tags, and none with ^ or a range A..B",
     ),
     (
         "-C . merge-base HEAD a ^b",
-        "merge-base needs two revisions at least, the first of them by its name, and none with ^ or a range A..B",
+        "merge-base needs two revisions at least, the first of them by its name, as in merge-base A --tags, and none with ^ or a range A..B",
     ),
     ("-C . merge-base HEAD --stdin", ""),
     ("-C . merge-base --all HEAD a", ""),
     (
         "-C . merge-base HEAD --all",
-        "merge-base needs two revisions at least, the first of them by its name, and none with ^ or a range A..B",
+        "merge-base needs two revisions at least, the first of them by its name, as in merge-base A --tags, and none with ^ or a range A..B",
     ),
     (
         "-C . is-ancestor HEAD",
@@ -294,7 +294,7 @@ const CASES: &[(&str, &str)] = &[
     ("-C . is-ancestor a b", ""),
     (
         "-C . ahead HEAD",
-        "the number of revisions for ahead is 2, none of them with ^ or a range A..B",
+        "ahead takes two revisions without ^, or A...B",
     ),
     ("-C . ahead a...b", ""),
     (

@@ -1,0 +1,4 @@
+pub mod CommandWords
+pub mod Common
+pub mod Standing
+pub mod Status
