@@ -17,8 +17,8 @@ abbrev pub limit_in : List ℕ → Option ℕ
 limit_in value = if is_negative value then None else number_in 9 value
 
 -- 1 to 10 digits are these seconds
-abbrev pub IsTime : List ℕ → Option ℤ → Type 0
-IsTime value time = IfSome (number_in 10 value) (λ n. time ≡ Some (pos n))
+abbrev pub IsSeconds : List ℕ → Option ℤ → Type 0
+IsSeconds value time = IfSome (number_in 10 value) (λ n. time ≡ Some (pos n))
 
 abbrev pub is_either : List ℕ → List ℕ → List ℕ → Bool
 is_either one other option = bytes_eq option one || bytes_eq option other
@@ -30,5 +30,5 @@ HasValue option value old new =
     (MatchBool (bytes_eq option (codes "--skip")) (new ≡ record old { skip = number_in 9 value })
     (MatchBool (bytes_eq option (codes "--certificate")) (new ≡ record old { certificate = new.certificate })
     (MatchBool (bytes_eq option (codes "--format")) (new ≡ record old { format = format_of value })
-    (MatchBool (is_either (codes "--since") (codes "--after") option) (IsTime value new.since × (new ≡ record old { since = new.since }))
-    (IsTime value new.until × (new ≡ record old { until = new.until }))))))
+    (MatchBool (is_either (codes "--since") (codes "--after") option) (IsSeconds value new.since × (new ≡ record old { since = new.since }))
+    (IsSeconds value new.until × (new ≡ record old { until = new.until }))))))

@@ -2,7 +2,7 @@
 ghost use Rattle.std.specs.Prelude.{◌≡◌, Some, IfOk, OnOk, is_some};
 ghost use Rattle.std.specs.Option.{unwrap_or};
 ghost use Rattle.gix_options.specs.Flags.{with_flag};
-ghost use Rattle.gix_options.specs.Values.{HasValue, IsTime, is_negative, limit_in};
+ghost use Rattle.gix_options.specs.Values.{HasValue, IsSeconds, is_negative, limit_in};
 ghost use Rattle.gix_words.specs.Formats.{format_of};
 ghost use Rattle.gix_words.specs.Words.{number_in};
 
@@ -218,7 +218,7 @@ impl Options {
 
     /// Takes the least time.
     fn take_since(&mut self, option: &'static str, value: &str) -> Result<(), Misuse>
-        ensures time { OnOk result (IsTime value.now self.new.since) }
+        ensures time { OnOk result (IsSeconds value.now self.new.since) }
         ensures others { OnOk result (self.new ≡ record self.old { since = self.new.since }) }
     {
         self.since = Some(seconds_behind(option, value)?);
@@ -227,7 +227,7 @@ impl Options {
 
     /// Takes the greatest time.
     fn take_until(&mut self, option: &'static str, value: &str) -> Result<(), Misuse>
-        ensures time { OnOk result (IsTime value.now self.new.until) }
+        ensures time { OnOk result (IsSeconds value.now self.new.until) }
         ensures others { OnOk result (self.new ≡ record self.old { until = self.new.until }) }
     {
         self.until = Some(seconds_behind(option, value)?);
@@ -300,7 +300,7 @@ impl Options {
 
 /// The seconds that the value of this option says.
 fn seconds_behind(option: &'static str, value: &str) -> Result<i64, Misuse>
-    ensures { IfOk result (λ seconds. IsTime value.now (Some seconds)) }
+    ensures { IfOk result (λ seconds. IsSeconds value.now (Some seconds)) }
 {
     match seconds_of(value).map(i64::try_from) {
         Some(Ok(seconds)) => Ok(seconds),

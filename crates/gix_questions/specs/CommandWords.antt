@@ -14,8 +14,8 @@ abbrev pub list_tips : Name → List ObjectId → List ObjectId
 list_tips name.Topo tips = reverse (new_ids (λ i. false) tips)
 list_tips other tips = new_ids (λ i. false) tips
 
-abbrev pub list_words : Name → Options → (tips hidden : List ObjectId) → List (List ℕ)
-list_words n o tips hidden = order_options n o ++ (option_words o ++ (map (id_word []) (list_tips n tips) ++ map (id_word (codes "^")) hidden))
+abbrev pub words_of_list : Name → Options → (tips hidden : List ObjectId) → List (List ℕ)
+words_of_list n o tips hidden = order_options n o ++ (option_words o ++ (map (id_word []) (list_tips n tips) ++ map (id_word (codes "^")) hidden))
 
 -- the words of what is asked of these ids and isn't a list, if a command answers it
 abbrev pub other_words : Name → Options → List ObjectId → Option (List (List ℕ))
@@ -29,4 +29,4 @@ other_words name.MergeBase o (one ∷ other ∷ others) = Some (several_words (c
 other_words n o ids = None
 
 abbrev pub command_words : Name → Options → (tips hidden : List ObjectId) → Option (List (List ℕ))
-command_words n o tips hidden = if is_list n then Some (list_words n o tips hidden) else other_words n o tips
+command_words n o tips hidden = if is_list n then Some (words_of_list n o tips hidden) else other_words n o tips

@@ -26,8 +26,8 @@ pairs_in (chosen.Symmetric one other) = record { one = one; other = other } ∷ 
 abbrev pub tips_of : List Resolved → List ObjectId
 tips_of = flat_map (λ r. tips_in r.chosen)
 
-abbrev pub hidden_of : List Resolved → List ObjectId
-hidden_of = flat_map (λ r. hidden_in r.chosen)
+abbrev pub excluded_of : List Resolved → List ObjectId
+excluded_of = flat_map (λ r. hidden_in r.chosen)
 
 abbrev pub pairs_of : List Resolved → List Pair
 pairs_of = flat_map (λ r. pairs_in r.chosen)

@@ -1,8 +1,8 @@
 //! The ids that revisions stand for.
 ghost use Rattle.std.specs.Prelude.{◌≡◌, ◌++◌, false, option_map, IfOk, OnOk};
 ghost use Rattle.gix_options.specs.OptionWords.{IsFit, order_options};
-ghost use Rattle.gix_questions.specs.CommandWords.{command_words, list_tips, list_words, other_words};
-ghost use Rattle.gix_questions.specs.Standing.{hidden_in, hidden_of, pairs_in, pairs_of, tips_in, tips_of};
+ghost use Rattle.gix_questions.specs.CommandWords.{command_words, list_tips, words_of_list, other_words};
+ghost use Rattle.gix_questions.specs.Standing.{hidden_in, excluded_of, pairs_in, pairs_of, tips_in, tips_of};
 ghost use Rattle.gix_revwalk.specs.Ids.{new_ids};
 ghost use Rattle.gix_words.specs.Printed.{order_words, printed};
 ghost use Rattle.gix_words.specs.Words.{request_of_command};
@@ -116,7 +116,7 @@ pub fn choose_from(
     resolved: Vec<Resolved>,
 ) -> Result<Chosen, Fault>
     ensures tips { IfOk result (λ chosen. chosen.tips.items ≡ tips_of resolved.items) }
-    ensures hidden { IfOk result (λ chosen. chosen.hidden.items ≡ hidden_of resolved.items) }
+    ensures hidden { IfOk result (λ chosen. chosen.hidden.items ≡ excluded_of resolved.items) }
     ensures pairs { IfOk result (λ chosen. chosen.pairs.items ≡ pairs_of resolved.items) }
 {
     let mut chosen = Chosen {
@@ -268,7 +268,7 @@ impl Chosen {
         question: &Question,
         order: Order,
     ) -> Result<Command, AllocError>
-        ensures { IsFit question.now → order_words order ≡ order_options question.now.name question.now.options → IfOk result (λ command. printed (request_of_command command) ≡ list_words
+        ensures { IsFit question.now → order_words order ≡ order_options question.now.name question.now.options → IfOk result (λ command. printed (request_of_command command) ≡ words_of_list
             question.now.name question.now.options self.now.tips.items self.now.hidden.items) }
     {
         Ok(Command::Commits {
