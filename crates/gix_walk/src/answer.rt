@@ -382,7 +382,7 @@ impl Asking<'_> {
             Some(graph) => self.over_rows(repository, graph, output),
             None => self.over(repository, None, output),
         };
-        if known.is_unchecked && self.progress.is_long() {
+        if known.is_unchecked && (self.question.options.is_verbose || self.progress.is_long()) {
             let rt = self.rt;
             let _ = eprintln!(rt;
                 "gix_walk: nobody has checked git's commit-graph; after check-graph such a question reads only the newest commits"
