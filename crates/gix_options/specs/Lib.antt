@@ -1,3 +1,4 @@
+pub mod AskedWords
 pub mod Flags
 pub mod Names
 pub mod OptionWords

@@ -1,5 +1,9 @@
 //! Arguments that ask something of a repository.
-ghost use Rattle.std.specs.Prelude.{◌≡◌, ◌+◌, ◌≤◌, ◌<◌, ◌&&◌, false, length, IfOk, IfSome, OnOk};
+ghost use Rattle.std.specs.Prelude.{◌≡◌, ◌+◌, ◌≤◌, ◌<◌, ◌&&◌, ◌++◌, ◌∷◌, [], false, codes, is_some, length, not, IfOk, IfSome, MatchBool, OnOk};
+ghost use Rattle.std.specs.Option.{option_to_list};
+ghost use Rattle.std.specs.Str.{bytes_eq};
+ghost use Rattle.gix_options.specs.AskedWords.{IsRevision, asked_refs, set_of};
+ghost use Rattle.gix_options.specs.declared.question.Asked.{Asked};
 ghost use Rattle.gix_options.specs.OptionWords.{AreFit, GoWith, IsFit};
 
 use crate::hint::{of_command, of_option};
@@ -141,7 +145,44 @@ impl Arguments {
     }
 
     /// Reads an argument, and lends the arguments that are left behind it and what goes with it.
-    fn read<'a>(&mut self, word: &str, behind: &'a [String]) -> Result<&'a [String], Misuse> {
+    fn read<'a>(&mut self, word: &str, behind: &'a [String]) -> Result<&'a [String], Misuse>
+        // `--not` turns, and nothing else does.
+        ensures { OnOk result (MatchBool (bytes_eq word.now (codes "--not")) (self.new.is_turned ≡ not self.old.is_turned) (self.new.is_turned ≡ self.old.is_turned)) }
+    {
+        if word == "--not" {
+            self.is_turned = !self.is_turned;
+            return Ok(behind);
+        }
+        if word == "-C" || word == "--git-dir" {
+            return self.read_place(word, behind);
+        }
+        if self.read_set(word)? {
+            return Ok(behind);
+        }
+        self.read_other(word, behind)
+    }
+
+    /// Reads a set of revisions. Whether the word is one.
+    fn read_set(&mut self, word: &str) -> Result<bool, AllocError>
+        ensures turned { self.new.is_turned ≡ self.old.is_turned }
+        ensures asked { IfOk result (λ is_set. (is_set ≡ is_some (set_of word.now self.old.is_turned)) × (self.new.asked.items ≡ self.old.asked.items
+            ++ option_to_list (set_of word.now self.old.is_turned))) }
+    {
+        match word {
+            "--all" => self.push_refs(Refs::All)?,
+            "--branches" => self.push_refs(Refs::Branches)?,
+            "--tags" => self.push_refs(Refs::Tags)?,
+            "--remotes" => self.push_refs(Refs::Remotes)?,
+            "--stdin" => self.asked.push(Asked::Lines)?,
+            _ => return Ok(false),
+        }
+        Ok(true)
+    }
+
+    /// Reads an option, the command, or a revision, and lends the arguments that are left.
+    fn read_other<'a>(&mut self, word: &str, behind: &'a [String]) -> Result<&'a [String], Misuse>
+        ensures { self.new.is_turned ≡ self.old.is_turned }
+    {
         let (option, value) = with_value(word);
         if takes_value(option) {
             return self.read_value(option, value, behind);
@@ -150,14 +191,7 @@ impl Arguments {
             return Ok(behind);
         }
         match word {
-            "-C" | "--git-dir" => return self.read_place(word, behind),
             "--help" | "-h" => self.needs_help = true,
-            "--all" => self.push_refs(Refs::All)?,
-            "--branches" => self.push_refs(Refs::Branches)?,
-            "--tags" => self.push_refs(Refs::Tags)?,
-            "--remotes" => self.push_refs(Refs::Remotes)?,
-            "--not" => self.is_turned = !self.is_turned,
-            "--stdin" => self.asked.push(Asked::Lines)?,
             "--" if behind.is_empty() => {}
             "--" => return Err(Misuse::Paths),
             word => self.read_word(word)?,
@@ -166,7 +200,10 @@ impl Arguments {
     }
 
     /// Takes a set of refs.
-    fn push_refs(&mut self, refs: Refs) -> Result<(), AllocError> {
+    fn push_refs(&mut self, refs: Refs) -> Result<(), AllocError>
+        ensures turned { self.new.is_turned ≡ self.old.is_turned }
+        ensures asked { OnOk result (self.new.asked.items ≡ self.old.asked.items ++ asked_refs self.old.is_turned refs ∷ []) }
+    {
         let asked = if self.is_turned {
             Asked::Hidden(refs)
         } else {
@@ -176,7 +213,9 @@ impl Arguments {
     }
 
     /// Reads `--git-dir=FOLDER`, or `-N` for `-n N`. Whether the word is one of them.
-    fn read_joined(&mut self, word: &str) -> Result<bool, Misuse> {
+    fn read_joined(&mut self, word: &str) -> Result<bool, Misuse>
+        ensures { self.new.is_turned ≡ self.old.is_turned }
+    {
         if let Some(folder) = word.strip_prefix("--git-dir=") {
             self.set_place("--git-dir", folder)?;
             return Ok(true);
@@ -190,11 +229,9 @@ impl Arguments {
     }
 
     /// Reads where the repository is.
-    fn read_place<'a>(
-        &mut self,
-        option: &str,
-        behind: &'a [String],
-    ) -> Result<&'a [String], Misuse> {
+    fn read_place<'a>(&mut self, option: &str, behind: &'a [String]) -> Result<&'a [String], Misuse>
+        ensures { self.new.is_turned ≡ self.old.is_turned }
+    {
         let option = if option == "-C" { "-C" } else { "--git-dir" };
         let [folder, behind @ ..] = behind else {
             return Err(Misuse::NoFolder(option));
@@ -204,7 +241,9 @@ impl Arguments {
     }
 
     /// Takes where the repository is.
-    fn set_place(&mut self, option: &'static str, folder: &str) -> Result<(), Misuse> {
+    fn set_place(&mut self, option: &'static str, folder: &str) -> Result<(), Misuse>
+        ensures { self.new.is_turned ≡ self.old.is_turned }
+    {
         if folder.is_empty() {
             return Err(Misuse::NoFolder(option));
         }
@@ -223,7 +262,9 @@ impl Arguments {
         option: &str,
         value: Option<&str>,
         behind: &'a [String],
-    ) -> Result<&'a [String], Misuse> {
+    ) -> Result<&'a [String], Misuse>
+        ensures { self.new.is_turned ≡ self.old.is_turned }
+    {
         let (value, behind) = match (value, behind) {
             (Some(value), behind) => (value, behind),
             (None, [value, behind @ ..]) => (value.as_str(), behind),
@@ -234,28 +275,46 @@ impl Arguments {
     }
 
     /// Reads a word that is no option: the command, or a revision.
-    fn read_word(&mut self, word: &str) -> Result<(), Misuse> {
+    fn read_word(&mut self, word: &str) -> Result<(), Misuse>
+        ensures { self.new.is_turned ≡ self.old.is_turned }
+    {
         if word.starts_with('-') {
             let text = String::from_str(self.alloc, word)?;
             let (option, _) = with_value(word);
             return Err(Misuse::NoOption(text, of_option(option, self.name)));
         }
         if self.name.is_none() {
-            if word == "help" {
-                self.needs_help = true;
-                return Ok(());
-            }
-            let Some(name) = Name::of(word) else {
-                let text = String::from_str(self.alloc, word)?;
-                let (hint, nearest) = of_command(word);
-                return Err(Misuse::Command(text, hint, nearest));
-            };
-            self.name = Some(name);
-            return Ok(());
+            return self.read_command(word);
         }
         if let Some(fault) = fault_of(word) {
             return Err(misuse_of(self.alloc, word, fault)?);
         }
+        self.push_revision(word)?;
+        Ok(())
+    }
+
+    /// Reads the command.
+    fn read_command(&mut self, word: &str) -> Result<(), Misuse>
+        ensures { self.new.is_turned ≡ self.old.is_turned }
+    {
+        if word == "help" {
+            self.needs_help = true;
+            return Ok(());
+        }
+        let Some(name) = Name::of(word) else {
+            let text = String::from_str(self.alloc, word)?;
+            let (hint, nearest) = of_command(word);
+            return Err(Misuse::Command(text, hint, nearest));
+        };
+        self.name = Some(name);
+        Ok(())
+    }
+
+    /// Takes a revision.
+    fn push_revision(&mut self, word: &str) -> Result<(), AllocError>
+        ensures turned { self.new.is_turned ≡ self.old.is_turned }
+        ensures asked { OnOk result ((one : Asked) × IsRevision self.old.is_turned word.now one × (self.new.asked.items ≡ self.old.asked.items ++ one ∷ [])) }
+    {
         let text = String::from_str(self.alloc, word)?;
         let asked = if self.is_turned {
             Asked::Turned(text)
