@@ -1,5 +1,0 @@
-//! Tests of certificates.
-#![tactic(auto)]
-
-#[cfg(test)]
-mod texts;

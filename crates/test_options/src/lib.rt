@@ -1,5 +1,0 @@
-//! Tests of the program's arguments.
-#![tactic(auto)]
-
-#[cfg(test)]
-mod arguments;
