@@ -2,7 +2,7 @@
 use crate::failure::Failure;
 use crate::graph::{check, rows, rows_of, warn};
 use crate::lines::Lines;
-use crate::named::named;
+use crate::named::{are_listed, named};
 use crate::paged::Paged;
 use crate::progress::Progress;
 use gix_certificate::Rows;
@@ -608,6 +608,9 @@ impl Asking<'_> {
     /// Writes the lines of the command, as the question asks for them: with `--names` each with its word, and those of `is-ancestor` not at all.
     fn write_lines<W: Write>(&self, lines: &[u8], output: &mut W) -> Result<(), Fault> {
         let options = &self.question.options;
+        if options.is_verbose && self.question.name == Name::Contains {
+            self.say_unlisted(lines)?;
+        }
         let is_plain = !options.as_json && !options.ends_in_zero && !options.gives_names;
         match self.question.name {
             Name::IsAncestor if !options.as_json => Ok(()),
@@ -619,6 +622,21 @@ impl Asking<'_> {
             name if name.takes_limit() || is_plain => write(output, lines),
             _ => self.write_short(lines, output),
         }
+    }
+
+    /// Says which revisions aren't contained. Whoever looks for a fix may not know that a picked copy is another commit.
+    fn say_unlisted(&self, lines: &[u8]) -> Result<(), AllocError> {
+        let alloc = self.rt.alloc();
+        let listed = are_listed(alloc, &self.chosen, lines)?;
+        for (resolved, is_listed) in self.chosen.resolved.iter().skip(1).zip(listed.iter()) {
+            if !*is_listed {
+                let word = quoted(alloc, resolved.word.as_str())?;
+                let _ = eprintln!(self.rt;
+                    "gix_walk: {word:?} isn't contained; a picked copy of it is another commit"
+                );
+            }
+        }
+        Ok(())
     }
 
     /// Writes the lines of a short answer in another form than that of the command.
