@@ -1,37 +1,7 @@
-//! Calls over histories, written as text: a word for each best common ancestor, or for the fault.
-use gix_merge_base::{Error, merge_bases};
-use gix_parts::graph::Graph;
-use gix_parts::hash::ObjectId;
-use gix_parts::object::find::Find;
-use std::alloc::{AllocError, Global};
+//! The best common ancestors of commits.
+use crate::calls::{OF_SAMPLE, Search, Table, check_all};
 use std::test::Fail;
-use test_rows::history::{
-    BY_ALL, BY_STORE, By, EMPTY, FULL, Failing, History, Odd, PLAIN, ROOM, Rows, id, ids,
-};
-use test_rows::words::{Stop, space, write_broken, write_id, write_not_found};
-
-/// One commit, the others, and what is told.
-type Case<'a> = (u8, &'a [u8], &'a str);
-
-/// Calls over one history.
-#[derive(Clone, Copy)]
-struct Table<'a> {
-    history: History<'a>,
-    /// The store fails at this commit, if at any.
-    fails: Option<u8>,
-    rows: Rows<'a>,
-    by: &'a [By],
-    cases: &'a [Case<'a>],
-}
-
-/// Calls over the sample.
-const OF_SAMPLE: Table<'static> = Table {
-    history: PLAIN,
-    fails: None,
-    rows: FULL,
-    by: BY_STORE,
-    cases: &[],
-};
+use test_rows::history::{BY_ALL, EMPTY, History, Odd, PLAIN, Rows};
 
 /// Two merges of the same two commits, one after the other and the other way round.
 const CROSSED: History<'static> = History {
@@ -145,77 +115,7 @@ static TABLES: [Table<'static>; 7] = [
     },
 ];
 
-/// Writes a fault as a word. Out of memory stays out of memory.
-fn write_fault(told: &mut String, error: &Error) -> Result<(), AllocError> {
-    match error {
-        Error::Find(error) => write_not_found(told, error),
-        Error::ObjectDecode(error) => write_broken(told, error),
-        Error::Memory => Err(AllocError),
-    }
-}
-
-/// Writes ids, a word for each.
-fn write_ids(told: &mut String, ids: &[ObjectId]) -> Result<(), AllocError> {
-    for id in ids {
-        space(told)?;
-        write_id(told, id)?;
-    }
-    Ok(())
-}
-
-/// Tells the best common ancestors of these commits.
-fn tell_bases<F: Find>(
-    alloc: Global,
-    objects: &F,
-    graph: Option<&Graph>,
-    one: u8,
-    others: &[u8],
-    told: &mut String,
-) -> Result<(), Stop> {
-    let others = ids(alloc, others)?;
-    match merge_bases(alloc, id(one), others.as_slice(), objects, graph) {
-        Ok(those) => Ok(write_ids(told, those.as_slice())?),
-        Err(error) => Ok(write_fault(told, &error)?),
-    }
-}
-
-/// Tells what a case gives that reads commits in this way.
-fn tell(
-    alloc: Global,
-    table: &Table<'_>,
-    by: By,
-    case: &Case<'_>,
-    told: &mut String,
-) -> Result<(), Stop> {
-    told.reserve(ROOM)?;
-    let (one, others, _) = *case;
-    let store = table.history.store(alloc)?;
-    let failing = Failing(&store, table.fails.map(id));
-    let graph = by.graph(alloc, &table.rows)?;
-    tell_bases(alloc, &failing, graph.as_ref(), one, others, told)
-}
-
-/// Compares what the calls of a table tell with what is wanted.
-fn check(alloc: Global, table: &Table<'_>, place: usize) -> Result<(), Fail> {
-    for (row, case) in table.cases.iter().enumerate() {
-        for by in table.by {
-            let mut told = String::new(alloc);
-            tell(alloc, table, *by, case, &mut told)?;
-            let want = case.2;
-            if told.as_str() != want {
-                return Err(Fail::new(format_args!(
-                    "{place}.{row} by {by:?} tells {told}, not {want}"
-                )));
-            }
-        }
-    }
-    Ok(())
-}
-
 #[test]
 fn rows(rt: HostRuntime) -> Result<(), Fail> {
-    for (place, table) in tables().iter().enumerate() {
-        check(rt.alloc(), table, place)?;
-    }
-    Ok(())
+    check_all(rt.alloc(), Search::Bases, tables())
 }

@@ -5,4 +5,6 @@
 #[cfg(test)]
 mod bases;
 #[cfg(test)]
+mod calls;
+#[cfg(test)]
 mod containing;
